@@ -1,6 +1,6 @@
 -- The names of lower crates and of the specifications that these proofs use. Declares nothing.
 pub use Rattle.address_laws.specs.Alike.{AreAlike}
-pub use Rattle.leaf_heap.proofs.HeapLemmas.{fresh_cons, fresh_head, fresh_tail}
+pub use Rattle.leaf_heap.proofs.ChunkAdded.{fresh_cons, fresh_head, fresh_tail}
 pub use Rattle.leaf_heap.specs.LeafHeapValue.{HaveDistinctNumbers, IsFresh}
 pub use Rattle.object_layout.proofs.ChunkLaws.{addr_cases, put_cases}
 pub use Rattle.object_layout.proofs.PlaceLemmas.{cell_at-past}

@@ -10,7 +10,7 @@ pub use Rattle.copying_gc.proofs.Rebuilt.{first_of, none_at}
 pub use Rattle.copying_gc.proofs.SmallSurvivors.{small_lives, small_room}
 pub use Rattle.copying_gc.specs.Collected.{back_of, collected, keeps, large_of, laid_of, laying_of, leaves, redirection, AreSurvivors, moves_of}
 pub use Rattle.copying_gc.specs.Exchanged.{emptied, reserved_of, unreserved}
-pub use Rattle.copying_gc.specs.Laid.{Laying, before, laid_all, laid_one, open_next, opened, placed, room_in, smalls, HaveRoom, is_small, laid_at, next_place, relocations}
+pub use Rattle.copying_gc.specs.Laid.{Laying, nothing_laid, laid_all, laid_one, open_next, opened, placed_behind, room_in, smalls, HaveRoom, is_moved, laid_at, next_place, relocations}
 pub use Rattle.copying_gc.specs.Laws.{CanTake}
 pub use Rattle.copying_gc.specs.Redirected.{led_chunk, led_cell, redirected}
 pub use Rattle.copying_gc.specs.Survivors.{olds}

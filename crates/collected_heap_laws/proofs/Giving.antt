@@ -1,5 +1,5 @@
 -- The chunks after a collection and those released.
-use Rattle.collected_heap_laws.proofs.Common.{◌≡◌, ℕ, Bool, true, false, cond, List, [], ◌∷◌, ◌++◌, map, filter, refl, sym, ap, ◌∙◌, subst, Option, Some, None, append_assoc, nat_lt, reverse, IsPermutation, IsPermutation-append, IsPermutation-append_comm, IsPermutation-append_left, IsPermutation-append_right, IsPermutation-filter_both, IsPermutation-map, IsPermutation-refl, IsPermutation-remove, IsPermutation-reverse, IsPermutation-trans, get_or_default, Addr, Cell, size_of, ChunkValue, cell_of, chunk_at, no_chunk, LeafHeapValue, IsReserved, Survivor, olds, Laying, before, laid_all, laid_one, open_next, opened, placed, room_in, smalls, led_chunk, emptied, reserved_of, unreserved, back_of, collected, keeps, large_of, laid_of, laying_of, leaves, redirection, labels, NoChunkIsLost}
+use Rattle.collected_heap_laws.proofs.Common.{◌≡◌, ℕ, Bool, true, false, cond, List, [], ◌∷◌, ◌++◌, map, filter, refl, sym, ap, ◌∙◌, subst, Option, Some, None, append_assoc, nat_lt, reverse, IsPermutation, IsPermutation-append, IsPermutation-append_comm, IsPermutation-append_left, IsPermutation-append_right, IsPermutation-filter_both, IsPermutation-map, IsPermutation-refl, IsPermutation-remove, IsPermutation-reverse, IsPermutation-trans, get_or_default, Addr, Cell, size_of, ChunkValue, cell_of, chunk_at, no_chunk, LeafHeapValue, IsReserved, Survivor, olds, Laying, nothing_laid, laid_all, laid_one, open_next, opened, placed_behind, room_in, smalls, led_chunk, emptied, reserved_of, unreserved, back_of, collected, keeps, large_of, laid_of, laying_of, leaves, redirection, labels, NoChunkIsLost}
 
 abbrev Label : Type 0
 Label = ℕ × ℕ
@@ -18,7 +18,7 @@ labels_emptied : (ks : List ChunkValue) → labels (map emptied ks) ≡ labels k
 labels_emptied [] = refl
 labels_emptied (k ∷ ks) = ap (λ (ns : List Label). (k.number, k.size) ∷ ns) (labels_emptied ks)
 
-labels_placed : (ks : List ChunkValue) (c : Cell) → labels (placed ks c) ≡ labels ks
+labels_placed : (ks : List ChunkValue) (c : Cell) → labels (placed_behind ks c) ≡ labels ks
 labels_placed [] c = refl
 labels_placed (k ∷ []) c = refl
 labels_placed (k ∷ (l ∷ ks)) c = ap (λ (ns : List Label). (k.number, k.size) ∷ ns) (labels_placed (l ∷ ks) c)
@@ -97,7 +97,7 @@ module _ (h : LeafHeapValue) (ss : List Survivor) (news : List ChunkValue) (w : 
   new_parts : Perm (labels news) (L ++ S)
   new_parts =
       let one : Perm (labels news) (labels (reverse news)) = of_labels news (reverse news) (IsPermutation-reverse news) in
-      let laid : labels (reverse news) ≡ L ++ labels spare = sym (labels_laid (before (reverse news)) h.chunks (smalls h.chunks (olds ss))) in
+      let laid : labels (reverse news) ≡ L ++ labels spare = sym (labels_laid (nothing_laid (reverse news)) h.chunks (smalls h.chunks (olds ss))) in
       let two : Perm (L ++ labels spare) (L ++ S) = IsPermutation-append_right L (labels spare) S (of_labels spare (reverse spare) (IsPermutation-reverse spare)) in
       IsPermutation-trans (labels news) (L ++ labels spare) (L ++ S) (subst (Perm (labels news)) laid one) two
 

@@ -1,5 +1,5 @@
 -- What is read at a new address.
-use Rattle.collected_heap_laws.proofs.Common.{◌≡◌, ℕ, zero, suc, ◌+◌, ◌-◌, Contains, ◌<◌, Bool, true, false, cond, List, [], ◌∷◌, ◌++◌, length, map, refl, sym, ap, ◌∙◌, subst, arith, inl, inr, ◌⊎◌, Option, Some, None, eqb, nat_lt, nat_le, not, remove, reverse, ◌&&◌, list_any, length-reverse, cases_Bool, cases_lt, le-leb, lt-leb, false≢true, Addr, Cell, IsBorn, IsObject, no_cell, size_of, ChunkValue, number_of, cell_at, IsCellAt, cell_of, chunk_at, HasObjectAt, once_from, In, in_append_left, in_from_contains, in_kept, map_in, read_in, LeafHeapValue, IsReserved, IsSettled, IsTidy, Survivor, olds, reserved_of, unreserved, AreSurvivors, collected, keeps, large_of, laid_of, moves_of, redirection, CanTake, first_of, none_at, same_address, small_lives, small_room, Laying, HaveRoom, before, is_small, smalls, laid_all, laid_at, laid_one, next_place, opened, open_next, placed, relocations, room_in, led_cell, led_chunk, size_led, some_room, numbers, Distinct, within_at, LargeAreRead, MovedAreRead}
+use Rattle.collected_heap_laws.proofs.Common.{◌≡◌, ℕ, zero, suc, ◌+◌, ◌-◌, Contains, ◌<◌, Bool, true, false, cond, List, [], ◌∷◌, ◌++◌, length, map, refl, sym, ap, ◌∙◌, subst, arith, inl, inr, ◌⊎◌, Option, Some, None, eqb, nat_lt, nat_le, not, remove, reverse, ◌&&◌, list_any, length-reverse, cases_Bool, cases_lt, le-leb, lt-leb, false≢true, Addr, Cell, IsBorn, IsObject, no_cell, size_of, ChunkValue, number_of, cell_at, IsCellAt, cell_of, chunk_at, HasObjectAt, once_from, In, in_append_left, in_from_contains, in_kept, map_in, read_in, LeafHeapValue, IsReserved, IsSettled, IsTidy, Survivor, olds, reserved_of, unreserved, AreSurvivors, collected, keeps, large_of, laid_of, moves_of, redirection, CanTake, first_of, none_at, same_address, small_lives, small_room, Laying, HaveRoom, nothing_laid, is_moved, smalls, laid_all, laid_at, laid_one, next_place, opened, open_next, placed_behind, relocations, room_in, led_cell, led_chunk, size_led, some_room, numbers, Distinct, within_at, LargeAreRead, MovedAreRead}
 use Rattle.object_layout.proofs.PlaceLemmas as place
 use Rattle.object_layout.proofs.ChunkLaws as laws
 use Rattle.copying_gc.proofs.Naming as naming
@@ -22,15 +22,15 @@ next_number (k ∷ []) l = inl refl
 next_number (k ∷ (x ∷ ks)) l = inr (next_number (x ∷ ks) (omega arith))
 
 -- an object is read where it was placed
-placed_there : (ks : List ChunkValue) (c : Cell) → 0 < length ks → Distinct (numbers ks) → cell_of (placed ks c) (next_place ks) ≡ c
+placed_there : (ks : List ChunkValue) (c : Cell) → 0 < length ks → Distinct (numbers ks) → cell_of (placed_behind ks c) (next_place ks) ≡ c
 placed_there [] c l d = absurd (omega arith)
 placed_there (k ∷ []) c l d = extent.cell_in_first (record k { cells = k.cells ++ c ∷ [] }) [] (next_place (k ∷ [])) refl ∙ place.cell_at-last k.cells c
 placed_there (k ∷ (x ∷ ks)) c l d =
-    extent.later k (placed (x ∷ ks) c) (next_place (x ∷ ks)) (λ e. d.0 (subst (In (numbers (x ∷ ks))) (sym e) (next_number (x ∷ ks) (omega arith))))
+    extent.later k (placed_behind (x ∷ ks) c) (next_place (x ∷ ks)) (λ e. d.0 (subst (In (numbers (x ∷ ks))) (sym e) (next_number (x ∷ ks) (omega arith))))
     ∙ placed_there (x ∷ ks) c (omega arith) d.1
 
 -- other objects are unchanged
-placed_other : (ks : List ChunkValue) (c : Cell) (b : Addr) → IsObject (cell_of ks b).mark → cell_of (placed ks c) b ≡ cell_of ks b
+placed_other : (ks : List ChunkValue) (c : Cell) (b : Addr) → IsObject (cell_of ks b).mark → cell_of (placed_behind ks c) b ≡ cell_of ks b
 placed_other [] c b o = refl
 placed_other (k ∷ []) c b o =
     elim (cases_Bool (eqb k.number b.chunk)) [
@@ -107,10 +107,10 @@ led_there f (k ∷ ks) a =
 -- ---- the law
 
 module _ (h : LeafHeapValue) (from : List (Option Addr)) (ss : List Survivor) (news : List ChunkValue) (s : AreSurvivors h.chunks from ss) (t : CanTake h.chunks news) where
-  pub small : (a : Addr) → In (smalls h.chunks (olds ss)) a → HasObjectAt h.chunks a × (is_small h.chunks a ≡ true)
+  pub small : (a : Addr) → In (smalls h.chunks (olds ss)) a → HasObjectAt h.chunks a × (is_moved h.chunks a ≡ true)
   small = small_lives h.chunks ss s.names
 
-  pub room : HaveRoom (before (reverse news)) h.chunks (smalls h.chunks (olds ss))
+  pub room : HaveRoom (nothing_laid (reverse news)) h.chunks (smalls h.chunks (olds ss))
   room =
       let enough = t.enough in
       small_room h.chunks ss s.names (reverse news) (once_from (olds ss) s.once) (new_numbers.new_reverse news t.new) (omega (arith, length-reverse news))
@@ -122,10 +122,10 @@ module _ (h : LeafHeapValue) (from : List (Option Addr)) (ss : List Survivor) (n
   moved_read old new c =
       let xs = smalls h.chunks (olds ss) in
       let i = in_from_contains (moves_of h.chunks ss (reverse news)) (old, new) c in
-      let there : cell_of (laid_all (before (reverse news)) h.chunks xs).laid new ≡ cell_of h.chunks old = relocated (before (reverse news)) h.chunks xs once_news room (λ a j. laws.born_object h.chunks a (small a j).0) (old, new) i in
-      let object : IsObject (cell_of h.chunks old).mark = laws.born_object h.chunks old (small old (moved_from (before (reverse news)) h.chunks xs (old, new) i)).0 in
+      let there : cell_of (laid_all (nothing_laid (reverse news)) h.chunks xs).laid new ≡ cell_of h.chunks old = relocated (nothing_laid (reverse news)) h.chunks xs once_news room (λ a j. laws.born_object h.chunks a (small a j).0) (old, new) i in
+      let object : IsObject (cell_of h.chunks old).mark = laws.born_object h.chunks old (small old (moved_from (nothing_laid (reverse news)) h.chunks xs (old, new) i)).0 in
       let read : cell_of (laid_of h ss (reverse news)) new ≡ led_cell (redirection h.chunks ss (reverse news)) (cell_of h.chunks old) =
-      led_there (redirection h.chunks ss (reverse news)) (laid_all (before (reverse news)) h.chunks xs).laid new ∙ ap (led_cell (redirection h.chunks ss (reverse news))) there in
+      led_there (redirection h.chunks ss (reverse news)) (laid_all (nothing_laid (reverse news)) h.chunks xs).laid new ∙ ap (led_cell (redirection h.chunks ss (reverse news))) there in
       extent.in_first (laid_of h ss (reverse news)) (large_of h ss (reverse news) ++ reserved_of h.chunks h.reserved) new
       (object_number (laid_of h ss (reverse news)) new (subst (λ (d : Cell). IsObject d.mark) (sym read) object)) ∙ read
 
@@ -157,22 +157,22 @@ module _ (h : LeafHeapValue) (from : List (Option Addr)) (ss : List Survivor) (n
   pub once_h : Distinct (numbers h.chunks)
   once_h = nums.distinct_left (numbers h.chunks) (numbers news) all_once
 
-  pub laid_numbers : numbers (laid_of h ss (reverse news)) ≡ numbers (laid_all (before (reverse news)) h.chunks (smalls h.chunks (olds ss))).laid
-  laid_numbers = nums.numbers_of_map (led_chunk (redirection h.chunks ss (reverse news))) (λ k. refl) (laid_all (before (reverse news)) h.chunks (smalls h.chunks (olds ss))).laid
+  pub laid_numbers : numbers (laid_of h ss (reverse news)) ≡ numbers (laid_all (nothing_laid (reverse news)) h.chunks (smalls h.chunks (olds ss))).laid
+  laid_numbers = nums.numbers_of_map (led_chunk (redirection h.chunks ss (reverse news))) (λ k. refl) (laid_all (nothing_laid (reverse news)) h.chunks (smalls h.chunks (olds ss))).laid
 
-  pub laid_parts : numbers (laid_all (before (reverse news)) h.chunks (smalls h.chunks (olds ss))).laid ++ numbers (laid_all (before (reverse news)) h.chunks (smalls h.chunks (olds ss))).spare ≡ numbers (reverse news)
-  laid_parts = new_numbers.laid_numbers (before (reverse news)) h.chunks (smalls h.chunks (olds ss))
+  pub laid_parts : numbers (laid_all (nothing_laid (reverse news)) h.chunks (smalls h.chunks (olds ss))).laid ++ numbers (laid_all (nothing_laid (reverse news)) h.chunks (smalls h.chunks (olds ss))).spare ≡ numbers (reverse news)
+  laid_parts = new_numbers.laid_numbers (nothing_laid (reverse news)) h.chunks (smalls h.chunks (olds ss))
 
   pub laid_once : Distinct (numbers (laid_of h ss (reverse news)))
-  laid_once = subst Distinct (sym laid_numbers) (nums.distinct_left (numbers (laid_all (before (reverse news)) h.chunks (smalls h.chunks (olds ss))).laid) (numbers (laid_all (before (reverse news)) h.chunks (smalls h.chunks (olds ss))).spare)
+  laid_once = subst Distinct (sym laid_numbers) (nums.distinct_left (numbers (laid_all (nothing_laid (reverse news)) h.chunks (smalls h.chunks (olds ss))).laid) (numbers (laid_all (nothing_laid (reverse news)) h.chunks (smalls h.chunks (olds ss))).spare)
       (subst Distinct (sym laid_parts) (nums.distinct_reverse news (nums.distinct_right (numbers h.chunks) (numbers news) all_once))))
 
   pub laid_apart : (n : ℕ) → In (numbers (laid_of h ss (reverse news))) n → In (numbers h.chunks) n → ⊥
   laid_apart n i j =
-      let k = subst (λ (ns : List ℕ). In ns n) laid_parts (in_append_left (numbers (laid_all (before (reverse news)) h.chunks (smalls h.chunks (olds ss))).laid) (numbers (laid_all (before (reverse news)) h.chunks (smalls h.chunks (olds ss))).spare) n (subst (λ (ns : List ℕ). In ns n) laid_numbers i)) in
+      let k = subst (λ (ns : List ℕ). In ns n) laid_parts (in_append_left (numbers (laid_all (nothing_laid (reverse news)) h.chunks (smalls h.chunks (olds ss))).laid) (numbers (laid_all (nothing_laid (reverse news)) h.chunks (smalls h.chunks (olds ss))).spare) n (subst (λ (ns : List ℕ). In ns n) laid_numbers i)) in
       nums.distinct_apart_parts (numbers h.chunks) (numbers news) all_once n j (nums.in_reverse news n k)
 
-  module _ (a : Addr) (i : In (olds ss) a) (big : is_small h.chunks a ≡ false) where
+  module _ (a : Addr) (i : In (olds ss) a) (big : is_moved h.chunks a ≡ false) where
     live : HasObjectAt h.chunks a
     live = naming.lives h.chunks ss s.names a i
 

@@ -1,5 +1,5 @@
 -- The meaning of a relocation list, in any order.
-use Rattle.collected_heap_laws.proofs.Common.{◌≡◌, ◌<◌, false, List, [], ◌∷◌, map, refl, sym, ap, ◌∙◌, subst, inl, inr, Option, Some, None, reverse, unwrap_or, IsPermutation, cases_Bool, Contains-permutation, IsPermutation-map, IsPermutation-sym, In, contains_from_in, in_from_contains, map_in, Addr, ChunkValue, cell_of, has_chunk, Once, is_same, once_from, same_is, fresh_none, LeafHeapValue, ArePlaces, new_of, same_address, Survivor, olds, before, laid_one, relocations, smalls, HaveRoom, Laying, redirected, moves_of, AreSurvivors, CanTake, once_sorted, first_in, firsts, in_first, MovesAreTold}
+use Rattle.collected_heap_laws.proofs.Common.{◌≡◌, ◌<◌, false, List, [], ◌∷◌, map, refl, sym, ap, ◌∙◌, subst, inl, inr, Option, Some, None, reverse, unwrap_or, IsPermutation, cases_Bool, Contains-permutation, IsPermutation-map, IsPermutation-sym, In, contains_from_in, in_from_contains, map_in, Addr, ChunkValue, cell_of, has_chunk, Once, is_same, once_from, same_is, fresh_none, LeafHeapValue, ArePlaces, new_of, same_address, Survivor, olds, nothing_laid, laid_one, relocations, smalls, HaveRoom, Laying, redirected, moves_of, AreSurvivors, CanTake, once_sorted, first_in, firsts, in_first, MovesAreTold}
 use Rattle.object_layout.proofs.ChunkLaws as laws
 use Rattle.copying_gc.proofs.Moves as moves
 use Rattle.address_laws.proofs.Numbers as nums
@@ -48,7 +48,7 @@ same_by ms ns a once once' to from (Some b) e =
 
 -- the moves of survivors have distinct old addresses
 pub once_moves : (ks : List ChunkValue) (from : List (Option Addr)) (ss : List Survivor) (spare : List ChunkValue) → AreSurvivors ks from ss → Once (map first_in (moves_of ks ss spare))
-once_moves ks from ss spare s = subst Once (sym (firsts (before spare) ks (smalls ks (olds ss)))) (moves.once_smalls ks (olds ss) (once_from (olds ss) s.once))
+once_moves ks from ss spare s = subst Once (sym (firsts (nothing_laid spare) ks (smalls ks (olds ss)))) (moves.once_smalls ks (olds ss) (once_from (olds ss) s.once))
 
 -- ---- places
 
@@ -75,7 +75,7 @@ module _ (h : LeafHeapValue) (from : List (Option Addr)) (ss : List Survivor) (n
   back m i = in_from_contains all m (Contains-permutation moved all m (IsPermutation-sym all moved p) (contains_from_in moved m i))
 
   firsts_are : map first_in all ≡ smalls h.chunks (olds ss)
-  firsts_are = firsts (before (reverse news)) h.chunks (smalls h.chunks (olds ss))
+  firsts_are = firsts (nothing_laid (reverse news)) h.chunks (smalls h.chunks (olds ss))
 
   once_all : Once (map first_in all)
   once_all = once_moves h.chunks from ss (reverse news) s
@@ -91,7 +91,7 @@ module _ (h : LeafHeapValue) (from : List (Option Addr)) (ss : List Survivor) (n
   leads (Some a) = ap (λ (o : Option Addr). Some (unwrap_or o a)) (same_new_address a)
 
   pub places : ArePlaces moved
-  places = all_places moved (λ m i. places_of (before (reverse news)) h.chunks (smalls h.chunks (olds ss)) (reading.room h from ss news s t) m (back m i))
+  places = all_places moved (λ m i. places_of (nothing_laid (reverse news)) h.chunks (smalls h.chunks (olds ss)) (reading.room h from ss news s t) m (back m i))
 
   pub outside : (a : Addr) → has_chunk h.chunks a.chunk ≡ false → new_of moved a ≡ None
   outside a out =

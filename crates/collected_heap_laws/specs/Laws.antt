@@ -7,7 +7,7 @@ use Rattle.object_layout.specs.Chunks.{cell_of, has_chunk}
 use Rattle.leaf_heap.specs.LeafHeapValue.{LeafHeapValue, IsReserved, IsSettled}
 use Rattle.copying_gc.specs.declared.lists.Survivor.{Survivor}
 use Rattle.copying_gc.specs.Survivors.{olds}
-use Rattle.copying_gc.specs.Laid.{is_small}
+use Rattle.copying_gc.specs.Laid.{is_moved}
 use Rattle.remembered_set.specs.Moved.{new_of, ArePlaces}
 use Rattle.copying_gc.specs.Redirected.{led_cell, redirected}
 use Rattle.copying_gc.specs.Collected.{AreSurvivors, back_of, collected, moves_of, redirection}
@@ -26,7 +26,7 @@ abbrev pub LargeAreRead : Type 0
 LargeAreRead =
     (h : LeafHeapValue) (from : List (Option Addr)) (ss : List Survivor) (news : List ChunkValue)
     → AreSurvivors h.chunks from ss → CanTake h.chunks news → IsSettled h.chunks → IsReserved h.chunks h.reserved
-    → (a : Addr) → Contains (olds ss) a → is_small h.chunks a ≡ false
+    → (a : Addr) → Contains (olds ss) a → is_moved h.chunks a ≡ false
     → cell_of (collected h ss (reverse news)).chunks a ≡ led_cell (redirection h.chunks ss (reverse news)) (cell_of h.chunks a)
 
 -- the meaning of a relocation list, in any order: new addresses are addresses of objects, it maps old addresses as the

@@ -1,16 +1,16 @@
 -- What is known of a heap before its collection ends; and that its names are distinct.
-use Rattle.copied_part_laws.proofs.Common.{◌≡◌, ℕ, ◌+◌, ◌≤◌, ◌==◌, arith, Bool, true, false, cond, List, [], ◌∷◌, ◌++◌, inl, inr, refl, ap, sym, ◌∙◌, flat_map, eqb-true, in_append_cases, in_append_left, in_append_right, in_map, Name, MachineState, Heap, words_at, Born, Cell, Hole, Mark, Moved, size_of, ChunkValue, Located, located, objects_from, behind, first, HaveDistinctNumbers, LeafHeapValue, Survivor, olds, In, object_name, objects_in, AreLaidOut, words, HasNames, in_objects, named_by, names_in, small_lists, name_of, chunk_of, chunks_of, HeapForm, fresh_off, NamedOnce}
+use Rattle.copied_part_laws.proofs.Common.{◌≡◌, ℕ, ◌+◌, ◌≤◌, ◌==◌, arith, Bool, true, false, cond, List, [], ◌∷◌, ◌++◌, inl, inr, refl, ap, sym, ◌∙◌, flat_map, eqb-true, in_append_cases, in_append_left, in_append_right, in_map, Name, MachineState, Heap, words_at, Born, Cell, Hole, Mark, Moved, size_of, ChunkValue, Located, located, objects_from, behind, first, HaveDistinctNumbers, LeafHeapValue, Survivor, olds, In, object_name, objects_of_chunks, AreLaidOut, words, HasNames, in_objects, named_by, names_in, small_lists, name_of, chunk_of, chunks_of, HeapForm, fresh_off, NamedOnce}
 use Rattle.copied_part_laws.proofs.ObjectsApart.{span}
 
 -- a heap with these survivors, and its account in this state of the machine
 pub record Old (h : LeafHeapValue) (ss : List Survivor) (m : MachineState) (a : Heap) : Type 0 where
   pub form : HeapForm h
   pub names : HasNames (chunks_of h.chunks) a
-  pub named : (o q : Located) → In (objects_in (chunks_of h.chunks)) o → In (objects_in (chunks_of h.chunks)) q → object_name o ≡ object_name q → o ≡ q
-  pub words : (o : Located) → In (objects_in (chunks_of h.chunks)) o → words_at m (object_name o) ≡ words o
+  pub named : (o q : Located) → In (objects_of_chunks (chunks_of h.chunks)) o → In (objects_of_chunks (chunks_of h.chunks)) q → object_name o ≡ object_name q → o ≡ q
+  pub words : (o : Located) → In (objects_of_chunks (chunks_of h.chunks)) o → words_at m (object_name o) ≡ words o
   pub laid : AreLaidOut (chunks_of h.chunks) a.reserved
-  pub lives : (o : Located) → In (objects_in (chunks_of h.chunks)) o → In (olds ss) o.at → In a.survivors (object_name o)
-  pub dies : (o : Located) → In (objects_in (chunks_of h.chunks)) o → In a.survivors (object_name o) → In (olds ss) o.at
+  pub lives : (o : Located) → In (objects_of_chunks (chunks_of h.chunks)) o → In (olds ss) o.at → In a.survivors (object_name o)
+  pub dies : (o : Located) → In (objects_of_chunks (chunks_of h.chunks)) o → In a.survivors (object_name o) → In (olds ss) o.at
 
 -- ---- NAMES THAT ARE READ
 
@@ -67,15 +67,15 @@ single_cells (c ∷ cs) number base f = single_cells_by_cases c.mark refl (singl
     single_cells_by_cases (Moved to) e go = go
     single_cells_by_cases Hole e go = go
 
-pub single_small : (ks : List ChunkValue) → HaveDistinctNumbers ks → Injective (objects_in (chunks_of ks)) → NamedOnce (flat_map (λ ns. ns) (small_lists ks))
+pub single_small : (ks : List ChunkValue) → HaveDistinctNumbers ks → Injective (objects_of_chunks (chunks_of ks)) → NamedOnce (flat_map (λ ns. ns) (small_lists ks))
 single_small [] A f = tt
 single_small (k ∷ ks) A f = single_small_by_cases (k.size == 1024) (single_small ks A.1 (λ o q i j e. f o q (right o i) (right q j) e))
   where
-    left : (o : Located) → In (objects_from k.number 0 k.cells) o → In (objects_in (chunks_of (k ∷ ks))) o
-    left o i = in_append_left (objects_from k.number 0 k.cells) (objects_in (chunks_of ks)) o i
+    left : (o : Located) → In (objects_from k.number 0 k.cells) o → In (objects_of_chunks (chunks_of (k ∷ ks))) o
+    left o i = in_append_left (objects_from k.number 0 k.cells) (objects_of_chunks (chunks_of ks)) o i
 
-    right : (o : Located) → In (objects_in (chunks_of ks)) o → In (objects_in (chunks_of (k ∷ ks))) o
-    right o i = in_append_right (objects_from k.number 0 k.cells) (objects_in (chunks_of ks)) o i
+    right : (o : Located) → In (objects_of_chunks (chunks_of ks)) o → In (objects_of_chunks (chunks_of (k ∷ ks))) o
+    right o i = in_append_right (objects_from k.number 0 k.cells) (objects_of_chunks (chunks_of ks)) o i
 
     clash : (n : Name) → In (names_in k.cells) n → In (flat_map (λ ns. ns) (small_lists ks)) n → ⊥
     clash n i j =

@@ -1,5 +1,5 @@
 -- The words that chunks hold, and their units.
-use Rattle.copied_part_laws.proofs.Common.{◌≡◌, ℕ, ◌+◌, ◌==◌, arith, Bool, true, false, cond, None, List, [], ◌∷◌, ◌++◌, length, map, nat_lt, inl, inr, refl, ap, flat_map, length-map, sum_by-append, sum_by-cons, in_append_left, in_append_right, MachineState, words_at, words_sum, Addr, Born, Cell, Hole, Mark, Moved, moved_to, size_of, ChunkValue, number_of, cell_of, object_words_in as held_cells, held_size, held_words, Located, located, objects_from, behind, first, unit_count, AreNew, Laying, laid_all, laid_one, room_in, emptied, numbers, In, object_name, objects_in, words, large_names, named_by, names_in, small_lists, name_of, chunks_of}
+use Rattle.copied_part_laws.proofs.Common.{◌≡◌, ℕ, ◌+◌, ◌==◌, arith, Bool, true, false, cond, None, List, [], ◌∷◌, ◌++◌, length, map, nat_lt, inl, inr, refl, ap, flat_map, length-map, sum_by-append, sum_by-cons, in_append_left, in_append_right, MachineState, words_at, words_sum, Addr, Born, Cell, Hole, Mark, Moved, moved_to, size_of, ChunkValue, number_of, cell_of, object_words_in as held_cells, held_size, held_words, Located, located, objects_from, behind, first, unit_count, AreNew, Laying, laid_all, laid_one, room_in, emptied, numbers, In, object_name, objects_of_chunks, words, large_names, named_by, names_in, small_lists, name_of, chunks_of}
 use Rattle.leaf_collections.specs.below.leaf_heap.{units}
 use Rattle.copied_part_laws.proofs.ObjectsPlaced.{opened_new}
 
@@ -19,13 +19,13 @@ module _ (m : MachineState) where
       cells_held_by_cases (Moved to) e n go = absurd cc
       cells_held_by_cases Hole e n go = omega (arith, go)
 
-  pub chunks_held : (ks : List ChunkValue) → ((k : ChunkValue) → In ks k → (c : Cell) → In k.cells c → moved_to c.mark ≡ None) → ((o : Located) → In (objects_in (chunks_of ks)) o → words_at m (object_name o) ≡ words o)
+  pub chunks_held : (ks : List ChunkValue) → ((k : ChunkValue) → In ks k → (c : Cell) → In k.cells c → moved_to c.mark ≡ None) → ((o : Located) → In (objects_of_chunks (chunks_of ks)) o → words_at m (object_name o) ≡ words o)
       → held_words ks ≡ words_sum m (flat_map (λ ns. ns) (small_lists ks)) + words_sum m (large_names ks)
   chunks_held [] f g = omega arith
   chunks_held (k ∷ ks) f g =
       chunks_held_by_cases (k.size == 1024)
-      (cells_held k.cells k.number 0 (f k (inl refl)) (λ o i. g o (in_append_left (objects_from k.number 0 k.cells) (objects_in (chunks_of ks)) o i)))
-      (chunks_held ks (λ x i. f x (inr i)) (λ o i. g o (in_append_right (objects_from k.number 0 k.cells) (objects_in (chunks_of ks)) o i)))
+      (cells_held k.cells k.number 0 (f k (inl refl)) (λ o i. g o (in_append_left (objects_from k.number 0 k.cells) (objects_of_chunks (chunks_of ks)) o i)))
+      (chunks_held ks (λ x i. f x (inr i)) (λ o i. g o (in_append_right (objects_from k.number 0 k.cells) (objects_of_chunks (chunks_of ks)) o i)))
     where
       chunks_held_by_cases : (b : Bool) → held_cells k.cells ≡ words_sum m (names_in k.cells) → held_words ks ≡ words_sum m (flat_map (λ ns. ns) (small_lists ks)) + words_sum m (large_names ks)
           → held_cells k.cells + held_words ks ≡ words_sum m (flat_map (λ ns. ns) (cond b (names_in k.cells ∷ small_lists ks) (small_lists ks))) + words_sum m (cond b (large_names ks) (names_in k.cells ++ large_names ks))

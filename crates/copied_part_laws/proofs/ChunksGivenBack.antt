@@ -1,5 +1,5 @@
 -- The chunks that a collection releases: all distinct, and none of them in the heap.
-use Rattle.copied_part_laws.proofs.Common.{◌≡◌, ◌⊎◌, ℕ, ◌*◌, ◌/◌, not, arith, All, Bool, true, false, Option, Some, List, [], ◌∷◌, ◌++◌, map, filter, inl, inr, refl, ap, sym, subst, ◌∙◌, reverse, false≢true, reverse-append, in_append_cases, in_append_left, in_append_right, in_from_kept, all_from, map_in, MachineState, Heap, Addr, ChunkValue, number_of, Slot, PoolValue, slot_at, owner_of, slot_units, HaveDistinctNumbers, LeafHeapValue, IsFresh, unit_count, Survivor, olds, AreNew, Laying, before, smalls, led_chunk, emptied, reserved_of, unreserved, AreSurvivors, back_of, keeps, large_of, laid_of, laying_of, leaves, CanTake, Distinct, numbers, within_at, in_unreserved, units_in_slots, In, AreMeasured, same_chunk}
+use Rattle.copied_part_laws.proofs.Common.{◌≡◌, ◌⊎◌, ℕ, ◌*◌, ◌/◌, not, arith, All, Bool, true, false, Option, Some, List, [], ◌∷◌, ◌++◌, map, filter, inl, inr, refl, ap, sym, subst, ◌∙◌, reverse, false≢true, reverse-append, in_append_cases, in_append_left, in_append_right, in_from_kept, all_from, map_in, MachineState, Heap, Addr, ChunkValue, number_of, Slot, PoolValue, slot_at, owner_of, slot_units, HaveDistinctNumbers, LeafHeapValue, IsFresh, unit_count, Survivor, olds, AreNew, Laying, nothing_laid, smalls, led_chunk, emptied, reserved_of, unreserved, AreSurvivors, back_of, keeps, large_of, laid_of, laying_of, leaves, CanTake, Distinct, numbers, within_at, in_unreserved, units_in_slots, In, AreMeasured, same_chunk}
 use Rattle.std.specs.Prelude.{option_map}
 use Rattle.address_laws.proofs.Extent as extent
 use Rattle.address_laws.proofs.Numbers as nums
@@ -157,7 +157,7 @@ module _ (h : LeafHeapValue) (from : List (Option Addr)) (ss : List Survivor) (n
   ]
     where
       spare_new : AreNew y.spare
-      spare_new = units_of.spare_new (before (reverse news)) h.chunks (smalls h.chunks (olds ss)) (new_numbers.new_reverse news T.new)
+      spare_new = units_of.spare_new (nothing_laid (reverse news)) h.chunks (smalls h.chunks (olds ss)) (new_numbers.new_reverse news T.new)
 
   -- and so has a chunk of the heap
   pub heap_was : (k : ChunkValue) → In (L ++ (K ++ R)) k → Was k

@@ -1,5 +1,5 @@
 -- A heap after its collection has the form and the layout of every heap.
-use Rattle.copied_part_laws.proofs.Common.{◌≡◌, ℕ, zero, suc, ◌+◌, ◌-◌, ◌*◌, ◌/◌, ◌<◌, ◌≤◌, ◌==◌, ◌&&◌, not, arith, Bool, true, false, cond, Option, Some, None, List, [], ◌∷◌, ◌++◌, length, map, filter, nat_lt, inl, inr, refl, ap, ap₂, sym, subst, ◌∙◌, eq-eqb, ne_eqb, option_map, reverse, cases_lt, cond-false, cond-true, false≢true, length-map, is_empty, in_append_cases, all_from, in_map, map_in, read_in, MachineState, Heap, units, Addr, Cell, size_of, ChunkValue, words_in, cell_of, chunk_at, Located, led_object, objects_from, led_are_read, words_in-push, chunk_there, LeafHeapValue, IsReserved, room_of, with_places, Survivor, olds, AreNew, HaveRoom, Laying, before, laid_all, laid_one, open_next, opened, placed, room_in, smalls, led_cell, led_chunk, reserved_of, unreserved, AreSurvivors, collected, keeps, large_of, laid_of, laying_of, CanTake, new_reverse, within_at, all_tidy, used_led, Chunk, In, objects_in, AreLaidOut, HoldsLarge, reserved_chunks, reserved_units, words, AreReserved, HeapMatchesAccount, chunk_of, chunks_of, HeapForm, counted_from, is_spare}
+use Rattle.copied_part_laws.proofs.Common.{◌≡◌, ℕ, zero, suc, ◌+◌, ◌-◌, ◌*◌, ◌/◌, ◌<◌, ◌≤◌, ◌==◌, ◌&&◌, not, arith, Bool, true, false, cond, Option, Some, None, List, [], ◌∷◌, ◌++◌, length, map, filter, nat_lt, inl, inr, refl, ap, ap₂, sym, subst, ◌∙◌, eq-eqb, ne_eqb, option_map, reverse, cases_lt, cond-false, cond-true, false≢true, length-map, is_empty, in_append_cases, all_from, in_map, map_in, read_in, MachineState, Heap, units, Addr, Cell, size_of, ChunkValue, words_in, cell_of, chunk_at, Located, led_object, objects_from, led_are_read, words_in-push, chunk_there, LeafHeapValue, IsReserved, room_of, with_places, Survivor, olds, AreNew, HaveRoom, Laying, nothing_laid, laid_all, laid_one, open_next, opened, placed_behind, room_in, smalls, led_cell, led_chunk, reserved_of, unreserved, AreSurvivors, collected, keeps, large_of, laid_of, laying_of, CanTake, new_reverse, within_at, all_tidy, used_led, Chunk, In, objects_of_chunks, AreLaidOut, HoldsLarge, reserved_chunks, reserved_units, words, AreReserved, HeapMatchesAccount, chunk_of, chunks_of, HeapForm, counted_from, is_spare}
 use Rattle.collected_heap_laws.proofs.Reading as reading
 use Rattle.copied_part_laws.proofs.BeforeTheCopy.{Old}
 use Rattle.copied_part_laws.proofs.NamesLaid.{Told}
@@ -15,7 +15,7 @@ abbrev Inside : List ChunkValue → Type 0
 Inside [] = Unit {0}
 Inside (k ∷ ks) = (words_in k.cells ≤ k.size) × Inside ks
 
-inside_placed : (ks : List ChunkValue) (c : Cell) → Inside ks → size_of c ≤ room_in ks → Inside (placed ks c)
+inside_placed : (ks : List ChunkValue) (c : Cell) → Inside ks → size_of c ≤ room_in ks → Inside (placed_behind ks c)
 inside_placed [] c f le = tt
 inside_placed (k ∷ []) c f le = (let w = words_in-push k.cells c in let a : words_in k.cells ≤ k.size = f.0 in omega (arith, w, a, le), tt)
 inside_placed (k ∷ (l ∷ ks)) c f le = (f.0, inside_placed (l ∷ ks) c f.1 le)
@@ -140,7 +140,7 @@ module _ (h : LeafHeapValue) (from : List (Option Addr)) (ss : List Survivor) (n
   laid_inside k i =
       let x = map_in (led_chunk g) y.laid k i in
       let w = used_led g x.0.cells in
-      let le = inside_in y.laid x.0 (inside_all (before (reverse news)) h.chunks (smalls h.chunks (olds ss)) tt (new_reverse news T.new) (reading.room h from ss news S T)) x.1 in
+      let le = inside_in y.laid x.0 (inside_all (nothing_laid (reverse news)) h.chunks (smalls h.chunks (olds ss)) tt (new_reverse news T.new) (reading.room h from ss news S T)) x.1 in
       subst (λ (z : ChunkValue). words_in z.cells ≤ z.size) x.2 (omega (arith, w, le))
 
   pub within_each : (k : ChunkValue) → In (L ++ (K ++ R)) k → words_in k.cells ≤ k.size
@@ -166,7 +166,7 @@ module _ (h : LeafHeapValue) (from : List (Option Addr)) (ss : List Survivor) (n
     | inr j ↦ (part k j).holds
   ]
 
-  near_each : (o : Located) → In (objects_in (chunks_of (L ++ (K ++ R)))) o → o.at.offset < 1024
+  near_each : (o : Located) → In (objects_of_chunks (chunks_of (L ++ (K ++ R)))) o → o.at.offset < 1024
   near_each o i = near_each_by_cases (held_by (L ++ (K ++ R)) o i)
     where
       near_each_by_cases : Holds (L ++ (K ++ R)) o → o.at.offset < 1024

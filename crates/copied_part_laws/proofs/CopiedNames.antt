@@ -1,5 +1,5 @@
 -- The names of a heap after its collection: as its account says.
-use Rattle.copied_part_laws.proofs.Common.{◌≡◌, ◌⊎◌, ◌+◌, ◌*◌, ◌/◌, ◌<◌, ◌≤◌, ◌==◌, ◌&&◌, not, arith, Bool, true, false, cond, Option, None, List, [], ◌∷◌, ◌++◌, length, map, filter, nat_le, inl, inr, refl, ap, sym, subst, ◌∙◌, eq-eqb, reverse, flat_map, list_any, cases_Bool, cases_lt, cond-false, cond-true, eqb-true, false≢true, le-leb, leb-true, lt-leb, not-true, append-nil, in_append_cases, in_flat, in_from_kept, in_kept, in_map, map_in, read_in, Name, MachineState, Heap, laid_onto, large_survivors, room_behind, small_in, small_survivors, units, words_at, holds_name, holds_from_in, in_from_holds, Addr, Born, Cell, size_of, ChunkValue, cell_at, words_in, cell_of, Located, located, objects_from, Once, once_from, cell_in, LeafHeapValue, IsReserved, IsSettled, same_address, Survivor, olds, old_of, HaveRoom, Laying, before, is_small, laid_all, room_in, led_chunk, reserved_of, unreserved, AreSurvivors, keeps, large_of, laid_of, laying_of, CanTake, in_small, olds_small, small_ones, in_unreserved, new_reverse, any_here, any_none, first_of, Chunk, In, object_name, objects_in, words, HasNames, names_of, small_chunks, from_flat, in_objects, large_names, names_in, small_lists, chunk_of, chunks_of, object_seen, seen_object, large_are, names_are, small_names, inside_from, NamedOnce}
+use Rattle.copied_part_laws.proofs.Common.{◌≡◌, ◌⊎◌, ◌+◌, ◌*◌, ◌/◌, ◌<◌, ◌≤◌, ◌==◌, ◌&&◌, not, arith, Bool, true, false, cond, Option, None, List, [], ◌∷◌, ◌++◌, length, map, filter, nat_le, inl, inr, refl, ap, sym, subst, ◌∙◌, eq-eqb, reverse, flat_map, list_any, cases_Bool, cases_lt, cond-false, cond-true, eqb-true, false≢true, le-leb, leb-true, lt-leb, not-true, append-nil, in_append_cases, in_flat, in_from_kept, in_kept, in_map, map_in, read_in, Name, MachineState, Heap, laid_onto, large_survivors, room_behind, small_in, small_survivors, units, words_at, holds_name, holds_from_in, in_from_holds, Addr, Born, Cell, size_of, ChunkValue, cell_at, words_in, cell_of, Located, located, objects_from, Once, once_from, cell_in, LeafHeapValue, IsReserved, IsSettled, same_address, Survivor, olds, old_of, HaveRoom, Laying, nothing_laid, is_moved, laid_all, room_in, led_chunk, reserved_of, unreserved, AreSurvivors, keeps, large_of, laid_of, laying_of, CanTake, in_small, olds_small, small_ones, in_unreserved, new_reverse, any_here, any_none, first_of, Chunk, In, object_name, objects_of_chunks, words, HasNames, names_of, small_chunks, from_flat, in_objects, large_names, names_in, small_lists, chunk_of, chunks_of, object_seen, seen_object, large_are, names_are, small_names, inside_from, NamedOnce}
 use Rattle.leaf_collections.proofs.below.copying_gc.Moves as moves
 use Rattle.collected_heap_laws.proofs.Reading as reading
 use Rattle.copied_part_laws.proofs.SurvivorOrder.{single_names, small_survivors_are, sorted_names}
@@ -42,19 +42,19 @@ module _ (h : LeafHeapValue) (from : List (Option Addr)) (ss : List Survivor) (n
   abbrev pub object_of : Survivor → Located
   object_of s = located s.old.chunk s.old.offset s.birth (cell_of h.chunks s.old)
 
-  object_there : (s : Survivor) → In ss s → In (objects_in (chunks_of h.chunks)) (object_of s)
+  object_there : (s : Survivor) → In ss s → In (objects_of_chunks (chunks_of h.chunks)) (object_of s)
   object_there s i = object_seen h.chunks s.old s.birth (born s i)
 
   survivor_words : (s : Survivor) → In ss s → words_at m (birth_name s) ≡ size_of (cell_of h.chunks s.old)
   survivor_words s i = O.words (object_of s) (object_there s i) ∙ (let e : 2 + length (cell_of h.chunks s.old).refs + length (cell_of h.chunks s.old).ints ≡ size_of (cell_of h.chunks s.old) = omega arith in e)
 
   -- that is found by its address
-  pub survivor_of : (o : Located) → In (objects_in (chunks_of h.chunks)) o → In (olds ss) o.at → (s : Survivor) × In ss s × (object_of s ≡ o)
+  pub survivor_of : (o : Located) → In (objects_of_chunks (chunks_of h.chunks)) o → In (olds ss) o.at → (s : Survivor) × In ss s × (object_of s ≡ o)
   survivor_of o i j =
       let s = map_in old_of ss o.at j in
       (s.0, s.1, once h.chunks settled.apart (object_of s.0) o (object_there s.0 s.1) i s.2)
 
-  pub cell_words : (o : Located) → In (objects_in (chunks_of h.chunks)) o → size_of (cell_of h.chunks o.at) ≡ words o
+  pub cell_words : (o : Located) → In (objects_of_chunks (chunks_of h.chunks)) o → size_of (cell_of h.chunks o.at) ≡ words o
   cell_words o i =
       let y = seen_object h.chunks o settled.apart i in
       let r : length o.refs ≡ length (cell_of h.chunks o.at).refs = ap (λ (z : Located). length z.refs) y.is in
@@ -86,7 +86,7 @@ module _ (h : LeafHeapValue) (from : List (Option Addr)) (ss : List Survivor) (n
 
   -- ---- SMALL NAMES
 
-  small_is : (o : Located) → In (objects_in (chunks_of h.chunks)) o → is_small h.chunks o.at ≡ true → In (small_in a) (object_name o)
+  small_is : (o : Located) → In (objects_of_chunks (chunks_of h.chunks)) o → is_moved h.chunks o.at ≡ true → In (small_in a) (object_name o)
   small_is o i e =
       let H = held_by h.chunks o i in
       let w = cell_words o i in
@@ -96,13 +96,13 @@ module _ (h : LeafHeapValue) (from : List (Option Addr)) (ss : List Survivor) (n
       let l : In a.chunks (names_of (chunk_of H.chunk)) = subst (λ ns. In ns (names_of (chunk_of H.chunk))) O.names.small (in_map names_of (small_chunks (chunks_of h.chunks)) (chunk_of H.chunk) k) in
       in_flat (λ ns. ns) a.chunks (names_of (chunk_of H.chunk)) (object_name o) l (in_map object_name (chunk_of H.chunk).objects o H.object)
 
-  is_small_one : (n : Name) → In (small_in a) n → (o : Located) × In (objects_in (chunks_of h.chunks)) o × (object_name o ≡ n) × (is_small h.chunks o.at ≡ true)
+  is_small_one : (n : Name) → In (small_in a) n → (o : Located) × In (objects_of_chunks (chunks_of h.chunks)) o × (object_name o ≡ n) × (is_moved h.chunks o.at ≡ true)
   is_small_one n i =
       let f = from_flat (λ ns. ns) a.chunks n i in
       let c = map_in names_of (small_chunks (chunks_of h.chunks)) f.0 (subst (λ ns. In ns f.0) (sym O.names.small) f.1) in
       let o = map_in object_name c.0.objects n (subst (λ ns. In ns n) (sym c.2) f.2) in
       let k = in_from_kept (λ (c : Chunk). not c.large) (chunks_of h.chunks) c.0 c.1 in
-      let there : In (objects_in (chunks_of h.chunks)) o.0 = in_objects (chunks_of h.chunks) c.0 o.0 k.0 o.1 in
+      let there : In (objects_of_chunks (chunks_of h.chunks)) o.0 = in_objects (chunks_of h.chunks) c.0 o.0 k.0 o.1 in
       let u : c.0.units ≡ 1 = O.laid.small c.0 k.0 (not-true c.0.large k.1) in
       let w : o.0.at.offset + words o.0 ≤ 1024 * c.0.units = O.laid.within c.0 o.0 k.0 o.1 in
       let s = cell_words o.0 there in
@@ -116,12 +116,12 @@ module _ (h : LeafHeapValue) (from : List (Option Addr)) (ss : List Survivor) (n
 
   -- the small survivors, in order of birth
   pub births : map birth_name zs ≡ small_survivors a
-  births = small_survivors_are m a (map birth_name zs) (sorted_names (λ s. is_small h.chunks s.old) ss S.order)
+  births = small_survivors_are m a (map birth_name zs) (sorted_names (λ s. is_moved h.chunks s.old) ss S.order)
       (single_names zs once_zs (λ s t i j e. ap (λ (o : Located). o.at) (O.named (object_of s) (object_of t) (object_there s (in_small h.chunks ss s i)) (object_there t (in_small h.chunks ss t j)) e)))
       single_here
       (λ n i.
       let s = map_in birth_name zs n i in
-      let k = in_from_kept (λ (s : Survivor). is_small h.chunks s.old) ss s.0 s.1 in
+      let k = in_from_kept (λ (s : Survivor). is_moved h.chunks s.old) ss s.0 s.1 in
       let there = object_there s.0 k.0 in (
         subst (In (small_in a)) s.2 (small_is (object_of s.0) there k.1),
         holds_from_in a.survivors n (subst (In a.survivors) s.2 (O.lives (object_of s.0) there (in_map old_of ss s.0 k.0))),
@@ -129,14 +129,14 @@ module _ (h : LeafHeapValue) (from : List (Option Addr)) (ss : List Survivor) (n
       (λ n i e.
       let o = is_small_one n i in
       let s = survivor_of o.0 o.1 (O.dies o.0 o.1 (subst (In a.survivors) (sym o.2) (in_from_holds a.survivors n e))) in
-      let small : is_small h.chunks s.0.old ≡ true = ap (λ (z : Located). is_small h.chunks z.at) s.2 ∙ o.3 in
-      let z : In zs s.0 = in_kept (λ (s : Survivor). is_small h.chunks s.old) ss s.0 s.1 small in
+      let small : is_moved h.chunks s.0.old ≡ true = ap (λ (z : Located). is_moved h.chunks z.at) s.2 ∙ o.3 in
+      let z : In zs s.0 = in_kept (λ (s : Survivor). is_moved h.chunks s.old) ss s.0 s.1 small in
       subst (In (map birth_name zs)) (ap object_name s.2 ∙ o.2) (in_map birth_name zs s.0 z))
 
   laid_all_lists : (lists_of y.laid ≡ laid_onto m [] (map birth_name zs)) × Told m y.laid
-  laid_all_lists = subst (λ xs. (lists_of (laid_all (before (reverse news)) h.chunks xs).laid ≡ laid_onto m [] (map birth_name zs)) × Told m (laid_all (before (reverse news)) h.chunks xs).laid) (olds_small h.chunks ss)
-      (lay_all m h.chunks zs (before (reverse news)) tt (new_reverse news T.new)
-      (subst (HaveRoom (before (reverse news)) h.chunks) (sym (olds_small h.chunks ss)) (reading.room h from ss news S T))
+  laid_all_lists = subst (λ xs. (lists_of (laid_all (nothing_laid (reverse news)) h.chunks xs).laid ≡ laid_onto m [] (map birth_name zs)) × Told m (laid_all (nothing_laid (reverse news)) h.chunks xs).laid) (olds_small h.chunks ss)
+      (lay_all m h.chunks zs (nothing_laid (reverse news)) tt (new_reverse news T.new)
+      (subst (HaveRoom (nothing_laid (reverse news)) h.chunks) (sym (olds_small h.chunks ss)) (reading.room h from ss news S T))
       (λ s i. let j = in_small h.chunks ss s i in (born s j, survivor_words s j)))
 
   pub told : Told m L
@@ -186,7 +186,7 @@ module _ (h : LeafHeapValue) (from : List (Option Addr)) (ss : List Survivor) (n
     in_k : In (objects_from k.number 0 k.cells) o
     in_k = subst (λ os. In os o) (sym objects) (inl refl)
 
-    in_h : In (objects_in (chunks_of h.chunks)) o
+    in_h : In (objects_of_chunks (chunks_of h.chunks)) o
     in_h = in_objects (chunks_of h.chunks) (chunk_of k) o (in_map chunk_of h.chunks k i) in_k
 
     o_first : o.at ≡ first_of k

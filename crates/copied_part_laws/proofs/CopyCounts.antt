@@ -1,5 +1,5 @@
 -- The numbers of a collection are those of its account.
-use Rattle.copied_part_laws.proofs.Common.{◌≡◌, ℕ, zero, suc, ◌+◌, ◌-◌, ◌*◌, ◌/◌, ◌<◌, ◌≤◌, ◌==◌, not, arith, Bool, true, false, cond, Option, Some, None, List, [], ◌∷◌, ◌++◌, length, length-append, map, filter, inl, inr, refl, ap, sym, subst, ◌∙◌, eq-eqb, remove, reverse, unwrap_or, flat_map, cases_Bool, cond-false, eqb-true, false≢true, length-map, length-reverse, sum_by-append, sum_by-cons, in_map, map_in, read_in, Name, MachineState, Heap, begun_in, chunk_words, small_in, units, units_in, units_sum, words_at, words_sum, holds_name, Full, heap_words, kept_weight, Addr, Cell, moved_to, ChunkValue, words_in, chunk_at, held_words, Located, objects_from, AreTidy, LeafHeapValue, IsReserved, IsTidy, counted32, unit_count, Survivor, olds, Laying, before, smalls, emptied, reserved_of, unreserved, AreSurvivors, back_of, keeps, large_of, laid_of, laying_of, leaves, CanTake, new_reverse, within_at, all_tidy, in_unreserved, numbers, removed_at, In, object_name, objects_in, words, in_objects, large_names, names_in, small_lists, chunk_of, chunks_of, large_are, names_are, small_names, place_there, unit_sum}
+use Rattle.copied_part_laws.proofs.Common.{◌≡◌, ℕ, zero, suc, ◌+◌, ◌-◌, ◌*◌, ◌/◌, ◌<◌, ◌≤◌, ◌==◌, not, arith, Bool, true, false, cond, Option, Some, None, List, [], ◌∷◌, ◌++◌, length, length-append, map, filter, inl, inr, refl, ap, sym, subst, ◌∙◌, eq-eqb, remove, reverse, unwrap_or, flat_map, cases_Bool, cond-false, eqb-true, false≢true, length-map, length-reverse, sum_by-append, sum_by-cons, in_map, map_in, read_in, Name, MachineState, Heap, begun_in, chunk_words, small_in, units, units_in, units_sum, words_at, words_sum, holds_name, Full, heap_words, kept_weight, Addr, Cell, moved_to, ChunkValue, words_in, chunk_at, held_words, Located, objects_from, AreTidy, LeafHeapValue, IsReserved, IsTidy, counted32, unit_count, Survivor, olds, Laying, nothing_laid, smalls, emptied, reserved_of, unreserved, AreSurvivors, back_of, keeps, large_of, laid_of, laying_of, leaves, CanTake, new_reverse, within_at, all_tidy, in_unreserved, numbers, removed_at, In, object_name, objects_of_chunks, words, in_objects, large_names, names_in, small_lists, chunk_of, chunks_of, large_are, names_are, small_names, place_there, unit_sum}
 use Rattle.leaf_collections.specs.below.run_ledger.{collected as account_collected, words_in as words_held}
 use Rattle.leaf_collections.proofs.below.copying_gc.NewNumbers as new_numbers
 use Rattle.address_laws.proofs.Extent as extent
@@ -38,7 +38,7 @@ module _ (h : LeafHeapValue) (from : List (Option Addr)) (ss : List Survivor) (n
 
   laid_count : length L + length y.spare ≡ length news
   laid_count =
-      let e : length (numbers y.laid ++ numbers y.spare) ≡ length (numbers (reverse news)) = ap (λ (ns : List ℕ). length ns) (new_numbers.laid_numbers (before (reverse news)) h.chunks (smalls h.chunks (olds ss))) in
+      let e : length (numbers y.laid ++ numbers y.spare) ≡ length (numbers (reverse news)) = ap (λ (ns : List ℕ). length ns) (new_numbers.laid_numbers (nothing_laid (reverse news)) h.chunks (smalls h.chunks (olds ss))) in
       let p = length-append (numbers y.laid) (numbers y.spare) in
       let l = count_numbers y.laid in
       let s = count_numbers y.spare in
@@ -53,7 +53,7 @@ module _ (h : LeafHeapValue) (from : List (Option Addr)) (ss : List Survivor) (n
   tidy_now : AreTidy (L ++ (K ++ R))
   tidy_now = all_tidy (forming.g h from ss news S T m a O) h.chunks ss news h.reserved O.form.tidy T.new (within_at h.chunks h.reserved O.form.shaped.reserved) L refl
 
-  words_now : (o : Located) → In (objects_in (chunks_of (L ++ (K ++ R)))) o → words_at m (object_name o) ≡ words o
+  words_now : (o : Located) → In (objects_of_chunks (chunks_of (L ++ (K ++ R)))) o → words_at m (object_name o) ≡ words o
   words_now o i =
       let c = moving.came h from ss news S T (naming.settled h from ss news S T m a O) (naming.reserved h from ss news S T m a O) o i in
       let w = O.words c.object c.there in
@@ -129,7 +129,7 @@ module _ (h : LeafHeapValue) (from : List (Option Addr)) (ss : List Survivor) (n
           ∙ small e go
       leaving_by_cases false e go =
           let o = has_one k (f k (inl refl)) e in
-          let i : In (objects_in (chunks_of h.chunks)) o.object = in_objects (chunks_of h.chunks) (chunk_of k) o.object (in_map chunk_of h.chunks k old) (subst (λ os. In os o.object) (sym o.objects) (inl refl)) in
+          let i : In (objects_of_chunks (chunks_of h.chunks)) o.object = in_objects (chunks_of h.chunks) (chunk_of k) o.object (in_map chunk_of h.chunks k old) (subst (λ os. In os o.object) (sym o.objects) (inl refl)) in
           let w : k.size ≡ 1024 * (k.size / 1024) = O.form.whole k old in
           let u : k.size / 1024 ≡ units (words o.object) = o.units in
           let v : units (words_at m (object_name o.object)) ≡ units (words o.object) = ap units (O.words o.object i) in
@@ -166,7 +166,7 @@ module _ (h : LeafHeapValue) (from : List (Option Addr)) (ss : List Survivor) (n
     given_is =
         let both = unit_sum (map emptied (filter (leaves ss) U)) (reverse y.spare) in
         let one = units_emptied (filter (leaves ss) U) in
-        let fresh = spare_new (before (reverse news)) h.chunks (smalls h.chunks (olds ss)) (new_reverse news T.new) in
+        let fresh = spare_new (nothing_laid (reverse news)) h.chunks (smalls h.chunks (olds ss)) (new_reverse news T.new) in
         let two = units_new (reverse y.spare) (new_reverse y.spare fresh) in
         let rev = length-reverse y.spare in
         let go = leaving U (λ k i. i) in

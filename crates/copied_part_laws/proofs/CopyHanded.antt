@@ -1,7 +1,6 @@
 -- A part that was copied fits the shared value for the end of its collection.
-use Rattle.copied_part_laws.proofs.Common.{◌≡◌, ℕ, zero, suc, ◌/◌, ◌++◌, ◌≤◌, arith, All, Some, None, List, [], ◌∷◌, length, slice_get, sum_by, refl, ap, sym, subst, ◌∙◌, pos, reverse, length-map, sum_by-cons, in_map, Ledger, end_numbers, heap_of, in_use, units_in, use_is_bounded, ChunkValue, Slot, owner_of, HaveDistinctNumbers, LeafHeapValue, IsFresh, counted32, unit_count, FramesValue, outside, back_of, IsCollected, moves_are_told, units_in_slots, aside, rested_view, PartFits, part_for, Belongings, In, Begun, Private, belongings_of_part, AreMeasured, AreUnits, news_of, SharedValue, accounts, frames_down, belongings_with, value_of, measured_both, AreBack, FitsCopied, few_units, CollectionHasBegun, part_belongings, CopiedFits, IsCopying}
+use Rattle.copied_part_laws.proofs.Common.{◌≡◌, ℕ, zero, suc, ◌/◌, ◌++◌, ◌≤◌, arith, All, Some, None, List, [], ◌∷◌, length, slice_get, sum_by, refl, ap, sym, subst, ◌∙◌, pos, reverse, length-map, sum_by-cons, in_map, Ledger, end_numbers, heap_of, in_use, units_in, use_is_bounded, ChunkValue, Slot, owner_of, HaveDistinctNumbers, LeafHeapValue, IsFresh, counted32, unit_count, FramesValue, outside, back_of, IsCollected, moves_are_told, units_in_slots, aside, rested_view, PartFits, part_for, Belongings, In, Begun, Private, belongings_of_part, AreMeasured, AreUnits, news_of, SharedValue, accounts, frames_down, belongings_with, value_of, measured_both, AreBack, FitsCopied, few_units, CollectionHasBegun, part_belongings, CopiedFits, IsCopying, part_before}
 use Rattle.leaf_collections.specs.below.copying_gc.{Moved}
-use Rattle.leaf_collections.specs.below.refinement.{before}
 use Rattle.copied_part_laws.proofs.ChunksGivenBack as back
 use Rattle.copied_part_laws.proofs.CopyMade as copying
 use Rattle.copied_part_laws.proofs.CopyMade.{copies_fit}
@@ -25,7 +24,7 @@ module _ (w : SharedValue) (k : ℕ) (p : Private) (b : Begun) (news : List Chun
   belongings_are : belongings_of_part p ≡ H
   belongings_are = ap (λ o. record (belongings_with p.heap p.view p.allocations (frames_down p.frames) (pos 0, None)) { begun = o }) C.begun
 
-  fits : PartFits w.program w.settings (before w.settings p.task H) (value_of w) (aside (accounts w))
+  fits : PartFits w.program w.settings (part_before w.settings p.task H) (value_of w) (aside (accounts w))
   fits =
       subst (λ n. PartFits w.program w.settings (part_for w.settings p.task H n) (value_of w) (aside (accounts w))) C.fresh
       (subst (λ (h : Belongings). PartFits w.program w.settings (part_for w.settings p.task h p.fresh) (value_of w) (aside (accounts w))) belongings_are C.fits.fits.part)

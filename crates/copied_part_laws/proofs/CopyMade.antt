@@ -1,5 +1,5 @@
 -- The result of a leaf collection on a part is a copy of it.
-use Rattle.copied_part_laws.proofs.Common.{◌≡◌, ℕ, ◌+◌, arith, Option, Some, None, is_some, List, [], ◌∷◌, ◌++◌, length, map, filter, inl, inr, refl, ap, ap₂, sym, subst, ◌∙◌, option_map, reverse, unwrap_or, contains_from_in, in_append_cases, in_from_contains, in_map, map_in, ProgramText, Object, MachineState, object_at, SettingsValue, Heap, Ledger, heap_of, let_go, words_at, words_of, heap_machine, Addr, ChunkValue, number_of, Located, LeafHeapValue, with_places, Level, CallFrame, FramesValue, frames_of, led_frame, Survivor, olds, outside, led_chunk, new_address, reserved_of, unreserved, AreSurvivors, collected, keeps, large_of, laid_of, IsCollected, moves_are_told, rested, rested_view, rested_worker, Begun, Chunk, Belongings, In, Memory, copied_object, object_name, objects_in, AreLaidOut, words, IsReachedAt, HasNames, BelongingsStand, Place, Stands, with_belongings, BegunStands, CopyFits, IsCopy, at_belongings, chunk_of, chunks_of, HeapForm, frames_down, refs_long, inside_from, CopiesFit, CollectionHasBegun, part_belongings}
+use Rattle.copied_part_laws.proofs.Common.{◌≡◌, ℕ, ◌+◌, arith, Option, Some, None, is_some, List, [], ◌∷◌, ◌++◌, length, map, filter, inl, inr, refl, ap, ap₂, sym, subst, ◌∙◌, option_map, reverse, unwrap_or, contains_from_in, in_append_cases, in_from_contains, in_map, map_in, ProgramText, Object, MachineState, object_at, SettingsValue, Heap, Ledger, heap_of, let_go, words_at, object_words_of, heap_machine, Addr, ChunkValue, number_of, Located, LeafHeapValue, with_places, Level, CallFrame, FramesValue, frames_of, led_frame, Survivor, olds, outside, led_chunk, new_address, reserved_of, unreserved, AreSurvivors, collected, keeps, large_of, laid_of, IsCollected, moves_are_told, rested, rested_view, rested_worker, Begun, Chunk, Belongings, In, Memory, copied_object, object_name, objects_of_chunks, AreLaidOut, words, IsReachedAt, HasNames, BelongingsStand, Place, Stands, with_belongings, BegunStands, CopyFits, IsCopy, at_belongings, chunk_of, chunks_of, HeapForm, frames_down, refs_long, inside_from, CopiesFit, CollectionHasBegun, part_belongings}
 use Rattle.leaf_collections.specs.below.copying_gc.{Moved}
 use Rattle.address_laws.proofs.Extent as extent
 use Rattle.copied_part_laws.proofs.CopiedForm as forming
@@ -61,8 +61,8 @@ module _ (p : ProgramText) (st : SettingsValue) (t : ℕ) (h : LeafHeapValue) (v
   pub began : BegunStands V lt t b
   began = B.fits.begun
 
-  pub object_among_own : (o : Located) → In (objects_in (chunks_of h.chunks)) o → In (objects_in (V.belongings t).chunks) o
-  object_among_own o i = subst (λ (z : Belongings). In (objects_in z.chunks) o) (sym own_belongings) i
+  pub object_among_own : (o : Located) → In (objects_of_chunks (chunks_of h.chunks)) o → In (objects_of_chunks (V.belongings t).chunks) o
+  object_among_own o i = subst (λ (z : Belongings). In (objects_of_chunks z.chunks) o) (sym own_belongings) i
 
   names : HasNames (chunks_of h.chunks) a
   names =
@@ -75,11 +75,11 @@ module _ (p : ProgramText) (st : SettingsValue) (t : ℕ) (h : LeafHeapValue) (v
   survivors_same : (heap_of lt t).survivors ≡ a.survivors
   survivors_same = rested_view (λ x. x.survivors) (λ x. refl) l t
 
-  read_words : (o : Located) → In (objects_in (chunks_of h.chunks)) o → words_at l.machine (object_name o) ≡ words o
+  read_words : (o : Located) → In (objects_of_chunks (chunks_of h.chunks)) o → words_at l.machine (object_name o) ≡ words o
   read_words o i =
       let c = stands.contents t o (rested_worker l t) (object_among_own o i) in
       let x : Object = c.0 in
-      let e : words_at l.machine (object_name o) ≡ words_of (Some c.0) = ap (λ (m : MachineState). words_of (object_at m.store (object_name o))) (sym (heap_machine l t let_go)) ∙ ap words_of c.1 in
+      let e : words_at l.machine (object_name o) ≡ object_words_of (Some c.0) = ap (λ (m : MachineState). object_words_of (object_at m.store (object_name o))) (sym (heap_machine l t let_go)) ∙ ap object_words_of c.1 in
       let r : length c.0.refs ≡ length o.refs = sym (refs_long (Place V lt) o.refs c.0.refs c.2.refs) in
       let n : length c.0.ints ≡ length o.ints = ap (λ zs. length zs) (sym c.2.ints) in
       e ∙ (let q : 2 + length c.0.refs + length c.0.ints ≡ 2 + length o.refs + length o.ints = omega (arith, r, n) in q)
@@ -89,12 +89,12 @@ module _ (p : ProgramText) (st : SettingsValue) (t : ℕ) (h : LeafHeapValue) (v
   owned_chunk k i = belongings.owned (chunk_of k) (subst (λ (z : Belongings). In z.chunks (chunk_of k)) (sym own_belongings) (in_map chunk_of h.chunks k i))
 
   module _ (ss : List Survivor) (S : AreSurvivors h.chunks (outside s b.roots) ss) where
-    lives : (o : Located) → In (objects_in (chunks_of h.chunks)) o → In (olds ss) o.at → In a.survivors (object_name o)
+    lives : (o : Located) → In (objects_of_chunks (chunks_of h.chunks)) o → In (olds ss) o.at → In a.survivors (object_name o)
     lives o i j =
         let w : IsReachedAt H b.roots o.at = reached_back h.chunks B.form.shaped.apart H s b.roots refl refl o.at ((S.exactly o.at).0 (contains_from_in (olds ss) o.at j)) in
         subst (λ ns. In ns (object_name o)) survivors_same ((began.survivors o (object_among_own o i)).0 (subst (λ (z : Belongings). IsReachedAt z b.roots o.at) (sym own_belongings) w))
 
-    dies : (o : Located) → In (objects_in (chunks_of h.chunks)) o → In a.survivors (object_name o) → In (olds ss) o.at
+    dies : (o : Located) → In (objects_of_chunks (chunks_of h.chunks)) o → In a.survivors (object_name o) → In (olds ss) o.at
     dies o i j =
         let w : IsReachedAt (V.belongings t) b.roots o.at = (began.survivors o (object_among_own o i)).1 (subst (λ ns. In ns (object_name o)) (sym survivors_same) j) in
         in_from_contains (olds ss) o.at ((S.exactly o.at).1 (reached_to h.chunks B.form.shaped.apart H s b.roots refl refl o.at (subst (λ (z : Belongings). IsReachedAt z b.roots o.at) own_belongings w)))
@@ -137,12 +137,12 @@ module _ (p : ProgramText) (st : SettingsValue) (t : ℕ) (h : LeafHeapValue) (v
     f_is : new_address out.moved.items ≡ to
     f_is = λ i x. ap (λ (o : Option Addr). unwrap_or o x) ((moves_are_told h (outside s b.roots) C.survivors news out.moved.items C.are B.new C.moved).same x) i
 
-    came : (o' : Located) → In (objects_in (chunks_of (L ++ (K ++ R)))) o' → (o : Located) × In (objects_in (chunks_of h.chunks)) o × In a.survivors (object_name o) × (o' ≡ copied_object to o)
+    came : (o' : Located) → In (objects_of_chunks (chunks_of (L ++ (K ++ R)))) o' → (o : Located) × In (objects_of_chunks (chunks_of h.chunks)) o × In a.survivors (object_name o) × (o' ≡ copied_object to o)
     came o' i =
         let c = moving.came h (outside s b.roots) C.survivors news C.are B.new (naming.settled h (outside s b.roots) C.survivors news C.are B.new l.machine a O) (naming.reserved h (outside s b.roots) C.survivors news C.are B.new l.machine a O) o' i in
         (c.object, c.there, lives C.survivors C.are c.object c.there c.survives, c.is)
 
-    named_now : (o q : Located) → In (objects_in (chunks_of (L ++ (K ++ R)))) o → In (objects_in (chunks_of (L ++ (K ++ R)))) q → object_name o ≡ object_name q → o ≡ q
+    named_now : (o q : Located) → In (objects_of_chunks (chunks_of (L ++ (K ++ R)))) o → In (objects_of_chunks (chunks_of (L ++ (K ++ R)))) q → object_name o ≡ object_name q → o ≡ q
     named_now o q i j e =
         let x = came o i in
         let z = came q j in

@@ -1,5 +1,5 @@
 -- The names that a collection lays, chunk by chunk, are laid as the account lays them.
-use Rattle.copied_part_laws.proofs.Common.{◌≡◌, ◌+◌, ◌-◌, ◌<◌, ◌≤◌, ◌==◌, arith, Bool, true, false, cond, Option, Some, List, [], ◌∷◌, ◌++◌, length, map, nat_le, nat_lt, inl, inr, refl, ap, sym, subst, ◌∙◌, eq-eqb, ne_eqb, cond-false, cond-true, le-leb, lt-leb, ltb-true, sum_by-append, sum_by-cons, Name, MachineState, chunk_words, lay, laid_onto, room_behind, words_at, words_sum, Addr, Birth, Born, Cell, size_of, ChunkValue, words_in, cell_of, words_in-push, room_at, Survivor, olds, AreNew, ObjectFits, HaveRoom, Laying, laid_all, laid_one, open_next, opened, placed, room_in, led_cell, led_chunk, last_place, some_room, used_led, In, large_names, named_by, names_in, small_lists, name_of, names-push}
+use Rattle.copied_part_laws.proofs.Common.{◌≡◌, ◌+◌, ◌-◌, ◌<◌, ◌≤◌, ◌==◌, arith, Bool, true, false, cond, Option, Some, List, [], ◌∷◌, ◌++◌, length, map, nat_le, nat_lt, inl, inr, refl, ap, sym, subst, ◌∙◌, eq-eqb, ne_eqb, cond-false, cond-true, le-leb, lt-leb, ltb-true, sum_by-append, sum_by-cons, Name, MachineState, chunk_words, lay, laid_onto, room_behind, words_at, words_sum, Addr, Birth, Born, Cell, size_of, ChunkValue, words_in, cell_of, words_in-push, room_at, Survivor, olds, AreNew, ObjectFits, HaveRoom, Laying, laid_all, laid_one, open_next, opened, placed_behind, room_in, led_cell, led_chunk, last_place, some_room, used_led, In, large_names, named_by, names_in, small_lists, name_of, names-push}
 use Rattle.copied_part_laws.proofs.ObjectsPlaced.{opened_new}
 
 abbrev pub lists_of : List ChunkValue → List (List Name)
@@ -23,12 +23,12 @@ module _ (m : MachineState) where
         let w = words_in-push cs c in
         omega (arith, a, s, o, w, e, words)
 
-    told_placed : (ks : List ChunkValue) → Told ks → Told (placed ks c)
+    told_placed : (ks : List ChunkValue) → Told ks → Told (placed_behind ks c)
     told_placed [] t = tt
     told_placed (k ∷ []) t = ((t.0.0, more_words k.cells t.0.1), tt)
     told_placed (k ∷ (l ∷ ks)) t = (t.0, told_placed (l ∷ ks) t.1)
 
-    lay_here : (ks : List ChunkValue) → Told ks → 0 < length ks → size_of c ≤ room_in ks → lists_of (placed ks c) ≡ lay m (lists_of ks) (name_of b)
+    lay_here : (ks : List ChunkValue) → Told ks → 0 < length ks → size_of c ≤ room_in ks → lists_of (placed_behind ks c) ≡ lay m (lists_of ks) (name_of b)
     lay_here [] t some le = absurd (omega (arith, some))
     lay_here (k ∷ []) t some le =
         let size : k.size ≡ 1024 = t.0.0 in
@@ -38,7 +38,7 @@ module _ (m : MachineState) where
         ∙ sym (cond-true (nat_le (words_sum m (names_in k.cells) + words_at m (name_of b)) chunk_words) ((names_in k.cells ++ name_of b ∷ []) ∷ []) (names_in k.cells ∷ (name_of b ∷ []) ∷ []) (le-leb (words_sum m (names_in k.cells) + words_at m (name_of b)) chunk_words fits))
     lay_here (k ∷ (l ∷ ks)) t some le = ap (λ zs. names_in k.cells ∷ zs) (lay_here (l ∷ ks) t.1 (omega arith) le)
 
-    lay_next : (ks : List ChunkValue) (k : ChunkValue) → Told ks → k.cells ≡ [] → room_in ks < size_of c → lists_of (placed (ks ++ k ∷ []) c) ≡ lay m (lists_of ks) (name_of b)
+    lay_next : (ks : List ChunkValue) (k : ChunkValue) → Told ks → k.cells ≡ [] → room_in ks < size_of c → lists_of (placed_behind (ks ++ k ∷ []) c) ≡ lay m (lists_of ks) (name_of b)
     lay_next [] k t e lt = ap (λ ns. ns ∷ []) (names-push k.cells c b mark ∙ ap (λ cs. names_in cs ++ name_of b ∷ []) e)
     lay_next (x ∷ []) k t e lt =
         let size : x.size ≡ 1024 = t.0.0 in
@@ -53,12 +53,12 @@ module _ (m : MachineState) where
     told_push (x ∷ ks) k t e s = (t.0, told_push ks k t.1 e s)
 
     lay_open : (laid spare : List ChunkValue) → Told laid → AreNew spare → room_in laid < size_of c → size_of c ≤ room_in (open_next laid spare).laid
-        → (lists_of (placed (open_next laid spare).laid c) ≡ lay m (lists_of laid) (name_of b)) × Told (open_next laid spare).laid
+        → (lists_of (placed_behind (open_next laid spare).laid c) ≡ lay m (lists_of laid) (name_of b)) × Told (open_next laid spare).laid
     lay_open laid [] t n lt le = absurd (omega (arith, lt, le))
     lay_open laid (k ∷ ks) t n lt le = (lay_next laid k t n.0.0 lt, told_push laid k t n.0.0 n.0.1)
 
     lay_by : (y : Laying) (v : Bool) → nat_lt (room_in y.laid) (size_of c) ≡ v → Told y.laid → AreNew y.spare → size_of c ≤ room_in (cond v (open_next y.laid y.spare) y).laid
-        → (lists_of (placed (cond v (open_next y.laid y.spare) y).laid c) ≡ lay m (lists_of y.laid) (name_of b)) × Told (cond v (open_next y.laid y.spare) y).laid
+        → (lists_of (placed_behind (cond v (open_next y.laid y.spare) y).laid c) ≡ lay m (lists_of y.laid) (name_of b)) × Told (cond v (open_next y.laid y.spare) y).laid
     lay_by y true e t n le = lay_open y.laid y.spare t n (ltb-true (room_in y.laid) (size_of c) e) le
     lay_by y false e t n le = (lay_here y.laid t (some_room y.laid c le) le, t)
 

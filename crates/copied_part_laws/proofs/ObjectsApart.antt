@@ -1,5 +1,5 @@
 -- The positions of objects in chunks: each within its own chunk, and no two overlapping.
-use Rattle.copied_part_laws.proofs.Common.{◌≡◌, ◌⊎◌, ℕ, ◌+◌, ◌*◌, ◌/◌, ◌≤◌, arith, true, List, [], ◌∷◌, map, inl, inr, refl, ap, sym, subst, ◌∙◌, cases_eq, map_in, Addr, Born, Cell, Hole, Mark, Moved, size_of, ChunkValue, words_in, Located, located_by, objects_from, HaveDistinctNumbers, Chunk, In, objects_in, DontOverlap as ObjectsApart, AreLaidOut, HoldsLarge, reserved_chunks, reserved_units, words, in_chunk, chunk_of, chunks_of, apart_here, distinct_from, same_chunk, small_units}
+use Rattle.copied_part_laws.proofs.Common.{◌≡◌, ◌⊎◌, ℕ, ◌+◌, ◌*◌, ◌/◌, ◌≤◌, arith, true, List, [], ◌∷◌, map, inl, inr, refl, ap, sym, subst, ◌∙◌, cases_eq, map_in, Addr, Born, Cell, Hole, Mark, Moved, size_of, ChunkValue, words_in, Located, located_by, objects_from, HaveDistinctNumbers, Chunk, In, objects_of_chunks, DontOverlap as ObjectsApart, AreLaidOut, HoldsLarge, reserved_chunks, reserved_units, words, in_chunk, chunk_of, chunks_of, apart_here, distinct_from, same_chunk, small_units}
 
 -- ---- IN ONE CHUNK
 
@@ -47,13 +47,13 @@ pub record Holds (ks : List ChunkValue) (o : Located) : Type 0 where
   pub there : In ks chunk
   pub object : In (objects_from chunk.number 0 chunk.cells) o
 
-pub held_by : (ks : List ChunkValue) (o : Located) → In (objects_in (chunks_of ks)) o → Holds ks o
+pub held_by : (ks : List ChunkValue) (o : Located) → In (objects_of_chunks (chunks_of ks)) o → Holds ks o
 held_by ks o i =
     let c = in_chunk (chunks_of ks) o i in
     let k = map_in chunk_of ks c.0 c.1 in
     record { chunk = k.0; there = k.1; object = subst (λ (z : Chunk). In z.objects o) (sym k.2) c.2 }
 
-pub once : (ks : List ChunkValue) → HaveDistinctNumbers ks → (o q : Located) → In (objects_in (chunks_of ks)) o → In (objects_in (chunks_of ks)) q → o.at ≡ q.at → o ≡ q
+pub once : (ks : List ChunkValue) → HaveDistinctNumbers ks → (o q : Located) → In (objects_of_chunks (chunks_of ks)) o → In (objects_of_chunks (chunks_of ks)) q → o.at ≡ q.at → o ≡ q
 once ks A o q i j e =
     let h = held_by ks o i in
     let g = held_by ks q j in
@@ -67,7 +67,7 @@ once ks A o q i j e =
       | inr (inr (inr le)) ↦ let f : o.at.offset ≡ q.at.offset = ap (λ (a : Addr). a.offset) e in absurd (omega (arith, f, le))
     ]
 
-apart : (ks : List ChunkValue) → HaveDistinctNumbers ks → (o q : Located) → In (objects_in (chunks_of ks)) o → In (objects_in (chunks_of ks)) q → (o ≡ q) ⊎ ObjectsApart o q
+apart : (ks : List ChunkValue) → HaveDistinctNumbers ks → (o q : Located) → In (objects_of_chunks (chunks_of ks)) o → In (objects_of_chunks (chunks_of ks)) q → (o ≡ q) ⊎ ObjectsApart o q
 apart ks A o q i j = elim (cases_eq o.at.chunk q.at.chunk) [
   | inr ne ↦ inr (inl ne)
   | inl e ↦

@@ -1,5 +1,5 @@
 -- The objects of a heap after its collection: each survivor is read at its new address, and nothing else is there.
-use Rattle.copied_part_laws.proofs.Common.{◌≡◌, ℕ, ◌<◌, ◌≤◌, not, arith, true, Option, Some, None, List, [], ◌∷◌, ◌++◌, map, filter, inl, inr, refl, ap, sym, subst, ◌∙◌, option_map, nat_le, reverse, unwrap_or, list_any, and_parts, cases_Bool, cases_lt, false≢true, le-leb, leb-true, contains_from_in, in_append_cases, in_append_left, in_from_any, in_from_kept, in_map, map_in, read_in, Addr, Birth, Born, Cell, size_of, ChunkValue, cell_at, cell_of, Located, led_object, located, located_by, objects_from, once_from, same_is, led_are_read, chunk_there, HaveDistinctNumbers, LeafHeapValue, IsReserved, IsSettled, IsTidy, same_address, Survivor, olds, old_of, Laying, before, is_small, smalls, led_cell, led_chunk, new_address, reserved_of, unreserved, AreSurvivors, keeps, large_of, laid_of, laying_of, moves_of, redirection, CanTake, within_at, first_in, firsts, in_first, first_of, none_at, in_unreserved, numbers, once_moves, some_by, In, copied_object, objects_in, in_objects, chunk_of, chunks_of, object_seen, seen_object}
+use Rattle.copied_part_laws.proofs.Common.{◌≡◌, ℕ, ◌<◌, ◌≤◌, not, arith, true, Option, Some, None, List, [], ◌∷◌, ◌++◌, map, filter, inl, inr, refl, ap, sym, subst, ◌∙◌, option_map, nat_le, reverse, unwrap_or, list_any, and_parts, cases_Bool, cases_lt, false≢true, le-leb, leb-true, contains_from_in, in_append_cases, in_append_left, in_from_any, in_from_kept, in_map, map_in, read_in, Addr, Birth, Born, Cell, size_of, ChunkValue, cell_at, cell_of, Located, led_object, located, located_by, objects_from, once_from, same_is, led_are_read, chunk_there, HaveDistinctNumbers, LeafHeapValue, IsReserved, IsSettled, IsTidy, same_address, Survivor, olds, old_of, Laying, nothing_laid, is_moved, smalls, led_cell, led_chunk, new_address, reserved_of, unreserved, AreSurvivors, keeps, large_of, laid_of, laying_of, moves_of, redirection, CanTake, within_at, first_in, firsts, in_first, first_of, none_at, in_unreserved, numbers, once_moves, some_by, In, copied_object, objects_of_chunks, in_objects, chunk_of, chunks_of, object_seen, seen_object}
 use Rattle.address_laws.proofs.Extent as extent
 use Rattle.leaf_collections.proofs.below.copying_gc.Moves as moves
 use Rattle.leaf_collections.proofs.below.copying_gc.Naming as naming
@@ -58,23 +58,23 @@ module _ (h : LeafHeapValue) (from : List (Option Addr)) (ss : List Survivor) (n
 
   -- ---- the new addresses of survivors
 
-  pub in_xs : (a : Addr) → In xs a → In (olds ss) a × (is_small h.chunks a ≡ true)
+  pub in_xs : (a : Addr) → In xs a → In (olds ss) a × (is_moved h.chunks a ≡ true)
   in_xs a i = moves.in_smalls h.chunks (olds ss) a i
 
   firsts_are : map first_in ms ≡ xs
-  firsts_are = firsts (before (reverse news)) h.chunks xs
+  firsts_are = firsts (nothing_laid (reverse news)) h.chunks xs
 
   pub to_new : (m : Addr × Addr) → In ms m → to m.0 ≡ m.1
   to_new m i = ap (λ (o : Option Addr). unwrap_or o m.0) (some_by ms m (once_moves h.chunks from ss (reverse news) S) i)
 
   pub to_itself : (a : Addr) → (In xs a → ⊥) → to a ≡ a
-  to_itself a n = ap (λ (o : Option Addr). unwrap_or o a) (moves.new_none (before (reverse news)) h.chunks xs a n)
+  to_itself a n = ap (λ (o : Option Addr). unwrap_or o a) (moves.new_none (nothing_laid (reverse news)) h.chunks xs a n)
 
   pub moved_small : (m : Addr × Addr) → In ms m → In xs m.0
   moved_small m i = subst (λ as'. In as' m.0) firsts_are (in_first ms m i)
 
   -- a survivor is read where it was
-  pub seen_there : (a : Addr) → In (olds ss) a → (o : Located) × In (objects_in (chunks_of h.chunks)) o × (o.at ≡ a)
+  pub seen_there : (a : Addr) → In (olds ss) a → (o : Located) × In (objects_of_chunks (chunks_of h.chunks)) o × (o.at ≡ a)
   seen_there a i =
       let s = map_in old_of ss a i in
       let born : (cell_of h.chunks s.0.old).mark ≡ Born s.0.birth = read_in (λ (x : Survivor). (cell_of h.chunks x.old).mark ≡ Born x.birth) ss s.0 s.1 S.names in
@@ -83,16 +83,16 @@ module _ (h : LeafHeapValue) (from : List (Option Addr)) (ss : List Survivor) (n
   -- ---- what was there is still there
 
   there_now : (o : Located) (a : Addr) (b : Birth) → o ≡ located o.at.chunk o.at.offset b (cell_of h.chunks o.at) → (cell_of h.chunks o.at).mark ≡ Born b → to o.at ≡ a
-      → cell_of ks' a ≡ led_cell g (cell_of h.chunks o.at) → In (objects_in (chunks_of ks')) (copied_object to o)
+      → cell_of ks' a ≡ led_cell g (cell_of h.chunks o.at) → In (objects_of_chunks (chunks_of ks')) (copied_object to o)
   there_now o a b is mark leads read =
-      let i : In (objects_in (chunks_of ks')) (located a.chunk a.offset b (cell_of ks' a)) = object_seen ks' a b (ap (λ (c : Cell). c.mark) read ∙ mark) in
+      let i : In (objects_of_chunks (chunks_of ks')) (located a.chunk a.offset b (cell_of ks' a)) = object_seen ks' a b (ap (λ (c : Cell). c.mark) read ∙ mark) in
       let e : located a.chunk a.offset b (cell_of ks' a) ≡ located a.chunk a.offset b (led_cell (option_map to) (cell_of h.chunks o.at)) =
       ap (located a.chunk a.offset b) read ∙ ap (λ (w : Option Addr → Option Addr). located a.chunk a.offset b (led_cell w (cell_of h.chunks o.at))) g_is in
       let d : copied_object to (located o.at.chunk o.at.offset b (cell_of h.chunks o.at)) ≡ located a.chunk a.offset b (led_cell (option_map to) (cell_of h.chunks o.at)) = λ k. record (copied_object to (located o.at.chunk o.at.offset b (cell_of h.chunks o.at))) { at = leads k } in
-      subst (In (objects_in (chunks_of ks'))) (e ∙ sym (ap (copied_object to) is ∙ d)) i
+      subst (In (objects_of_chunks (chunks_of ks'))) (e ∙ sym (ap (copied_object to) is ∙ d)) i
 
-  pub copied : (o : Located) → In (objects_in (chunks_of h.chunks)) o → In (olds ss) o.at → In (objects_in (chunks_of ks')) (copied_object to o)
-  copied o i j = elim (cases_Bool (is_small h.chunks o.at)) [
+  pub copied : (o : Located) → In (objects_of_chunks (chunks_of h.chunks)) o → In (olds ss) o.at → In (objects_of_chunks (chunks_of ks')) (copied_object to o)
+  copied o i j = elim (cases_Bool (is_moved h.chunks o.at)) [
     | inl small ↦
         let l = seen_object h.chunks o settled.apart i in
         let x : In xs o.at = moves.to_smalls h.chunks (olds ss) o.at j small in
@@ -111,7 +111,7 @@ module _ (h : LeafHeapValue) (from : List (Option Addr)) (ss : List Survivor) (n
   -- a survivor that an object came from
   pub record Came (o' : Located) : Type 0 where
     pub object : Located
-    pub there : In (objects_in (chunks_of h.chunks)) object
+    pub there : In (objects_of_chunks (chunks_of h.chunks)) object
     pub survives : In (olds ss) object.at
     pub is : o' ≡ copied_object to object
 
@@ -124,8 +124,8 @@ module _ (h : LeafHeapValue) (from : List (Option Addr)) (ss : List Survivor) (n
   from_laid : (k : ChunkValue) (o' : Located) → In y.laid k → In (objects_from k.number 0 (map (led_cell g) k.cells)) o' → Came o'
   from_laid k o' i j =
       let q = led_back k o' j in
-      let there : In (objects_in (chunks_of y.laid)) q.0 = in_objects (chunks_of y.laid) (chunk_of k) q.0 (in_map chunk_of y.laid k i) q.1 in
-      elim (laid_objects (before (reverse news)) h.chunks xs q.0 (new_numbers.new_reverse news T.new) there) [
+      let there : In (objects_of_chunks (chunks_of y.laid)) q.0 = in_objects (chunks_of y.laid) (chunk_of k) q.0 (in_map chunk_of y.laid k i) q.1 in
+      elim (laid_objects (nothing_laid (reverse news)) h.chunks xs q.0 (new_numbers.new_reverse news T.new) there) [
         | inl z ↦ absurd z
         | inr r ↦
             let m : Addr × Addr = r.0 in
@@ -196,7 +196,7 @@ module _ (h : LeafHeapValue) (from : List (Option Addr)) (ss : List Survivor) (n
         is = sym q.2 ∙ (λ k. record (led_object (option_map to) q.0) { at = sym stays k });
       }
 
-  pub came : (o' : Located) → In (objects_in (chunks_of ks')) o' → Came o'
+  pub came : (o' : Located) → In (objects_of_chunks (chunks_of ks')) o' → Came o'
   came o' i = came_by_cases (held_by ks' o' i)
     where
       came_by_cases : Holds ks' o' → Came o'

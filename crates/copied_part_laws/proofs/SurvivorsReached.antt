@@ -1,5 +1,5 @@
 -- The survivors of a leaf collection are what the registers and the roots reach, in the sense of the relation.
-use Rattle.copied_part_laws.proofs.Common.{◌≡◌, ℕ, zero, suc, Option, Some, List, [], ◌∷◌, map, inl, inr, ap, sym, subst, ◌∙◌, contains_from_in, flat_in, got_in, in_append_cases, in_append_left, in_append_right, in_flat, in_from_contains, in_map, map_in, IsWalk, Addr, cell_of, ChunkValue, HasObjectAt, RefersTo, Located, HaveDistinctNumbers, CallFrame, FramesValue, frames_of, IsSurvivor, Starts, as_reference, frame_references, outside, references_in, Belongings, In, objects_in, HoldsAt, IsReachedAt, LeadsAt, StartsAt, chunks_of, frames_down, held_seen, seen_held}
+use Rattle.copied_part_laws.proofs.Common.{◌≡◌, ℕ, zero, suc, Option, Some, List, [], ◌∷◌, map, inl, inr, ap, sym, subst, ◌∙◌, contains_from_in, flat_in, got_in, in_append_cases, in_append_left, in_append_right, in_flat, in_from_contains, in_map, map_in, IsWalk, Addr, cell_of, ChunkValue, HasObjectAt, RefersTo, Located, HaveDistinctNumbers, CallFrame, FramesValue, frames_of, IsSurvivor, Starts, as_reference, frame_references, outside, references_in, Belongings, In, objects_of_chunks, HoldsAt, IsReachedAt, LeadsAt, StartsAt, chunks_of, frames_down, held_seen, seen_held}
 
 -- the frames of a stack from the bottom are those from the top, reversed
 pub from_stack : (s : FramesValue) (g : CallFrame) → In (frames_of s) g → In (frames_down s) g
@@ -12,8 +12,8 @@ from_stack s g i = elim (in_append_cases s.below (s.top ∷ []) g i) [
 module _ (ks : List ChunkValue) (A : HaveDistinctNumbers ks) (belongings : Belongings) (s : FramesValue) (roots : List Addr) (chunks : belongings.chunks ≡ chunks_of ks) (frames : belongings.frames ≡ frames_down s) where
   -- ---- OBJECTS
 
-  in_chunks : (o : Located) → In (objects_in belongings.chunks) o → In (objects_in (chunks_of ks)) o
-  in_chunks o i = subst (λ cs. In (objects_in cs) o) chunks i
+  in_chunks : (o : Located) → In (objects_of_chunks belongings.chunks) o → In (objects_of_chunks (chunks_of ks)) o
+  in_chunks o i = subst (λ cs. In (objects_of_chunks cs) o) chunks i
 
   live_at : (a : Addr) (o : Located) → HoldsAt belongings a o → HasObjectAt ks a
   live_at a o at = subst (HasObjectAt ks) at.1 (seen_held ks A o (in_chunks o at.0)).0
@@ -22,7 +22,7 @@ module _ (ks : List ChunkValue) (A : HaveDistinctNumbers ks) (belongings : Belon
   refs_at a o at = sym (seen_held ks A o (in_chunks o at.0)).1 ∙ ap (λ (z : Addr). (cell_of ks z).refs) at.1
 
   pub object_at : (a : Addr) → HasObjectAt ks a → (o : Located) × HoldsAt belongings a o
-  object_at a l = let o = held_seen ks a l in (o.0, (subst (λ cs. In (objects_in cs) o.0) (sym chunks) o.1, o.2))
+  object_at a l = let o = held_seen ks a l in (o.0, (subst (λ cs. In (objects_of_chunks cs) o.0) (sym chunks) o.1, o.2))
 
   -- ---- REGISTERS
 

@@ -10,7 +10,7 @@ use Rattle.leaf_collections.specs.below.chunk_list.{Level}
 use Rattle.leaf_collections.specs.below.task_frames.{FramesValue}
 use Rattle.leaf_collections.specs.below.copying_gc.{Moved, CanTake, IsCollected, new_address, as_reference, outside}
 use Rattle.leaf_collections.specs.below.task_machine.{Begun}
-use Rattle.leaf_collections.specs.below.refinement.{Belongings, In, Memory, CopyFits, PartFits, before}
+use Rattle.leaf_collections.specs.below.refinement.{Belongings, In, Memory, CopyFits, PartFits, part_before}
 use Rattle.leaf_collections.specs.below.core_invariant.{HeapForm, frames_down, belongings_with}
 
 -- the belongings of a part, with the collection that it has begun, or none
@@ -21,7 +21,7 @@ part_belongings h view count s begun = record (belongings_with h view count (fra
 -- are those that the collection took
 pub record CollectionHasBegun (p : ProgramText) (s : SettingsValue) (t : ℕ) (h : LeafHeapValue) (view : List Level) (count : ℕ) (frames : FramesValue) (b : Begun) (news : List ChunkValue) (v : Memory) (l : Ledger) : Type 0 where
   pub form : HeapForm h
-  pub fits : PartFits p s (before s t (part_belongings h view count frames (Some b))) v l
+  pub fits : PartFits p s (part_before s t (part_belongings h view count frames (Some b))) v l
   pub new : CanTake h.chunks news
   pub took : (k : ChunkValue) → In news k → In b.news k.number
   pub all : length b.news ≡ length news

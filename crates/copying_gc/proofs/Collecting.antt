@@ -1,5 +1,5 @@
 -- From the remaining old chunks to the collected heap.
-use Rattle.copying_gc.proofs.Common.{◌≡◌, ℕ, ◌+◌, ◌<◌, List, [], ◌++◌, length, map, filter, fold, refl, sym, ap, ◌∙◌, subst, arith, Option, Some, None, reverse, length-map, reverse-reverse, nil_from_length, ChunkValue, chunk_at, Once, HaveDistinctNumbers, AreTidy, LeafHeapValue, IsReserved, IsCurrent, IsSettled, exchanged, with_places, In, in_append_left, numbers, Distinct, Survivor, olds, with_chunks, HaveNames, before, smalls, AreNew, led_chunk, emptied, goes, stays, unreserved, reserved_of, reserved_place, named, last_place, CanName, IsVacated, keeps, leaves, laying_of, redirection}
+use Rattle.copying_gc.proofs.Common.{◌≡◌, ℕ, ◌+◌, ◌<◌, List, [], ◌++◌, length, map, filter, fold, refl, sym, ap, ◌∙◌, subst, arith, Option, Some, None, reverse, length-map, reverse-reverse, nil_from_length, ChunkValue, chunk_at, Once, HaveDistinctNumbers, AreTidy, LeafHeapValue, IsReserved, IsCurrent, IsSettled, exchanged, with_places, In, in_append_left, numbers, Distinct, Survivor, olds, with_chunks, HaveNames, nothing_laid, smalls, AreNew, led_chunk, emptied, goes, stays, unreserved, reserved_of, reserved_place, with_birth_name, last_place, CanName, IsVacated, keeps, leaves, laying_of, redirection}
 use Rattle.address_laws.proofs.Numbers as nums
 use Rattle.copying_gc.proofs.NewNumbers as new_numbers
 use Rattle.copying_gc.proofs.NewNumbers.{Within, within_at}
@@ -25,7 +25,7 @@ module _ (h g : List ChunkValue) (ss : List Survivor) (news : List ChunkValue) (
   laid_numbers = ap numbers is ∙ nums.numbers_of_map (led_chunk (redirection h ss (reverse news))) (λ k. refl) (laying_of h ss (reverse news)).laid
 
   laid_parts : numbers (laying_of h ss (reverse news)).laid ++ numbers (laying_of h ss (reverse news)).spare ≡ numbers (reverse news)
-  laid_parts = new_numbers.laid_numbers (before (reverse news)) h (smalls h (olds ss))
+  laid_parts = new_numbers.laid_numbers (nothing_laid (reverse news)) h (smalls h (olds ss))
 
   laid_once : Distinct (numbers laid)
   laid_once = subst Distinct (sym laid_numbers) (nums.distinct_left (numbers (laying_of h ss (reverse news)).laid) (numbers (laying_of h ss (reverse news)).spare) (subst Distinct (sym laid_parts) once_news))
@@ -68,11 +68,11 @@ module _ (h g : List ChunkValue) (ss : List Survivor) (news : List ChunkValue) (
   pub can_name : CanName (laid ++ (filter stays (unreserved g r) ++ reserved_of g r)) ss
   can_name = subst (λ (ks : List ChunkValue). CanName ks ss) (sym now_is) (naming.ready h ss (redirection h ss (reverse news)) r laid tidy once_h once names laid_apart laid_once within (none_before r reserved_is (none_at g r reserved)))
 
-  pub named_is : fold named (laid ++ (filter stays (unreserved g r) ++ reserved_of g r)) ss ≡ laid ++ (map (led_chunk (redirection h ss (reverse news))) (filter (keeps ss) (unreserved h r)) ++ reserved_of h r)
-  named_is = ap (λ (ks : List ChunkValue). fold named ks ss) now_is ∙ naming.named_is_goal h ss (redirection h ss (reverse news)) r laid tidy once_h once names laid_apart laid_once within (none_before r reserved_is (none_at g r reserved))
+  pub named_is : fold with_birth_name (laid ++ (filter stays (unreserved g r) ++ reserved_of g r)) ss ≡ laid ++ (map (led_chunk (redirection h ss (reverse news))) (filter (keeps ss) (unreserved h r)) ++ reserved_of h r)
+  named_is = ap (λ (ks : List ChunkValue). fold with_birth_name ks ss) now_is ∙ naming.named_is_goal h ss (redirection h ss (reverse news)) r laid tidy once_h once names laid_apart laid_once within (none_before r reserved_is (none_at g r reserved))
 
   pub small_last : IsCurrent laid (last_place laid)
-  small_last = new_numbers.current_last laid (subst new_numbers.AreSmall (sym is) (new_numbers.small_of_map (led_chunk (redirection h ss (reverse news))) (λ k. refl) (laying_of h ss (reverse news)).laid (new_numbers.laid_small (before (reverse news)) h (smalls h (olds ss)) tt (new_numbers.new_reverse news new))))
+  small_last = new_numbers.current_last laid (subst new_numbers.AreSmall (sym is) (new_numbers.small_of_map (led_chunk (redirection h ss (reverse news))) (λ k. refl) (laying_of h ss (reverse news)).laid (new_numbers.laid_small (nothing_laid (reverse news)) h (smalls h (olds ss)) tt (new_numbers.new_reverse news new))))
 
   pub kept_count : length (filter stays (unreserved g r)) ≡ length (map (led_chunk (redirection h ss (reverse news))) (filter (keeps ss) (unreserved h r)))
   kept_count =
@@ -80,7 +80,7 @@ module _ (h g : List ChunkValue) (ss : List Survivor) (news : List ChunkValue) (
       ∙ (length-map (filter (keeps ss) (unreserved h r)) (marked_chunk ss (redirection h ss (reverse news))) ∙ sym (length-map (filter (keeps ss) (unreserved h r)) (led_chunk (redirection h ss (reverse news)))))
 
   -- if no chunk stays, nothing is named
-  pub none_named : filter stays (unreserved g r) ≡ [] → fold named (laid ++ (filter stays (unreserved g r) ++ reserved_of g r)) ss ≡ laid ++ (filter stays (unreserved g r) ++ reserved_of g r)
+  pub none_named : filter stays (unreserved g r) ≡ [] → fold with_birth_name (laid ++ (filter stays (unreserved g r) ++ reserved_of g r)) ss ≡ laid ++ (filter stays (unreserved g r) ++ reserved_of g r)
   none_named e =
       let none : map (led_chunk (redirection h ss (reverse news))) (filter (keeps ss) (unreserved h r)) ≡ [] = nil_from_length _ (sym kept_count ∙ ap (λ (xs : List ChunkValue). length xs) e) in
       named_is ∙ (ap (λ (xs : List ChunkValue). laid ++ (xs ++ reserved_of h r)) (none ∙ sym e) ∙ ap (λ (xs : List ChunkValue). laid ++ (filter stays (unreserved g r) ++ xs)) (sym reserved_is))
@@ -91,15 +91,15 @@ module _ (h g : List ChunkValue) (ss : List Survivor) (news : List ChunkValue) (
     apart = nums.distinct_apart _ (naming.goal_once h ss (redirection h ss (reverse news)) r laid tidy once_h once names laid_apart laid_once within (none_before r reserved_is (none_at g r reserved)));
   }
 
-  pub settled_now : (E M N : LeafHeapValue) → E.chunks ≡ laid ++ (filter stays (unreserved g r) ++ reserved_of g r) → M ≡ with_chunks E (fold named E.chunks ss) → N ≡ record M { since = 0 } → IsSettled N.chunks
-  settled_now E M N e m n = subst IsSettled (sym (ap (λ (x : LeafHeapValue). x.chunks) n ∙ (ap (λ (x : LeafHeapValue). x.chunks) m ∙ (ap (λ (ks : List ChunkValue). fold named ks ss) e ∙ named_is)))) settled
+  pub settled_now : (E M N : LeafHeapValue) → E.chunks ≡ laid ++ (filter stays (unreserved g r) ++ reserved_of g r) → M ≡ with_chunks E (fold with_birth_name E.chunks ss) → N ≡ record M { since = 0 } → IsSettled N.chunks
+  settled_now E M N e m n = subst IsSettled (sym (ap (λ (x : LeafHeapValue). x.chunks) n ∙ (ap (λ (x : LeafHeapValue). x.chunks) m ∙ (ap (λ (ks : List ChunkValue). fold with_birth_name ks ss) e ∙ named_is)))) settled
 
   -- ---- the heap, field by field
 
   module _ (H : LeafHeapValue) (r_is : r ≡ H.reserved) where
     pub heap_is : H.chunks ≡ h → (E M N : LeafHeapValue) (G : LeafHeapValue)
         → E ≡ with_places (exchanged G (laid ++ (filter stays (unreserved g r) ++ reserved_of g r)) (last_place laid) (reserved_place (length laid + length (filter stays (unreserved g r))) r)) E.slots E.spare
-        → M ≡ with_chunks E (fold named E.chunks ss) → N ≡ record M { since = 0 }
+        → M ≡ with_chunks E (fold with_birth_name E.chunks ss) → N ≡ record M { since = 0 }
         → N ≡ with_places (record H {
           chunks = map (led_chunk (redirection h ss (reverse news))) (laying_of h ss (reverse news)).laid ++ (map (led_chunk (redirection h ss (reverse news))) (filter (keeps ss) (unreserved h H.reserved)) ++ reserved_of h H.reserved);
           current = last_place (map (led_chunk (redirection h ss (reverse news))) (laying_of h ss (reverse news)).laid);
@@ -107,7 +107,7 @@ module _ (h g : List ChunkValue) (ss : List Survivor) (news : List ChunkValue) (
           since = 0;
         }) N.slots N.spare
     heap_is h_is E M N G e m n =
-        let chunks = ap (λ (x : LeafHeapValue). x.chunks) n ∙ (ap (λ (x : LeafHeapValue). x.chunks) m ∙ (ap (λ (x : LeafHeapValue). fold named x.chunks ss) e ∙ (named_is
+        let chunks = ap (λ (x : LeafHeapValue). x.chunks) n ∙ (ap (λ (x : LeafHeapValue). x.chunks) m ∙ (ap (λ (x : LeafHeapValue). fold with_birth_name x.chunks ss) e ∙ (named_is
         ∙ (ap (λ (o : Option ℕ). laid ++ (map (led_chunk (redirection h ss (reverse news))) (filter (keeps ss) (unreserved h o)) ++ reserved_of h o)) r_is
         ∙ ap (λ (ks : List ChunkValue). ks ++ (map (led_chunk (redirection h ss (reverse news))) (filter (keeps ss) (unreserved h H.reserved)) ++ reserved_of h H.reserved)) is)))) in
         let current = ap (λ (x : LeafHeapValue). x.current) n ∙ (ap (λ (x : LeafHeapValue). x.current) m ∙ (ap (λ (x : LeafHeapValue). x.current) e ∙ ap last_place is)) in

@@ -1,5 +1,5 @@
 -- What a search finds is what survives.
-use Rattle.copying_gc.proofs.Common.{◌≡◌, ℕ, suc, ◌+◌, ◌<◌, ◌≤◌, List, [], ◌∷◌, ◌++◌, length, get_or, take, fold, refl, sym, ap, ◌∙◌, subst, arith, inl, inr, Option, Some, None, Contains, ◌↔◌, length-append, All, map, append_assoc, append-nil, take_more, take_all, get_or_append_left, take-append-le, fold-append, Addr, Birth, Cell, Born, IsBorn, IsObject, ChunkValue, cell_of, IsClosed, HasObjectAt, IsSoundReference, RefersTo, Once, once_push, In, in_append_left, in_append_right, in_append_cases, contains_from_in, in_from_contains, all_from, in_read, read_in, reached_within, CallFrame, Survivor, olds, old_of, IsSurvivor, Starts, CollectorValue, found_in, all_found, visited, visited_at, birth_in, IsTarget, frame_references, as_reference, with_chunks}
+use Rattle.copying_gc.proofs.Common.{◌≡◌, ℕ, suc, ◌+◌, ◌<◌, ◌≤◌, List, [], ◌∷◌, ◌++◌, length, get_or, take, fold, refl, sym, ap, ◌∙◌, subst, arith, inl, inr, Option, Some, None, Contains, ◌↔◌, length-append, All, map, append_assoc, append-nil, take_more, take_all, get_or_append_left, take-append-le, fold-append, Addr, Birth, Cell, Born, IsBorn, IsObject, ChunkValue, cell_of, IsClosed, HasObjectAt, IsSoundReference, RefersTo, Once, once_push, In, in_append_left, in_append_right, in_append_cases, contains_from_in, in_from_contains, all_from, in_read, read_in, reached_within, CallFrame, Survivor, olds, old_of, IsSurvivor, Starts, CollectorValue, found_in, all_found, visited_reference, visited_at, birth_in, IsTarget, frame_references, as_reference, with_chunks}
 use Rattle.object_layout.proofs.ChunkLaws as laws
 use Rattle.address_laws.proofs.Puts as puts
 use Rattle.copying_gc.proofs.FoundLemmas as marks
@@ -101,7 +101,7 @@ module _ (h : List ChunkValue) (from : List (Option Addr)) where
     visit_at None e = visit_known e
     visit_at (Some b) e = visit_found b e
 
-  pub visit_one : (s : CollectorValue) → Discovered s → (r : Option Addr) → ((a : Addr) → r ≡ Some a → HasObjectAt h a → IsSurvivor h from a) → Visits s (r ∷ []) (visited s r)
+  pub visit_one : (s : CollectorValue) → Discovered s → (r : Option Addr) → ((a : Addr) → r ≡ Some a → HasObjectAt h a → IsSurvivor h from a) → Visits s (r ∷ []) (visited_reference s r)
   visit_one s d None kept =
       record {
         discovered = d;
@@ -125,11 +125,11 @@ module _ (h : List ChunkValue) (from : List (Option Addr)) where
       }
 
   -- each of a list of references is followed
-  pub visit_all : (s : CollectorValue) → Discovered s → (rs : List (Option Addr)) → ((a : Addr) → In rs (Some a) → HasObjectAt h a → IsSurvivor h from a) → Visits s rs (fold visited s rs)
+  pub visit_all : (s : CollectorValue) → Discovered s → (rs : List (Option Addr)) → ((a : Addr) → In rs (Some a) → HasObjectAt h a → IsSurvivor h from a) → Visits s rs (fold visited_reference s rs)
   visit_all s d [] kept = record { discovered = d; grows = stays s d; covers = λ a i l. absurd i }
   visit_all s d (r ∷ rs) kept =
       let v = visit_one s d r (λ a e l. kept a (inl e) l) in
-      visits_then s (visited s r) (fold visited s (r ∷ rs)) r rs v (visit_all (visited s r) v.discovered rs (λ a i l. kept a (inr i) l))
+      visits_then s (visited_reference s r) (fold visited_reference s (r ∷ rs)) r rs v (visit_all (visited_reference s r) v.discovered rs (λ a i l. kept a (inr i) l))
 
   pub discovered_none : (b : CollectorValue) → b.heap.chunks ≡ h → b.found ≡ [] → Discovered b
   discovered_none b e n = record {
@@ -180,11 +180,11 @@ module _ (h : List ChunkValue) (from : List (Option Addr)) where
     same_refs = ap (λ (k : List ChunkValue). (cell_of k x.old).refs) g.discovered.marked ∙ marks.all_found_refs h (olds s.found) x.old
 
     -- the next one's references were followed
-    pub going_more : Going (fold visited s (cell_of s.heap.chunks x.old).refs) (n + 1)
+    pub going_more : Going (fold visited_reference s (cell_of s.heap.chunks x.old).refs) (n + 1)
     going_more =
         let v = visit_all s g.discovered (cell_of s.heap.chunks x.old).refs
         (λ a i live. let w = g.discovered.kept x.old next_in in (suc w.0, (x.old, w.1, (next_live, live, contains_from_in (cell_of h x.old).refs (Some a) (subst (λ (rs : List (Option Addr)). In rs (Some a)) same_refs i))))) in
-        let t : CollectorValue = fold visited s (cell_of s.heap.chunks x.old).refs in
+        let t : CollectorValue = fold visited_reference s (cell_of s.heap.chunks x.old).refs in
         let len : length t.found ≡ length s.found + length v.grows.0 = ap length v.grows.1 ∙ length-append s.found v.grows.0 in
         let front : take n t.found ≡ take n s.found = ap (take n) v.grows.1 ∙ take-append-le n s.found v.grows.0 g.within in
         let here : get_or t.found n x ≡ x = ap (λ (xs : List Survivor). get_or xs n x) v.grows.1 ∙ (get_or_append_left s.found v.grows.0 x n l ∙ sym e) in
@@ -230,15 +230,15 @@ module _ (b : CollectorValue) (none : b.found ≡ []) (fs : List CallFrame) (roo
   pub frames_targets : All (IsTarget b.heap.chunks) (frame_references fs)
   frames_targets = all_from (IsTarget b.heap.chunks) (frame_references fs) (λ r i. marks.sound_target b.heap.chunks r (read_in (IsSoundReference b.heap.chunks) (frame_references fs ++ map as_reference roots) r (in_append_left (frame_references fs) (map as_reference roots) r i) sound))
 
-  pub roots_targets : (s : CollectorValue) → s ≡ fold visited b (frame_references fs) → All (IsTarget s.heap.chunks) (map as_reference roots)
+  pub roots_targets : (s : CollectorValue) → s ≡ fold visited_reference b (frame_references fs) → All (IsTarget s.heap.chunks) (map as_reference roots)
   roots_targets s e =
       marks.fold_all_targets b (frame_references fs) s.heap.chunks (ap (λ (t : CollectorValue). t.heap.chunks) e) (map as_reference roots)
       (all_from (IsTarget b.heap.chunks) (map as_reference roots) (λ r i. marks.sound_target b.heap.chunks r (read_in (IsSoundReference b.heap.chunks) (frame_references fs ++ map as_reference roots) r (in_append_right (frame_references fs) (map as_reference roots) r i) sound)))
 
-  pub begun : (s t : CollectorValue) → s ≡ fold visited b (frame_references fs) → t ≡ fold visited s (map as_reference roots) → Going b.heap.chunks (frame_references fs ++ map as_reference roots) t 0
+  pub begun : (s t : CollectorValue) → s ≡ fold visited_reference b (frame_references fs) → t ≡ fold visited_reference s (map as_reference roots) → Going b.heap.chunks (frame_references fs ++ map as_reference roots) t 0
   begun s t e f =
       let from = frame_references fs ++ map as_reference roots in
-      let whole : t ≡ fold visited b from = f ∙ (ap (λ (x : CollectorValue). fold visited x (map as_reference roots)) e ∙ sym (fold-append visited b (frame_references fs) (map as_reference roots))) in
+      let whole : t ≡ fold visited_reference b from = f ∙ (ap (λ (x : CollectorValue). fold visited_reference x (map as_reference roots)) e ∙ sym (fold-append visited_reference b (frame_references fs) (map as_reference roots))) in
       let v = visit_all b.heap.chunks from b (discovered_none b.heap.chunks from b refl none) from (λ a i l. (0, (l, contains_from_in from (Some a) i))) in
       subst (λ (x : CollectorValue). Going b.heap.chunks from x 0) (sym whole) (record {
         discovered = v.discovered;
@@ -259,13 +259,13 @@ searches_at : (s : CollectorValue) (a : Addr) (b : Option Birth) → Searches s 
 searches_at s a None = refl
 searches_at s a (Some b) = refl
 
-searches_one : (s : CollectorValue) (r : Option Addr) → Searches s (visited s r)
+searches_one : (s : CollectorValue) (r : Option Addr) → Searches s (visited_reference s r)
 searches_one s None = refl
 searches_one s (Some a) = searches_at s a (birth_in (cell_of s.heap.chunks a).mark)
 
-searches_all : (s : CollectorValue) (rs : List (Option Addr)) → Searches s (fold visited s rs)
+searches_all : (s : CollectorValue) (rs : List (Option Addr)) → Searches s (fold visited_reference s rs)
 searches_all s [] = refl
-searches_all s (r ∷ rs) = searches_then s (visited s r) (fold visited (visited s r) rs) (searches_one s r) (searches_all (visited s r) rs)
+searches_all s (r ∷ rs) = searches_then s (visited_reference s r) (fold visited_reference (visited_reference s r) rs) (searches_one s r) (searches_all (visited_reference s r) rs)
 
-pub searches_by : (s t : CollectorValue) (rs : List (Option Addr)) → t ≡ fold visited s rs → Searches s t
+pub searches_by : (s t : CollectorValue) (rs : List (Option Addr)) → t ≡ fold visited_reference s rs → Searches s t
 searches_by s t rs e = subst (Searches s) (sym e) (searches_all s rs)

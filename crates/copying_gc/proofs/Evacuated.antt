@@ -1,5 +1,5 @@
 -- The old heap after the survivors are copied and all references are updated.
-use Rattle.copying_gc.proofs.Common.{◌≡◌, ℕ, ◌+◌, ◌<◌, ◌≤◌, Bool, true, false, cond, List, [], ◌∷◌, ◌++◌, length, fold, refl, sym, ap, ◌∙◌, subst, arith, inl, inr, Option, Contains, ◌↔◌, All, take, drop, nat_le, IsPermutation, take_all, drop_all, append-nil, sum_by, sum_by-cons, IsPermutation-map, IsPermutation-sym, Contains-permutation, sum_by-IsPermutation, Addr, Cell, Moved, IsObject, size_of, with_mark, ChunkValue, cell_of, IsClosed, IsSoundReference, addr_cases, Once, is_same, same_address, In, in_from_contains, contains_from_in, AreAlike, Survivor, IsSurvivor, olds, old_of, HaveNames, all_found, found_in, before, is_small, smalls, relocations, AreNew, laid_at, CollectorValue, copied, copied_one, followed_ref, followed_large, redirected, led_cell, IsVacated}
+use Rattle.copying_gc.proofs.Common.{◌≡◌, ℕ, ◌+◌, ◌<◌, ◌≤◌, Bool, true, false, cond, List, [], ◌∷◌, ◌++◌, length, fold, refl, sym, ap, ◌∙◌, subst, arith, inl, inr, Option, Contains, ◌↔◌, All, take, drop, nat_le, IsPermutation, take_all, drop_all, append-nil, sum_by, sum_by-cons, IsPermutation-map, IsPermutation-sym, Contains-permutation, sum_by-IsPermutation, Addr, Cell, Moved, IsObject, size_of, with_mark, ChunkValue, cell_of, IsClosed, IsSoundReference, addr_cases, Once, is_same, same_address, In, in_from_contains, contains_from_in, AreAlike, Survivor, IsSurvivor, olds, old_of, HaveNames, all_found, found_in, nothing_laid, is_moved, smalls, relocations, AreNew, laid_at, CollectorValue, copied, copied_one, followed_ref, followed_large, redirected, led_cell, IsVacated}
 use Rattle.copying_gc.proofs.Moves as moves
 use Rattle.copying_gc.proofs.Larges as larges
 use Rattle.copying_gc.proofs.Leading as leading
@@ -14,14 +14,14 @@ alike_step k s false = larges.alike_itself k.heap.chunks
 
 alike_copied : (k : CollectorValue) (ss : List Survivor) → AreAlike k.heap.chunks (fold copied k ss).heap.chunks
 alike_copied k [] = larges.alike_itself k.heap.chunks
-alike_copied k (s ∷ ss) = larges.alike_then k.heap.chunks (copied k s).heap.chunks (fold copied (copied k s) ss).heap.chunks (alike_step k s (is_small k.heap.chunks s.old)) (alike_copied (copied k s) ss)
+alike_copied k (s ∷ ss) = larges.alike_then k.heap.chunks (copied k s).heap.chunks (fold copied (copied k s) ss).heap.chunks (alike_step k s (is_moved k.heap.chunks s.old)) (alike_copied (copied k s) ss)
 
 module _ (h : List ChunkValue) (from : List (Option Addr)) (closed : IsClosed h) (sound : All (IsSoundReference h) from)
     (ss : List Survivor) (found : List Addr) (spare : List ChunkValue)
     (kept : (a : Addr) → Contains (olds ss) a ↔ IsSurvivor h from a) (once : Once (olds ss))
     (all : (a : Addr) → In (olds ss) a → In found a) (back : (a : Addr) → In found a → In (olds ss) a)
     (names : HaveNames h ss)
-    (k : CollectorValue) (k_old : k.heap.chunks ≡ all_found h found) (k_laying : k.laying ≡ before spare) (k_moved : k.moved ≡ [])
+    (k : CollectorValue) (k_old : k.heap.chunks ≡ all_found h found) (k_laying : k.laying ≡ nothing_laid spare) (k_moved : k.moved ≡ [])
     (new : AreNew spare) (t : CollectorValue) (is : t ≡ fold copied k ss) where
   alike : AreAlike h (fold followed_large t.heap.chunks ss)
   alike =
@@ -29,13 +29,13 @@ module _ (h : List ChunkValue) (from : List (Option Addr)) (closed : IsClosed h)
       (subst (λ (z : CollectorValue). AreAlike h z.heap.chunks) (sym is) (larges.alike_then h k.heap.chunks (fold copied k ss).heap.chunks (subst (AreAlike h) (sym k_old) (alike_found h found)) (alike_copied k ss)))
       (larges.alike_larges t.heap.chunks ss)
 
-  large : (a : Addr) → Contains (olds ss) a → is_small h a ≡ false → cell_of (fold followed_large t.heap.chunks ss) a ≡ led_cell (redirected (relocations (before spare) h (smalls h (olds ss)))) (with_mark (cell_of h a) (Moved a))
+  large : (a : Addr) → Contains (olds ss) a → is_moved h a ≡ false → cell_of (fold followed_large t.heap.chunks ss) a ≡ led_cell (redirected (relocations (nothing_laid spare) h (smalls h (olds ss)))) (with_mark (cell_of h a) (Moved a))
   large a c s =
       let i = in_from_contains (olds ss) a c in
       let marked = leading.large_marked h from closed sound ss found spare kept once all names k k_old k_laying k_moved new t is a i s in
       let object : IsObject (cell_of t.heap.chunks a).mark = subst (λ (d : Cell). IsObject d.mark) (sym marked) tt in
-      let small : is_small t.heap.chunks a ≡ false = ap (λ (d : Cell). nat_le (size_of d) 1024) marked ∙ s in
-      let refs = leading.refs_same t.heap.chunks (relocations (before spare) h (smalls h (olds ss))) (cell_of h a).refs (leading.leads_refs h from closed sound ss found spare kept once all names k k_old k_laying k_moved new t is a i) in
+      let small : is_moved t.heap.chunks a ≡ false = ap (λ (d : Cell). nat_le (size_of d) 1024) marked ∙ s in
+      let refs = leading.refs_same t.heap.chunks (relocations (nothing_laid spare) h (smalls h (olds ss))) (cell_of h a).refs (leading.leads_refs h from closed sound ss found spare kept once all names k k_old k_laying k_moved new t is a i) in
       larges.larges_led t.heap.chunks ss (followed_ref t.heap.chunks) once (λ r. refl) a i object small
       ∙ (ap (led_cell (followed_ref t.heap.chunks)) marked
       ∙ ap (λ (rs : List (Option Addr)). let d : Cell = record (with_mark (cell_of h a) (Moved a)) { refs = rs } in d) refs)
@@ -46,7 +46,7 @@ module _ (h : List ChunkValue) (from : List (Option Addr)) (closed : IsClosed h)
       larges.larges_other t.heap.chunks ss a out
       ∙ leading.dead_stays h from closed sound ss found spare kept once all names k k_old k_laying k_moved new t is a out (back a)
 
-  pub vacated : IsVacated h (fold followed_large t.heap.chunks ss) (olds ss) (redirected (relocations (before spare) h (smalls h (olds ss))))
+  pub vacated : IsVacated h (fold followed_large t.heap.chunks ss) (olds ss) (redirected (relocations (nothing_laid spare) h (smalls h (olds ss))))
   vacated = record { alike = alike; large = large; others = others }
 
 -- ---- a sort keeps the survivors, each once

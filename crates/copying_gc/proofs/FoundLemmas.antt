@@ -1,5 +1,5 @@
 -- A heap with some objects marked as found.
-use Rattle.copying_gc.proofs.Common.{◌≡◌, ℕ, List, [], ◌∷◌, ◌++◌, length, refl, sym, ap, ◌∙◌, subst, arith, inl, inr, Option, Some, None, get_or, All, fold, Addr, Birth, Cell, Mark, Born, Moved, Hole, IsBorn, IsObject, with_mark, ChunkValue, cell_of, place_in, place_of, HasObjectAt, IsSoundReference, In, addr_cases, length-put, place_of-put, CollectorValue, found_in, all_found, birth_in, visited, visited_at, IsTarget}
+use Rattle.copying_gc.proofs.Common.{◌≡◌, ℕ, List, [], ◌∷◌, ◌++◌, length, refl, sym, ap, ◌∙◌, subst, arith, inl, inr, Option, Some, None, get_or, All, fold, Addr, Birth, Cell, Mark, Born, Moved, Hole, IsBorn, IsObject, with_mark, ChunkValue, cell_of, place_in, place_of, HasObjectAt, IsSoundReference, In, addr_cases, length-put, place_of-put, CollectorValue, found_in, all_found, birth_in, visited_reference, visited_at, IsTarget}
 use Rattle.object_layout.proofs.ChunkLaws as laws
 use Rattle.address_laws.proofs.Puts as puts
 
@@ -72,7 +72,7 @@ at_targets : (s : CollectorValue) (x : Addr) (b : Option Birth) (r : Option Addr
 at_targets s x None r t = t
 at_targets s x (Some b) r t = target_stays s.heap.chunks x r t
 
-pub visited_targets : (s : CollectorValue) (v : Option Addr) (r : Option Addr) → IsTarget s.heap.chunks r → IsTarget (visited s v).heap.chunks r
+pub visited_targets : (s : CollectorValue) (v : Option Addr) (r : Option Addr) → IsTarget s.heap.chunks r → IsTarget (visited_reference s v).heap.chunks r
 visited_targets s None r t = t
 visited_targets s (Some x) r t = at_targets s x (birth_in (cell_of s.heap.chunks x).mark) r t
 
@@ -94,7 +94,7 @@ born_live m b e = subst IsBorn (sym e) tt
 pub visit_live : (h : List ChunkValue) (a : Addr) (b : Birth) (r : Option Birth) → r ≡ birth_in (cell_of h a).mark → r ≡ Some b → HasObjectAt h a
 visit_live h a b r e f = born_live (cell_of h a).mark b (birth_live (cell_of h a).mark b (sym e ∙ f))
 
-pub visited_all_targets : (s : CollectorValue) (v : Option Addr) (k : List ChunkValue) → k ≡ (visited s v).heap.chunks → (rs : List (Option Addr)) → All (IsTarget s.heap.chunks) rs → All (IsTarget k) rs
+pub visited_all_targets : (s : CollectorValue) (v : Option Addr) (k : List ChunkValue) → k ≡ (visited_reference s v).heap.chunks → (rs : List (Option Addr)) → All (IsTarget s.heap.chunks) rs → All (IsTarget k) rs
 visited_all_targets s v k e rs all = λ i r l. subst (λ (h : List ChunkValue). IsTarget h (get_or rs i r)) (sym e) (visited_targets s v (get_or rs i r) (all i r l))
 
 at_place : (s : CollectorValue) (x : Addr) (b : Option Birth) (n : ℕ) → place_in (visited_at s x b).heap.chunks n ≡ place_in s.heap.chunks n
@@ -102,7 +102,7 @@ at_place s x None n = refl
 at_place s x (Some b) n = laws.place_in-put s.heap.chunks x (with_mark (cell_of s.heap.chunks x) (Moved x)) n
 
 -- no chunk moves
-pub visited_place : (s : CollectorValue) (v : Option Addr) (n : ℕ) → place_in (visited s v).heap.chunks n ≡ place_in s.heap.chunks n
+pub visited_place : (s : CollectorValue) (v : Option Addr) (n : ℕ) → place_in (visited_reference s v).heap.chunks n ≡ place_in s.heap.chunks n
 visited_place s None n = refl
 visited_place s (Some x) n = at_place s x (birth_in (cell_of s.heap.chunks x).mark) n
 
@@ -110,7 +110,7 @@ at_refs : (s : CollectorValue) (x : Addr) (b : Option Birth) (a : Addr) → (cel
 at_refs s x None a = refl
 at_refs s x (Some b) a = found_refs s.heap.chunks x a
 
-pub visited_refs : (s : CollectorValue) (v : Option Addr) (a : Addr) → (cell_of (visited s v).heap.chunks a).refs ≡ (cell_of s.heap.chunks a).refs
+pub visited_refs : (s : CollectorValue) (v : Option Addr) (a : Addr) → (cell_of (visited_reference s v).heap.chunks a).refs ≡ (cell_of s.heap.chunks a).refs
 visited_refs s None a = refl
 visited_refs s (Some x) a = at_refs s x (birth_in (cell_of s.heap.chunks x).mark) a
 
@@ -118,15 +118,15 @@ at_object : (s : CollectorValue) (x : Addr) (b : Option Birth) (a : Addr) → Is
 at_object s x None a o = o
 at_object s x (Some b) a o = puts.mark_object s.heap.chunks x (Moved x) tt a o
 
-pub visited_object : (s : CollectorValue) (v : Option Addr) (a : Addr) → IsObject (cell_of s.heap.chunks a).mark → IsObject (cell_of (visited s v).heap.chunks a).mark
+pub visited_object : (s : CollectorValue) (v : Option Addr) (a : Addr) → IsObject (cell_of s.heap.chunks a).mark → IsObject (cell_of (visited_reference s v).heap.chunks a).mark
 visited_object s None a o = o
 visited_object s (Some x) a o = at_object s x (birth_in (cell_of s.heap.chunks x).mark) a o
 
-fold_targets : (s : CollectorValue) (vs : List (Option Addr)) (r : Option Addr) → IsTarget s.heap.chunks r → IsTarget (fold visited s vs).heap.chunks r
+fold_targets : (s : CollectorValue) (vs : List (Option Addr)) (r : Option Addr) → IsTarget s.heap.chunks r → IsTarget (fold visited_reference s vs).heap.chunks r
 fold_targets s [] r t = t
-fold_targets s (v ∷ vs) r t = fold_targets (visited s v) vs r (visited_targets s v r t)
+fold_targets s (v ∷ vs) r t = fold_targets (visited_reference s v) vs r (visited_targets s v r t)
 
-pub fold_all_targets : (s : CollectorValue) (vs : List (Option Addr)) (k : List ChunkValue) → k ≡ (fold visited s vs).heap.chunks → (rs : List (Option Addr)) → All (IsTarget s.heap.chunks) rs → All (IsTarget k) rs
+pub fold_all_targets : (s : CollectorValue) (vs : List (Option Addr)) (k : List ChunkValue) → k ≡ (fold visited_reference s vs).heap.chunks → (rs : List (Option Addr)) → All (IsTarget s.heap.chunks) rs → All (IsTarget k) rs
 fold_all_targets s vs k e rs all = λ i r l. subst (λ (h : List ChunkValue). IsTarget h (get_or rs i r)) (sym e) (fold_targets s vs (get_or rs i r) (all i r l))
 
 pub all_found_object : (h : List ChunkValue) (xs : List Addr) (a : Addr) → IsObject (cell_of h a).mark → IsObject (cell_of (all_found h xs) a).mark

@@ -1,5 +1,5 @@
 -- The last of the chunks laid so far.
-use Rattle.copying_gc.proofs.Common.{◌≡◌, suc, ◌-◌, ◌<◌, ◌≤◌, List, [], ◌∷◌, ◌++◌, length, get_or, set, refl, sym, ap, ◌∙◌, arith, Addr, Cell, size_of, ChunkValue, words_in, room_in, placed, next_place}
+use Rattle.copying_gc.proofs.Common.{◌≡◌, suc, ◌-◌, ◌<◌, ◌≤◌, List, [], ◌∷◌, ◌++◌, length, get_or, set, refl, sym, ap, ◌∙◌, arith, Addr, Cell, size_of, ChunkValue, words_in, room_in, placed_behind, next_place}
 
 module _ (ks : List ChunkValue) (d : ChunkValue) (some : 0 < length ks) where
   room_in-last : room_in ks ≡ (get_or ks (length ks - 1) d).size - words_in (get_or ks (length ks - 1) d).cells
@@ -22,10 +22,10 @@ module _ (ks : List ChunkValue) (d : ChunkValue) (some : 0 < length ks) where
           let e : suc (suc (length xs)) - 1 ≡ suc (suc (length xs) - 1) = omega arith in
           rw e (last_place (x ∷ xs) (omega arith))
 
-  placed-last : (c : Cell) → placed ks c ≡ set ks (length ks - 1) (record (get_or ks (length ks - 1) d) { cells = (get_or ks (length ks - 1) d).cells ++ c ∷ [] })
+  placed-last : (c : Cell) → placed_behind ks c ≡ set ks (length ks - 1) (record (get_or ks (length ks - 1) d) { cells = (get_or ks (length ks - 1) d).cells ++ c ∷ [] })
   placed-last c = last_placed ks some
     where
-      last_placed : (xs : List ChunkValue) → 0 < length xs → placed xs c ≡ set xs (length xs - 1) (record (get_or xs (length xs - 1) d) { cells = (get_or xs (length xs - 1) d).cells ++ c ∷ [] })
+      last_placed : (xs : List ChunkValue) → 0 < length xs → placed_behind xs c ≡ set xs (length xs - 1) (record (get_or xs (length xs - 1) d) { cells = (get_or xs (length xs - 1) d).cells ++ c ∷ [] })
       last_placed [] l = absurd (omega arith)
       last_placed (k ∷ []) l = refl
       last_placed (k ∷ (x ∷ xs)) l =
@@ -40,7 +40,7 @@ module _ (ks : List ChunkValue) (k : ChunkValue) (some : 0 < length ks) (read : 
   pub read_place : next_place ks ≡ record { chunk = k.number; offset = words_in k.cells }
   read_place = next_place-last ks k some ∙ ap (λ (x : ChunkValue). let r : Addr = record { chunk = x.number; offset = words_in x.cells } in r) (sym read)
 
-  pub read_placed : (c : Cell) → placed ks c ≡ set ks (length ks - 1) (record k { cells = k.cells ++ c ∷ [] })
+  pub read_placed : (c : Cell) → placed_behind ks c ≡ set ks (length ks - 1) (record k { cells = k.cells ++ c ∷ [] })
   read_placed c = placed-last ks k some c ∙ ap (λ (x : ChunkValue). set ks (length ks - 1) (record x { cells = x.cells ++ c ∷ [] })) (sym read)
 
 -- if there is room, it is in a chunk

@@ -1,5 +1,5 @@
 -- References of the survivors, and their updates.
-use Rattle.copying_gc.proofs.Common.{◌≡◌, ℕ, suc, ◌+◌, ◌*◌, ◌/◌, ◌<◌, ◌≤◌, Bool, true, false, cond, List, [], ◌∷◌, ◌++◌, length, get_or, map, fold, refl, sym, ap, ◌∙◌, subst, arith, inl, inr, Option, Some, None, Contains, ◌↔◌, All, nat_lt, unwrap_or, cases_lt, lt-ltb, le-ltb, false≢true, All-cons, All-head, All-tail, Addr, Cell, Moved, IsObject, moved_to, size_of, with_mark, ChunkValue, cell_of, place_of, IsClosed, HasObjectAt, IsSoundReference, Once, In, in_from_contains, contains_from_in, in_map, in_read, Survivor, IsSurvivor, olds, old_of, HaveNames, all_found, IsTarget, Laying, is_small, smalls, laid_all, laid_one, opened, open_next, placed, room_in, relocations, before, AreNew, HaveRoom, CollectorValue, copied, copied_one, IsReady, followed, followed_ref, new_address, redirected, led_cell, led_chunk, HasTargets}
+use Rattle.copying_gc.proofs.Common.{◌≡◌, ℕ, suc, ◌+◌, ◌*◌, ◌/◌, ◌<◌, ◌≤◌, Bool, true, false, cond, List, [], ◌∷◌, ◌++◌, length, get_or, map, fold, refl, sym, ap, ◌∙◌, subst, arith, inl, inr, Option, Some, None, Contains, ◌↔◌, All, nat_lt, unwrap_or, cases_lt, lt-ltb, le-ltb, false≢true, All-cons, All-head, All-tail, Addr, Cell, Moved, IsObject, moved_to, size_of, with_mark, ChunkValue, cell_of, place_of, IsClosed, HasObjectAt, IsSoundReference, Once, In, in_from_contains, contains_from_in, in_map, in_read, Survivor, IsSurvivor, olds, old_of, HaveNames, all_found, IsTarget, Laying, is_moved, smalls, laid_all, laid_one, opened, open_next, placed_behind, room_in, relocations, nothing_laid, AreNew, HaveRoom, CollectorValue, copied, copied_one, IsReady, followed, followed_ref, new_address, redirected, led_cell, led_chunk, HasTargets}
 use Rattle.object_layout.proofs.ChunkLaws as laws
 use Rattle.copying_gc.specs.Laid.{small_words}
 use Rattle.address_laws.proofs.Puts as puts
@@ -25,7 +25,7 @@ module _ (Q : Cell → Type 0) where
   all_push [] c a q = All-cons Q c [] q a
   all_push (x ∷ cs) c a q = All-cons Q x (cs ++ c ∷ []) (All-head Q x cs a) (all_push cs c (All-tail Q x cs a) q)
 
-  each_placed : (ks : List ChunkValue) (c : Cell) → Each Q ks → Q c → Each Q (placed ks c)
+  each_placed : (ks : List ChunkValue) (c : Cell) → Each Q ks → Q c → Each Q (placed_behind ks c)
   each_placed [] c e q = tt
   each_placed (k ∷ []) c e q = (all_push k.cells c e.0 q, tt)
   each_placed (k ∷ (l ∷ ks)) c e q = (e.0, each_placed (l ∷ ks) c e.1 q)
@@ -94,12 +94,12 @@ module _ (h : List ChunkValue) (from : List (Option Addr)) (closed : IsClosed h)
     (kept : (a : Addr) → Contains (olds ss) a ↔ IsSurvivor h from a) (once : Once (olds ss))
     (all : (a : Addr) → In (olds ss) a → In found a)
     (names : HaveNames h ss)
-    (k : CollectorValue) (k_old : k.heap.chunks ≡ all_found h found) (k_laying : k.laying ≡ before spare) (k_moved : k.moved ≡ [])
+    (k : CollectorValue) (k_old : k.heap.chunks ≡ all_found h found) (k_laying : k.laying ≡ nothing_laid spare) (k_moved : k.moved ≡ [])
     (new : AreNew spare) where
   pub as_were : AreAs h k.heap.chunks ss
   as_were = subst (λ (old : List ChunkValue). AreAs h old ss) (sym k_old) (moves.are_as h found ss (born h ss names))
 
-  pub can_copy : HaveRoom (before spare) h (smalls h (olds ss)) → IsReady k ss
+  pub can_copy : HaveRoom (nothing_laid spare) h (smalls h (olds ss)) → IsReady k ss
   can_copy room = moves.are_ready h k ss once as_were (subst (λ (y : Laying). HaveRoom y h (smalls h (olds ss))) (sym k_laying) room)
 
   pub lives : (a : Addr) → In (olds ss) a → HasObjectAt h a
@@ -111,7 +111,7 @@ module _ (h : List ChunkValue) (from : List (Option Addr)) (closed : IsClosed h)
   small_as : AreAs h k.heap.chunks (small_ones h ss)
   small_as s i = as_were s (moves.in_small h ss s i)
 
-  pub enough : 2 * ((small_words h + 1023) / 1024) ≤ length spare + 1 → HaveRoom (before spare) h (smalls h (olds ss))
+  pub enough : 2 * ((small_words h + 1023) / 1024) ≤ length spare + 1 → HaveRoom (nothing_laid spare) h (smalls h (olds ss))
   enough room = small_room h ss names spare once new room
 
   -- the result of the copying
@@ -119,15 +119,15 @@ module _ (h : List ChunkValue) (from : List (Option Addr)) (closed : IsClosed h)
     t_is : t ≡ fold copied_one k (small_ones h ss)
     t_is = is ∙ moves.small_alone h k ss once as_were
 
-    pub laying_is : t.laying ≡ laid_all (before spare) h (smalls h (olds ss))
+    pub laying_is : t.laying ≡ laid_all (nothing_laid spare) h (smalls h (olds ss))
     laying_is =
         ap (λ (z : CollectorValue). z.laying) t_is ∙ (moves.copied_laying h k (small_ones h ss) small_once small_as
-        ∙ (ap (λ (y : Laying). laid_all y h (olds (small_ones h ss))) k_laying ∙ ap (laid_all (before spare) h) (moves.olds_small h ss)))
+        ∙ (ap (λ (y : Laying). laid_all y h (olds (small_ones h ss))) k_laying ∙ ap (laid_all (nothing_laid spare) h) (moves.olds_small h ss)))
 
-    places_are : relocations k.laying h (olds (small_ones h ss)) ≡ relocations (before spare) h (smalls h (olds ss))
-    places_are = ap (λ (y : Laying). relocations y h (olds (small_ones h ss))) k_laying ∙ ap (relocations (before spare) h) (moves.olds_small h ss)
+    places_are : relocations k.laying h (olds (small_ones h ss)) ≡ relocations (nothing_laid spare) h (smalls h (olds ss))
+    places_are = ap (λ (y : Laying). relocations y h (olds (small_ones h ss))) k_laying ∙ ap (relocations (nothing_laid spare) h) (moves.olds_small h ss)
 
-    pub moved_is : t.moved ≡ relocations (before spare) h (smalls h (olds ss))
+    pub moved_is : t.moved ≡ relocations (nothing_laid spare) h (smalls h (olds ss))
     moved_is =
         ap (λ (z : CollectorValue). z.moved) t_is
         ∙ (moves.copied_moved h k (small_ones h ss) small_once small_as
@@ -144,7 +144,7 @@ module _ (h : List ChunkValue) (from : List (Option Addr)) (closed : IsClosed h)
         ∙ (ap (λ (old : List ChunkValue). length old) k_old ∙ marks.found_length h found))
 
     -- where the mark of a survivor leads
-    mark_leads : (a : Addr) → In (olds ss) a → moved_to (cell_of t.heap.chunks a).mark ≡ Some (new_address (relocations (before spare) h (smalls h (olds ss))) a)
+    mark_leads : (a : Addr) → In (olds ss) a → moved_to (cell_of t.heap.chunks a).mark ≡ Some (new_address (relocations (nothing_laid spare) h (smalls h (olds ss))) a)
     mark_leads a i =
         elim (puts.in_or_not (olds (small_ones h ss)) a) [
           | inl j ↦
@@ -156,11 +156,11 @@ module _ (h : List ChunkValue) (from : List (Option Addr)) (closed : IsClosed h)
               ∙ (ap (λ (c : Cell). moved_to c.mark) (moves.copied_other h k (small_ones h ss) a n)
               ∙ (ap (λ (old : List ChunkValue). moved_to (cell_of old a).mark) k_old
               ∙ (ap moved_to (moves.found_marked h found a (all a i) (laws.born_object h a (lives a i)))
-              ∙ sym (ap (λ (o : Option Addr). Some (unwrap_or o a)) (moves.new_none (before spare) h (smalls h (olds ss)) a out)))))
+              ∙ sym (ap (λ (o : Option Addr). Some (unwrap_or o a)) (moves.new_none (nothing_laid spare) h (smalls h (olds ss)) a out)))))
         ]
 
     pub leads_reference : (r : Option Addr) → IsSoundReference h r → ((a : Addr) → r ≡ Some a → HasObjectAt h a → IsSurvivor h from a)
-        → Leads t.heap.chunks (relocations (before spare) h (smalls h (olds ss))) r
+        → Leads t.heap.chunks (relocations (nothing_laid spare) h (smalls h (olds ss))) r
     leads_reference None s reach = (refl, tt)
     leads_reference (Some a) s reach = (
       elim (cases_lt (place_of h a.chunk) (length h)) [
@@ -171,35 +171,35 @@ module _ (h : List ChunkValue) (from : List (Option Addr)) (closed : IsClosed h)
         | inr l ↦
             let p = place_is a.chunk in let n = length_is in
             let out : In (smalls h (olds ss)) a → ⊥ = λ j. let z = puts.live_chunk h a (lives a (moves.in_smalls h (olds ss) a j).0) in omega arith in
-            followed_out t.heap.chunks a (omega arith) ∙ sym (ap (λ (o : Option Addr). Some (unwrap_or o a)) (moves.new_none (before spare) h (smalls h (olds ss)) a out))
+            followed_out t.heap.chunks a (omega arith) ∙ sym (ap (λ (o : Option Addr). Some (unwrap_or o a)) (moves.new_none (nothing_laid spare) h (smalls h (olds ss)) a out))
       ],
       subst (λ (z : CollectorValue). IsTarget z.heap.chunks (Some a)) (sym t_is)
           (moves.copied_target h k (small_ones h ss) (Some a) (subst (λ (old : List ChunkValue). IsTarget old (Some a)) (sym k_old) (marks.found_target h found (Some a) (marks.sound_target h (Some a) s)))),
     )
 
-    pub leads_refs : (a : Addr) → In (olds ss) a → All (Leads t.heap.chunks (relocations (before spare) h (smalls h (olds ss)))) (cell_of h a).refs
+    pub leads_refs : (a : Addr) → In (olds ss) a → All (Leads t.heap.chunks (relocations (nothing_laid spare) h (smalls h (olds ss)))) (cell_of h a).refs
     leads_refs a i =
         let w = (kept a).0 (contains_from_in (olds ss) a i) in
         λ j d l. leads_reference (get_or (cell_of h a).refs j d) (closed a (lives a i) j d l)
         (λ b e live. (suc w.0, (a, w.1, (lives a i, live, contains_from_in (cell_of h a).refs (Some b) (subst (In (cell_of h a).refs) e (in_read (cell_of h a).refs j d l))))))
 
-    pub leads_from : All (Leads t.heap.chunks (relocations (before spare) h (smalls h (olds ss)))) from
+    pub leads_from : All (Leads t.heap.chunks (relocations (nothing_laid spare) h (smalls h (olds ss)))) from
     leads_from = λ j d l. leads_reference (get_or from j d) (sound j d l)
         (λ b e live. (0, (live, contains_from_in from (Some b) (subst (In from) e (in_read from j d l)))))
 
-    pub each_leads : Each (CellLeads t.heap.chunks (relocations (before spare) h (smalls h (olds ss)))) t.laying.laid
+    pub each_leads : Each (CellLeads t.heap.chunks (relocations (nothing_laid spare) h (smalls h (olds ss)))) t.laying.laid
     each_leads =
-        subst (λ (z : Laying). Each (CellLeads t.heap.chunks (relocations (before spare) h (smalls h (olds ss)))) z.laid) (sym laying_is)
-        (each_laid (CellLeads t.heap.chunks (relocations (before spare) h (smalls h (olds ss)))) (before spare) h (smalls h (olds ss)) tt new
+        subst (λ (z : Laying). Each (CellLeads t.heap.chunks (relocations (nothing_laid spare) h (smalls h (olds ss)))) z.laid) (sym laying_is)
+        (each_laid (CellLeads t.heap.chunks (relocations (nothing_laid spare) h (smalls h (olds ss)))) (nothing_laid spare) h (smalls h (olds ss)) tt new
         (λ a i. let p = moves.in_smalls h (olds ss) a i in (laws.born_object h a (lives a p.0), leads_refs a p.0)))
 
-    pub chunks_are : map (led_chunk (followed_ref t.heap.chunks)) t.laying.laid ≡ map (led_chunk (redirected (relocations (before spare) h (smalls h (olds ss))))) (laid_all (before spare) h (smalls h (olds ss))).laid
+    pub chunks_are : map (led_chunk (followed_ref t.heap.chunks)) t.laying.laid ≡ map (led_chunk (redirected (relocations (nothing_laid spare) h (smalls h (olds ss))))) (laid_all (nothing_laid spare) h (smalls h (olds ss))).laid
     chunks_are =
-        chunks_same t.heap.chunks (relocations (before spare) h (smalls h (olds ss))) t.laying.laid each_leads
-        ∙ ap (λ (z : Laying). map (led_chunk (redirected (relocations (before spare) h (smalls h (olds ss))))) z.laid) laying_is
+        chunks_same t.heap.chunks (relocations (nothing_laid spare) h (smalls h (olds ss))) t.laying.laid each_leads
+        ∙ ap (λ (z : Laying). map (led_chunk (redirected (relocations (nothing_laid spare) h (smalls h (olds ss))))) z.laid) laying_is
 
     pub chunks_have : All (λ (c : ChunkValue). All (HasTargets t.heap.chunks) c.cells) t.laying.laid
-    chunks_have = chunks_targets t.heap.chunks (relocations (before spare) h (smalls h (olds ss))) t.laying.laid each_leads
+    chunks_have = chunks_targets t.heap.chunks (relocations (nothing_laid spare) h (smalls h (olds ss))) t.laying.laid each_leads
 
     -- the cell of a survivor, except for its mark
     pub still : (a : Addr) → (cell_of t.heap.chunks a).refs ≡ (cell_of h a).refs
@@ -215,7 +215,7 @@ module _ (h : List ChunkValue) (from : List (Option Addr)) (closed : IsClosed h)
         ∙ (ap (λ (old : List ChunkValue). with_mark (cell_of old a) (Moved a)) k_old ∙ marks.all_found_alone h found a (Moved a)))
 
     -- a large survivor is marked as moved to where it is
-    pub large_marked : (a : Addr) → In (olds ss) a → is_small h a ≡ false → cell_of t.heap.chunks a ≡ with_mark (cell_of h a) (Moved a)
+    pub large_marked : (a : Addr) → In (olds ss) a → is_moved h a ≡ false → cell_of t.heap.chunks a ≡ with_mark (cell_of h a) (Moved a)
     large_marked a i s =
         let n : In (olds (small_ones h ss)) a → ⊥ = λ j. false≢true (sym s ∙ (moves.in_smalls h (olds ss) a (subst (λ (xs : List Addr). In xs a) (moves.olds_small h ss) j)).1) in
         let same : cell_of t.heap.chunks a ≡ cell_of (all_found h found) a = ap (λ (z : CollectorValue). cell_of z.heap.chunks a) t_is ∙ (moves.copied_other h k (small_ones h ss) a n ∙ ap (λ (old : List ChunkValue). cell_of old a) k_old) in
@@ -238,5 +238,5 @@ module _ (h : List ChunkValue) (from : List (Option Addr)) (closed : IsClosed h)
         let j = in_map old_of ss s i in (
           subst (λ (z : CollectorValue). IsObject (cell_of z.heap.chunks s.old).mark) (sym t_is)
               (moves.copied_object h k (small_ones h ss) s.old (subst (λ (old : List ChunkValue). IsObject (cell_of old s.old).mark) (sym k_old) (marks.all_found_object h found s.old (laws.born_object h s.old (lives s.old j))))),
-          subst (λ (rs : List (Option Addr)). All (IsTarget t.heap.chunks) rs) (sym (still s.old)) (refs_targets t.heap.chunks (relocations (before spare) h (smalls h (olds ss))) (cell_of h s.old).refs (leads_refs s.old j)),
+          subst (λ (rs : List (Option Addr)). All (IsTarget t.heap.chunks) rs) (sym (still s.old)) (refs_targets t.heap.chunks (relocations (nothing_laid spare) h (smalls h (olds ss))) (cell_of h s.old).refs (leads_refs s.old j)),
         )

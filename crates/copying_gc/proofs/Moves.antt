@@ -1,5 +1,5 @@
 -- The result of the copying.
-use Rattle.copying_gc.proofs.Common.{◌≡◌, ℕ, Bool, true, false, cond, List, [], ◌∷◌, ◌++◌, length, filter, fold, refl, sym, ap, ◌∙◌, subst, arith, inl, inr, eqb, eqb-true, Option, Some, None, nat_le, cases_Bool, and_parts, false≢true, append_assoc, append-nil, Addr, Birth, Cell, Mark, Born, Moved, IsBorn, IsObject, moved_to, size_of, with_mark, ChunkValue, cell_of, place_of, put_object, HasObjectAt, Once, is_same, new_of, same_address, In, contains_from_in, in_from_contains, in_map, addr_cases, length-put, place_of-put, Survivor, olds, old_of, all_found, found_in, IsTarget, Laying, is_small, smalls, laid_one, laid_at, relocations, laid_all, ObjectFits, HaveRoom, CollectorValue, copied, copied_one, survivor_cell, IsReady, new_address}
+use Rattle.copying_gc.proofs.Common.{◌≡◌, ℕ, Bool, true, false, cond, List, [], ◌∷◌, ◌++◌, length, filter, fold, refl, sym, ap, ◌∙◌, subst, arith, inl, inr, eqb, eqb-true, Option, Some, None, nat_le, cases_Bool, and_parts, false≢true, append_assoc, append-nil, Addr, Birth, Cell, Mark, Born, Moved, IsBorn, IsObject, moved_to, size_of, with_mark, ChunkValue, cell_of, place_of, put_object, HasObjectAt, Once, is_same, new_of, same_address, In, contains_from_in, in_from_contains, in_map, addr_cases, length-put, place_of-put, Survivor, olds, old_of, all_found, found_in, IsTarget, Laying, is_moved, smalls, laid_one, laid_at, relocations, laid_all, ObjectFits, HaveRoom, CollectorValue, copied, copied_one, survivor_cell, IsReady, new_address}
 use Rattle.object_layout.proofs.ChunkLaws as laws
 use Rattle.address_laws.proofs.Puts as puts
 use Rattle.copying_gc.proofs.FoundLemmas as marks
@@ -23,16 +23,16 @@ new_none y h (x ∷ xs) a n = rw (addr_other x a (λ e. n (inl e))) (new_none (l
 
 -- the small ones of these
 abbrev pub small_ones : List ChunkValue → List Survivor → List Survivor
-small_ones h ss = filter (λ s. is_small h s.old) ss
+small_ones h ss = filter (λ s. is_moved h s.old) ss
 
-olds_step : (h : List ChunkValue) (s : Survivor) (ss : List Survivor) → olds (small_ones h ss) ≡ smalls h (olds ss) → (b : Bool) → is_small h s.old ≡ b →
+olds_step : (h : List ChunkValue) (s : Survivor) (ss : List Survivor) → olds (small_ones h ss) ≡ smalls h (olds ss) → (b : Bool) → is_moved h s.old ≡ b →
     olds (cond b (s ∷ small_ones h ss) (small_ones h ss)) ≡ cond b (s.old ∷ smalls h (olds ss)) (smalls h (olds ss))
 olds_step h s ss e true is = ap (λ (xs : List Addr). s.old ∷ xs) e
 olds_step h s ss e false is = e
 
 pub olds_small : (h : List ChunkValue) (ss : List Survivor) → olds (small_ones h ss) ≡ smalls h (olds ss)
 olds_small h [] = refl
-olds_small h (s ∷ ss) = olds_step h s ss (olds_small h ss) (is_small h s.old) refl
+olds_small h (s ∷ ss) = olds_step h s ss (olds_small h ss) (is_moved h s.old) refl
 
 in_small_step : (h : List ChunkValue) (s : Survivor) (ss : List Survivor) (t : Survivor) → (In (small_ones h ss) t → In ss t) → (b : Bool) → In (cond b (s ∷ small_ones h ss) (small_ones h ss)) t → In (s ∷ ss) t
 in_small_step h s ss t rest true (inl e) = inl e
@@ -41,27 +41,27 @@ in_small_step h s ss t rest false i = inr (rest i)
 
 pub in_small : (h : List ChunkValue) (ss : List Survivor) (t : Survivor) → In (small_ones h ss) t → In ss t
 in_small h [] t i = i
-in_small h (s ∷ ss) t i = in_small_step h s ss t (in_small h ss t) (is_small h s.old) i
+in_small h (s ∷ ss) t i = in_small_step h s ss t (in_small h ss t) (is_moved h s.old) i
 
 -- of addresses
-in_smalls_step : (h : List ChunkValue) (x : Addr) (xs : List Addr) (a : Addr) → (In (smalls h xs) a → In xs a × (is_small h a ≡ true)) → (b : Bool) → is_small h x ≡ b → In (cond b (x ∷ smalls h xs) (smalls h xs)) a → In (x ∷ xs) a × (is_small h a ≡ true)
-in_smalls_step h x xs a rest true is (inl e) = (inl e, subst (λ (y : Addr). is_small h y ≡ true) e is)
+in_smalls_step : (h : List ChunkValue) (x : Addr) (xs : List Addr) (a : Addr) → (In (smalls h xs) a → In xs a × (is_moved h a ≡ true)) → (b : Bool) → is_moved h x ≡ b → In (cond b (x ∷ smalls h xs) (smalls h xs)) a → In (x ∷ xs) a × (is_moved h a ≡ true)
+in_smalls_step h x xs a rest true is (inl e) = (inl e, subst (λ (y : Addr). is_moved h y ≡ true) e is)
 in_smalls_step h x xs a rest true is (inr i) = let r = rest i in (inr r.0, r.1)
 in_smalls_step h x xs a rest false is i = let r = rest i in (inr r.0, r.1)
 
-pub in_smalls : (h : List ChunkValue) (xs : List Addr) (a : Addr) → In (smalls h xs) a → In xs a × (is_small h a ≡ true)
+pub in_smalls : (h : List ChunkValue) (xs : List Addr) (a : Addr) → In (smalls h xs) a → In xs a × (is_moved h a ≡ true)
 in_smalls h [] a i = absurd i
-in_smalls h (x ∷ xs) a i = in_smalls_step h x xs a (in_smalls h xs a) (is_small h x) refl i
+in_smalls h (x ∷ xs) a i = in_smalls_step h x xs a (in_smalls h xs a) (is_moved h x) refl i
 
-to_smalls_step : (h : List ChunkValue) (x : Addr) (xs : List Addr) (a : Addr) → (In xs a → In (smalls h xs) a) → is_small h a ≡ true → (b : Bool) → is_small h x ≡ b → In (x ∷ xs) a → In (cond b (x ∷ smalls h xs) (smalls h xs)) a
+to_smalls_step : (h : List ChunkValue) (x : Addr) (xs : List Addr) (a : Addr) → (In xs a → In (smalls h xs) a) → is_moved h a ≡ true → (b : Bool) → is_moved h x ≡ b → In (x ∷ xs) a → In (cond b (x ∷ smalls h xs) (smalls h xs)) a
 to_smalls_step h x xs a rest s true is (inl e) = inl e
 to_smalls_step h x xs a rest s true is (inr i) = inr (rest i)
-to_smalls_step h x xs a rest s false is (inl e) = absurd (false≢true (sym is ∙ (ap (is_small h) e ∙ s)))
+to_smalls_step h x xs a rest s false is (inl e) = absurd (false≢true (sym is ∙ (ap (is_moved h) e ∙ s)))
 to_smalls_step h x xs a rest s false is (inr i) = rest i
 
-pub to_smalls : (h : List ChunkValue) (xs : List Addr) (a : Addr) → In xs a → is_small h a ≡ true → In (smalls h xs) a
+pub to_smalls : (h : List ChunkValue) (xs : List Addr) (a : Addr) → In xs a → is_moved h a ≡ true → In (smalls h xs) a
 to_smalls h [] a i s = i
-to_smalls h (x ∷ xs) a i s = to_smalls_step h x xs a (λ j. to_smalls h xs a j s) s (is_small h x) refl i
+to_smalls h (x ∷ xs) a i s = to_smalls_step h x xs a (λ j. to_smalls h xs a j s) s (is_moved h x) refl i
 
 once_step : (h : List ChunkValue) (x : Addr) (xs : List Addr) → Once (smalls h xs) → (In xs x → ⊥) → (b : Bool) → Once (cond b (x ∷ smalls h xs) (smalls h xs))
 once_step h x xs o n true = ((λ c. n ((in_smalls h xs x (in_from_contains (smalls h xs) x c)).0)), o)
@@ -69,7 +69,7 @@ once_step h x xs o n false = o
 
 pub once_smalls : (h : List ChunkValue) (xs : List Addr) → Once xs → Once (smalls h xs)
 once_smalls h [] o = tt
-once_smalls h (x ∷ xs) o = once_step h x xs (once_smalls h xs o.1) (λ i. o.0 (contains_from_in xs x i)) (is_small h x)
+once_smalls h (x ∷ xs) o = once_step h x xs (once_smalls h xs o.1) (λ i. o.0 (contains_from_in xs x i)) (is_moved h x)
 
 -- ---- the copying, step by step
 
@@ -87,7 +87,7 @@ module _ (h : List ChunkValue) where
   abbrev pub AreAs : List ChunkValue → List Survivor → Type 0
   AreAs old ss = (s : Survivor) → In ss s → (survivor_cell old s ≡ cell_of h s.old) × IsObject (cell_of old s.old).mark
 
-  pub same_small : (old : List ChunkValue) (s : Survivor) → survivor_cell old s ≡ cell_of h s.old → is_small old s.old ≡ is_small h s.old
+  pub same_small : (old : List ChunkValue) (s : Survivor) → survivor_cell old s ≡ cell_of h s.old → is_moved old s.old ≡ is_moved h s.old
   same_small old s e = ap (λ (c : Cell). nat_le (size_of c) 1024) e
 
   step_as : (k : CollectorValue) (s : Survivor) (ss : List Survivor) → (In (olds ss) s.old → ⊥) → AreAs k.heap.chunks ss → AreAs (copied_one k s).heap.chunks ss
@@ -101,7 +101,7 @@ module _ (h : List ChunkValue) where
   -- only the small ones are copied
   small_step : (k : CollectorValue) (s : Survivor) (ss : List Survivor) → Once (olds (s ∷ ss)) → AreAs k.heap.chunks (s ∷ ss)
       → ((k' : CollectorValue) → AreAs k'.heap.chunks ss → fold copied k' ss ≡ fold copied_one k' (small_ones h ss))
-      → (b : Bool) → is_small h s.old ≡ b → fold copied (cond b (copied_one k s) k) ss ≡ fold copied_one k (cond b (s ∷ small_ones h ss) (small_ones h ss))
+      → (b : Bool) → is_moved h s.old ≡ b → fold copied (cond b (copied_one k s) k) ss ≡ fold copied_one k (cond b (s ∷ small_ones h ss) (small_ones h ss))
   small_step k s ss o as' rest true is = rest (copied_one k s) (step_as k s ss (not_again s ss o) (λ t i. as' t (inr i)))
   small_step k s ss o as' rest false is = rest k (λ t i. as' t (inr i))
 
@@ -109,12 +109,12 @@ module _ (h : List ChunkValue) where
   small_alone k [] o as' = refl
   small_alone k (s ∷ ss) o as' =
       ap (λ (b : Bool). fold copied (cond b (copied_one k s) k) ss) (same_small k.heap.chunks s (as' s (inl refl)).0)
-      ∙ small_step k s ss o as' (λ k' a. small_alone k' ss o.1 a) (is_small h s.old) refl
+      ∙ small_step k s ss o as' (λ k' a. small_alone k' ss o.1 a) (is_moved h s.old) refl
 
   -- an object that fits can be copied
   ready_step : (k : CollectorValue) (s : Survivor) (ss : List Survivor) → Once (olds (s ∷ ss)) → AreAs k.heap.chunks (s ∷ ss)
       → ((k' : CollectorValue) → AreAs k'.heap.chunks ss → HaveRoom k'.laying h (smalls h (olds ss)) → IsReady k' ss)
-      → (b : Bool) → is_small h s.old ≡ b → HaveRoom k.laying h (cond b (s.old ∷ smalls h (olds ss)) (smalls h (olds ss)))
+      → (b : Bool) → is_moved h s.old ≡ b → HaveRoom k.laying h (cond b (s.old ∷ smalls h (olds ss)) (smalls h (olds ss)))
       → (b ≡ true → ObjectFits k.laying (size_of (cell_of k.heap.chunks s.old))) × IsReady (cond b (copied_one k s) k) ss
   ready_step k s ss o as' rest true is room =
       let e = (as' s (inl refl)).0 in (
@@ -127,8 +127,8 @@ module _ (h : List ChunkValue) where
   are_ready k [] o as' room = tt
   are_ready k (s ∷ ss) o as' room =
       let same = same_small k.heap.chunks s (as' s (inl refl)).0 in
-      let r = ready_step k s ss o as' (λ k' a q. are_ready k' ss o.1 a q) (is_small h s.old) refl room in
-      let t : (is_small k.heap.chunks s.old ≡ true → ObjectFits k.laying (size_of (cell_of k.heap.chunks s.old))) × IsReady (cond (is_small k.heap.chunks s.old) (copied_one k s) k) ss
+      let r = ready_step k s ss o as' (λ k' a q. are_ready k' ss o.1 a q) (is_moved h s.old) refl room in
+      let t : (is_moved k.heap.chunks s.old ≡ true → ObjectFits k.laying (size_of (cell_of k.heap.chunks s.old))) × IsReady (cond (is_moved k.heap.chunks s.old) (copied_one k s) k) ss
       = subst (λ (b : Bool). (b ≡ true → ObjectFits k.laying (size_of (cell_of k.heap.chunks s.old))) × IsReady (cond b (copied_one k s) k) ss) (sym same) r in
       (((as' s (inl refl)).1, t.0), t.1)
 

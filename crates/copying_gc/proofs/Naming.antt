@@ -1,5 +1,5 @@
 -- Large survivors get their names back, and the heap is as specified.
-use Rattle.copying_gc.proofs.Common.{◌≡◌, ℕ, zero, suc, ◌<◌, ◌≤◌, Bool, true, false, cond, List, [], ◌∷◌, ◌++◌, length, map, filter, fold, refl, sym, ap, ◌∙◌, subst, arith, inl, inr, ◌⊎◌, Option, Some, None, is_some, nat_le, remove, not, list_any, cases_lt, false≢true, and_parts, le-leb, lt-ltb, Addr, Birth, Cell, Mark, Born, Moved, IsBorn, IsObject, no_cell, size_of, with_mark, ChunkValue, number_of, cell_at, cell_of, chunk_at, place_of, place_in, put_object, HasObjectAt, Once, same_address, AreTidy, IsTidy, none_there, In, contains_from_in, in_from_kept, in_append_cases, in_map, map_in, read_in, length-put, place_of-put, chunk_there, AreAlike, numbers, Distinct, Survivor, olds, old_of, HaveNames, led_cell, led_chunk, unreserved, reserved_of, named, CanName, keeps}
+use Rattle.copying_gc.proofs.Common.{◌≡◌, ℕ, zero, suc, ◌<◌, ◌≤◌, Bool, true, false, cond, List, [], ◌∷◌, ◌++◌, length, map, filter, fold, refl, sym, ap, ◌∙◌, subst, arith, inl, inr, ◌⊎◌, Option, Some, None, is_some, nat_le, remove, not, list_any, cases_lt, false≢true, and_parts, le-leb, lt-ltb, Addr, Birth, Cell, Mark, Born, Moved, IsBorn, IsObject, no_cell, size_of, with_mark, ChunkValue, number_of, cell_at, cell_of, chunk_at, place_of, place_in, put_object, HasObjectAt, Once, same_address, AreTidy, IsTidy, none_there, In, contains_from_in, in_from_kept, in_append_cases, in_map, map_in, read_in, length-put, place_of-put, chunk_there, AreAlike, numbers, Distinct, Survivor, olds, old_of, HaveNames, led_cell, led_chunk, unreserved, reserved_of, with_birth_name, CanName, keeps}
 use Rattle.object_layout.proofs.ChunkLaws as laws
 use Rattle.address_laws.proofs.Puts as puts
 use Rattle.copying_gc.proofs.Larges as larges
@@ -36,25 +36,25 @@ alike_at : (g : List ChunkValue) (s : Survivor) (b : Bool) → AreAlike g (cond 
 alike_at g s true = larges.alike_put g s.old (with_mark (cell_of g s.old) (Born s.birth)) refl
 alike_at g s false = larges.alike_itself g
 
-place_named : (g : List ChunkValue) (s : Survivor) (n : ℕ) → place_of (named g s) n ≡ place_of g n
+place_named : (g : List ChunkValue) (s : Survivor) (n : ℕ) → place_of (with_birth_name g s) n ≡ place_of g n
 place_named g s n = place_at g s n (is_some (place_in g s.old.chunk))
 
-length_named : (g : List ChunkValue) (s : Survivor) → length (named g s) ≡ length g
+length_named : (g : List ChunkValue) (s : Survivor) → length (with_birth_name g s) ≡ length g
 length_named g s = length_at g s (is_some (place_in g s.old.chunk))
 
-pub alike_names : (g : List ChunkValue) (ss : List Survivor) → AreAlike g (fold named g ss)
+pub alike_names : (g : List ChunkValue) (ss : List Survivor) → AreAlike g (fold with_birth_name g ss)
 alike_names g [] = larges.alike_itself g
-alike_names g (s ∷ ss) = larges.alike_then g (named g s) (fold named (named g s) ss) (alike_at g s (is_some (place_in g s.old.chunk))) (alike_names (named g s) ss)
+alike_names g (s ∷ ss) = larges.alike_then g (with_birth_name g s) (fold with_birth_name (with_birth_name g s) ss) (alike_at g s (is_some (place_in g s.old.chunk))) (alike_names (with_birth_name g s) ss)
 
-pub names_other : (g : List ChunkValue) (ss : List Survivor) (a : Addr) → (In (olds ss) a → ⊥) → cell_of (fold named g ss) a ≡ cell_of g a
+pub names_other : (g : List ChunkValue) (ss : List Survivor) (a : Addr) → (In (olds ss) a → ⊥) → cell_of (fold with_birth_name g ss) a ≡ cell_of g a
 names_other g [] a n = refl
-names_other g (s ∷ ss) a n = names_other (named g s) ss a (λ i. n (inr i)) ∙ name_other g s a (is_some (place_in g s.old.chunk)) (λ e. n (inl e))
+names_other g (s ∷ ss) a n = names_other (with_birth_name g s) ss a (λ i. n (inr i)) ∙ name_other g s a (is_some (place_in g s.old.chunk)) (λ e. n (inl e))
 
-pub names_nowhere : (g : List ChunkValue) (ss : List Survivor) (a : Addr) → length g ≤ place_of g a.chunk → cell_of (fold named g ss) a ≡ no_cell
+pub names_nowhere : (g : List ChunkValue) (ss : List Survivor) (a : Addr) → length g ≤ place_of g a.chunk → cell_of (fold with_birth_name g ss) a ≡ no_cell
 names_nowhere g [] a l = laws.cell_of-none g a l
 names_nowhere g (s ∷ ss) a l =
     let p = place_named g s a.chunk in let n = length_named g s in
-    names_nowhere (named g s) ss a (omega arith)
+    names_nowhere (with_birth_name g s) ss a (omega arith)
 
 owned_test : (g : List ChunkValue) (n : ℕ) → place_of g n < length g → is_some (place_in g n) ≡ true
 owned_test g n l = rw (lt-ltb (place_of g n) (length g) l) refl
@@ -64,25 +64,25 @@ name_here g s true e o = laws.cell_of-put_same g s.old (with_mark (cell_of g s.o
 name_here g s false e o = absurd (false≢true e)
 
 pub names_same : (g : List ChunkValue) (ss : List Survivor) → Once (olds ss) → (s : Survivor) → In ss s → place_of g s.old.chunk < length g → IsObject (cell_of g s.old).mark
-    → cell_of (fold named g ss) s.old ≡ with_mark (cell_of g s.old) (Born s.birth)
+    → cell_of (fold with_birth_name g ss) s.old ≡ with_mark (cell_of g s.old) (Born s.birth)
 names_same g [] o s i l ob = absurd i
 names_same g (t ∷ ss) o s (inl e) l ob =
     let rest : In (olds ss) s.old → ⊥ = λ j. o.0 (contains_from_in (olds ss) t.old (subst (λ (x : Survivor). In (olds ss) x.old) (sym e) j)) in
-    names_other (named g t) ss s.old rest
-    ∙ subst (λ (x : Survivor). cell_of (named g x) s.old ≡ with_mark (cell_of g s.old) (Born s.birth)) (sym e) (name_here g s (is_some (place_in g s.old.chunk)) (owned_test g s.old.chunk l) ob)
+    names_other (with_birth_name g t) ss s.old rest
+    ∙ subst (λ (x : Survivor). cell_of (with_birth_name g x) s.old ≡ with_mark (cell_of g s.old) (Born s.birth)) (sym e) (name_here g s (is_some (place_in g s.old.chunk)) (owned_test g s.old.chunk l) ob)
 names_same g (t ∷ ss) o s (inr i) l ob =
     let n : t.old ≡ s.old → ⊥ = λ e. o.0 (contains_from_in (olds ss) t.old (subst (In (olds ss)) (sym e) (in_map old_of ss s i))) in
-    let there : cell_of (named g t) s.old ≡ cell_of g s.old = name_other g t s.old (is_some (place_in g t.old.chunk)) n in
+    let there : cell_of (with_birth_name g t) s.old ≡ cell_of g s.old = name_other g t s.old (is_some (place_in g t.old.chunk)) n in
     let p = place_named g t s.old.chunk in let m = length_named g t in
-    names_same (named g t) ss o.1 s i (omega arith) (subst (λ (c : Cell). IsObject c.mark) (sym there) ob) ∙ ap (λ (c : Cell). with_mark c (Born s.birth)) there
+    names_same (with_birth_name g t) ss o.1 s i (omega arith) (subst (λ (c : Cell). IsObject c.mark) (sym there) ob) ∙ ap (λ (c : Cell). with_mark c (Born s.birth)) there
 
 pub can_name : (g : List ChunkValue) (ss : List Survivor) → Once (olds ss) → ((s : Survivor) → In ss s → place_of g s.old.chunk < length g → IsObject (cell_of g s.old).mark) → CanName g ss
 can_name g [] o t = tt
 can_name g (s ∷ ss) o t = (
   (λ e. t s (inl refl) (puts.owned g s.old.chunk e)),
-  can_name (named g s) ss o.1 (λ u i l.
+  can_name (with_birth_name g s) ss o.1 (λ u i l.
       let n : s.old ≡ u.old → ⊥ = λ e. o.0 (contains_from_in (olds ss) s.old (subst (In (olds ss)) (sym e) (in_map old_of ss u i))) in
-      let there : cell_of (named g s) u.old ≡ cell_of g u.old = name_other g s u.old (is_some (place_in g s.old.chunk)) n in
+      let there : cell_of (with_birth_name g s) u.old ≡ cell_of g u.old = name_other g s u.old (is_some (place_in g s.old.chunk)) n in
       let p = place_named g s u.old.chunk in let m = length_named g s in
       subst (λ (c : Cell). IsObject c.mark) (sym there) (t u (inr i) (omega arith))),
 )
@@ -241,7 +241,7 @@ module _ (h : List ChunkValue) (ss : List Survivor) (f : Option Addr → Option 
       let right : cell_at (map (led_cell f) k.cells) (suc m) ≡ no_cell = ap (λ (cs : List Cell). cell_at (map (led_cell f) cs) (suc m)) one ∙ extent.alone_cell (led_cell f (cell_at k.cells 0)) m in
       subst (λ (o : ℕ). cell_at (map mark k.cells) o ≡ cell_at (map (led_cell f) k.cells) o) z (left ∙ sym right)
 
-  kept_same : (a : Addr) → (In (numbers laid) a.chunk → ⊥) → (k : ChunkValue) → In (filter (keeps ss) (unreserved h r)) k → k.number ≡ a.chunk → cell_of (fold named Now ss) a ≡ cell_of Goal a
+  kept_same : (a : Addr) → (In (numbers laid) a.chunk → ⊥) → (k : ChunkValue) → In (filter (keeps ss) (unreserved h r)) k → k.number ≡ a.chunk → cell_of (fold with_birth_name Now ss) a ≡ cell_of Goal a
   kept_same a out k i q =
       elim (puts.in_or_not (olds ss) a) [
         | inl j ↦
@@ -256,8 +256,8 @@ module _ (h : List ChunkValue) (ss : List Survivor) (f : Option Addr → Option 
             let object : IsObject (cell_of Now a).mark = subst (λ (c : Cell). IsObject c.mark) (sym (now_marked a k j i e)) tt in
             let was : (cell_at k.cells 0).mark ≡ Born s.birth =
             ap (λ (c : Cell). c.mark) (sym (extent.chunk_there h k d p.0 (first_of k) refl) ∙ ap (cell_of h) (sym e)) ∙ (ap (λ (x : Addr). (cell_of h x).mark) (sym u.2) ∙ born h ss names s u.1) in
-            let step : cell_of (fold named Now ss) a ≡ with_mark (cell_of Now a) (Born s.birth) =
-            subst (λ (x : Addr). cell_of (fold named Now ss) x ≡ with_mark (cell_of Now x) (Born s.birth)) u.2
+            let step : cell_of (fold with_birth_name Now ss) a ≡ with_mark (cell_of Now a) (Born s.birth) =
+            subst (λ (x : Addr). cell_of (fold with_birth_name Now ss) x ≡ with_mark (cell_of Now x) (Born s.birth)) u.2
             (names_same Now ss once s u.1 (subst (λ (x : Addr). place_of Now x.chunk < length Now) (sym u.2) owned) (subst (λ (x : Addr). IsObject (cell_of Now x).mark) (sym u.2) object)) in
             let right : cell_of Goal a ≡ led_cell f (cell_at k.cells 0) =
             goal_kept a out k i q ∙ (ap (λ (o : ℕ). cell_at (led_chunk f k).cells o) (ap (λ (x : Addr). x.offset) e)
@@ -266,7 +266,7 @@ module _ (h : List ChunkValue) (ss : List Survivor) (f : Option Addr → Option 
         | inr n ↦ names_other Now ss a n ∙ (now_kept a out k i q ∙ (elsewhere a k i q n a.offset refl ∙ sym (goal_kept a out k i q)))
       ]
 
-  pub same_at : (a : Addr) → cell_of (fold named Now ss) a ≡ cell_of Goal a
+  pub same_at : (a : Addr) → cell_of (fold with_birth_name Now ss) a ≡ cell_of Goal a
   same_at a =
       elim (extent.in_numbers (numbers laid) a.chunk) [
         | inl i ↦
@@ -286,7 +286,7 @@ module _ (h : List ChunkValue) (ss : List Survivor) (f : Option Addr → Option 
         ]
       ]
     where
-      still : (b : Addr) → (In (numbers (filter (keeps ss) (unreserved h r))) b.chunk → ⊥) → cell_of (fold named Now ss) b ≡ cell_of Now b
+      still : (b : Addr) → (In (numbers (filter (keeps ss) (unreserved h r))) b.chunk → ⊥) → cell_of (fold with_birth_name Now ss) b ≡ cell_of Now b
       still b n =
           elim (puts.in_or_not (olds ss) b) [
             | inl j ↦ elim (cases_lt (place_of Now b.chunk) (length Now)) [
@@ -346,11 +346,11 @@ module _ (h : List ChunkValue) (ss : List Survivor) (f : Option Addr → Option 
       (alike_append (map (marked_chunk ss f) kept) (map (led_chunk f) kept) (reserved_of h r) (alike_marked kept)))))
       now_once
 
-  pub named_is_goal : fold named Now ss ≡ Goal
+  pub named_is_goal : fold with_birth_name Now ss ≡ Goal
   named_is_goal =
       let kept = filter (keeps ss) (unreserved h r) in
-      let shape : AreAlike (fold named Now ss) Goal =
-      larges.alike_then (fold named Now ss) Now Goal (alike_back Now (fold named Now ss) (alike_names Now ss))
+      let shape : AreAlike (fold with_birth_name Now ss) Goal =
+      larges.alike_then (fold with_birth_name Now ss) Now Goal (alike_back Now (fold with_birth_name Now ss) (alike_names Now ss))
       (alike_behind laid (map (marked_chunk ss f) kept ++ reserved_of h r) (map (led_chunk f) kept ++ reserved_of h r)
       (alike_append (map (marked_chunk ss f) kept) (map (led_chunk f) kept) (reserved_of h r) (alike_marked kept))) in
-      extent.same_chunks (fold named Now ss) Goal shape (subst Distinct (sym (nums.alike_numbers Now (fold named Now ss) (alike_names Now ss))) now_once) same_at
+      extent.same_chunks (fold with_birth_name Now ss) Goal shape (subst Distinct (sym (nums.alike_numbers Now (fold with_birth_name Now ss) (alike_names Now ss))) now_once) same_at

@@ -1,6 +1,6 @@
 -- The numbers of the reserved chunk and of new ones.
 use Rattle.std.proofs.Common.{append_assoc}
-use Rattle.copying_gc.proofs.Common.{◌≡◌, ℕ, ◌<◌, Bool, true, false, cond, List, [], ◌∷◌, ◌++◌, length, map, refl, sym, ap, ◌∙◌, subst, arith, inl, inr, Option, Some, None, remove, nat_lt, reverse, Addr, Cell, size_of, ChunkValue, chunk_at, cell_of, IsCurrent, IsReserved, In, numbers, Distinct, numbers_append, in_removed, in_at, removed_at, distinct_removed, reverse_first, Laying, AreNew, laid_all, laid_one, opened, open_next, placed, room_in, last_place, reserved_of, unreserved}
+use Rattle.copying_gc.proofs.Common.{◌≡◌, ℕ, ◌<◌, Bool, true, false, cond, List, [], ◌∷◌, ◌++◌, length, map, refl, sym, ap, ◌∙◌, subst, arith, inl, inr, Option, Some, None, remove, nat_lt, reverse, Addr, Cell, size_of, ChunkValue, chunk_at, cell_of, IsCurrent, IsReserved, In, numbers, Distinct, numbers_append, in_removed, in_at, removed_at, distinct_removed, reverse_first, Laying, AreNew, laid_all, laid_one, opened, open_next, placed_behind, room_in, last_place, reserved_of, unreserved}
 
 -- the position of the reserved chunk is within the list
 abbrev pub Within : List ChunkValue → Option ℕ → Type 0
@@ -36,7 +36,7 @@ module _ (ks : List ChunkValue) (d : Distinct (numbers ks)) where
 
 -- ---- the new chunks
 
-pub numbers_placed : (ks : List ChunkValue) (c : Cell) → numbers (placed ks c) ≡ numbers ks
+pub numbers_placed : (ks : List ChunkValue) (c : Cell) → numbers (placed_behind ks c) ≡ numbers ks
 numbers_placed [] c = refl
 numbers_placed (k ∷ []) c = refl
 numbers_placed (k ∷ (l ∷ ks)) c = ap (λ (ns : List ℕ). k.number ∷ ns) (numbers_placed (l ∷ ks) c)
@@ -64,7 +64,7 @@ small_push : (ks : List ChunkValue) (k : ChunkValue) → AreSmall ks → k.size 
 small_push [] k s e = (e, tt)
 small_push (x ∷ ks) k s e = (s.0, small_push ks k s.1 e)
 
-small_placed : (ks : List ChunkValue) (c : Cell) → AreSmall ks → AreSmall (placed ks c)
+small_placed : (ks : List ChunkValue) (c : Cell) → AreSmall ks → AreSmall (placed_behind ks c)
 small_placed [] c s = tt
 small_placed (k ∷ []) c s = (s.0, tt)
 small_placed (k ∷ (l ∷ ks)) c s = (s.0, small_placed (l ∷ ks) c s.1)

@@ -1,6 +1,5 @@
 -- The relocation list is sorted by the old addresses.
-use Rattle.copying_gc.proofs.Common.{◌≡◌, ℕ, zero, suc, ◌+◌, ◌<◌, ◌≤◌, false, List, [], ◌∷◌, length, get_or, map, refl, sym, ap, subst, arith, inl, inr, eq-eqb, is_lt, nat_cmp, All, Option, Some, ordering_then, Ordering, IsPermutation, IsPermutation-map, IsPermutation-sym, Contains-permutation, cases_lt, lt-ltb, le-ltb, false≢true, Addr, ChunkValue, cell_of, IsClosed, HasObjectAt, IsSoundReference, RefersTo, Once, AreInOrder, In, contains_from_in, in_from_contains, read_in, reached_within, live_chunk, IsSurvivor, Starts, Laying, laid_one, relocations}
-use Rattle.remembered_set.specs.Moved.{number_of}
+use Rattle.copying_gc.proofs.Common.{◌≡◌, ℕ, zero, suc, ◌+◌, ◌<◌, ◌≤◌, false, List, [], ◌∷◌, length, get_or, map, refl, sym, ap, subst, arith, inl, inr, eq-eqb, is_lt, nat_cmp, All, Option, Some, ordering_then, Ordering, IsPermutation, IsPermutation-map, IsPermutation-sym, Contains-permutation, cases_lt, lt-ltb, le-ltb, false≢true, Addr, ChunkValue, cell_of, IsClosed, HasObjectAt, IsSoundReference, RefersTo, Once, AreInOrder, In, contains_from_in, in_from_contains, read_in, reached_within, live_chunk, IsSurvivor, Starts, Laying, laid_one, relocations, address_key}
 use Rattle.copying_gc.proofs.Evacuated.{once_sorted}
 
 abbrev pub first_in : Addr × Addr → Addr
@@ -12,7 +11,7 @@ pair_order p q =
     (ordering_then (nat_cmp p.1.chunk q.1.chunk) (nat_cmp p.1.offset q.1.offset))
 
 first_less : (a b : Addr) (rest : Ordering) → is_lt (ordering_then (ordering_then (nat_cmp b.chunk a.chunk) (nat_cmp b.offset a.offset)) rest) ≡ false
-    → (a ≡ b → ⊥) → a.offset < 1024 → b.offset < 1024 → number_of a < number_of b
+    → (a ≡ b → ⊥) → a.offset < 1024 → b.offset < 1024 → address_key a < address_key b
 first_less a b rest h n s t =
     elim (cases_lt b.chunk a.chunk) [
       | inl l ↦ absurd (false≢true (sym (rw (lt-ltb b.chunk a.chunk l) at h)))
@@ -37,7 +36,7 @@ AreSorted ms = (k : ℕ) (d : Addr × Addr) → 0 ≤ k → k + 1 < length ms �
 abbrev pub Rising : List (Addr × Addr) → Type 0
 Rising [] = Unit {0}
 Rising (m ∷ []) = Unit {0}
-Rising (m ∷ (n ∷ ms)) = (number_of m.0 < number_of n.0) × Rising (n ∷ ms)
+Rising (m ∷ (n ∷ ms)) = (address_key m.0 < address_key n.0) × Rising (n ∷ ms)
 
 sorted_tail : (m : Addr × Addr) (ms : List (Addr × Addr)) → AreSorted (m ∷ ms) → AreSorted ms
 sorted_tail m ms h k d z l =
@@ -54,10 +53,10 @@ rising (m ∷ (n ∷ ms)) h o s = (
   rising (n ∷ ms) (sorted_tail m (n ∷ ms) h) o.1 (λ x i. s x (inr i)),
 )
 
-above : (m : Addr × Addr) (ms : List (Addr × Addr)) → Rising (m ∷ ms) → (j : ℕ) (d : Addr × Addr) → j < length ms → number_of m.0 < number_of (get_or ms j d).0
+above : (m : Addr × Addr) (ms : List (Addr × Addr)) → Rising (m ∷ ms) → (j : ℕ) (d : Addr × Addr) → j < length ms → address_key m.0 < address_key (get_or ms j d).0
 above m [] r j d l = absurd (omega arith)
 above m (n ∷ ms) r zero d l = r.0
-above m (n ∷ ms) r (suc j) d l = let a = above n ms r.1 j d (omega arith) in let b : number_of m.0 < number_of n.0 = r.0 in omega arith
+above m (n ∷ ms) r (suc j) d l = let a = above n ms r.1 j d (omega arith) in let b : address_key m.0 < address_key n.0 = r.0 in omega arith
 
 rising_tail : (m : Addr × Addr) (ms : List (Addr × Addr)) → Rising (m ∷ ms) → Rising ms
 rising_tail m [] r = tt

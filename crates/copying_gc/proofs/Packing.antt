@@ -1,5 +1,5 @@
 -- New chunks hold only small objects, as many as were moved.
-use Rattle.copying_gc.proofs.Common.{◌≡◌, ℕ, suc, ◌+◌, ◌*◌, ◌/◌, ◌<◌, ◌≤◌, Bool, true, false, cond, List, [], ◌∷◌, ◌++◌, length, get_or, map, take, refl, sym, ap, ◌∙◌, subst, arith, inl, inr, Option, Some, nat_lt, le-leb, leb-true, append-nil, get_or_read, take_more, All-push, Addr, Cell, IsObject, size_of, ChunkValue, cell_of, chunk_at, object_words_in, held_size, held_words, no_chunk, one_each, small_part, sum_in, sum_of, words_in, Once, In, AreCounted, counted, IsReserved, Counts, Survivor, olds, HaveNames, before, laid_all, laid_one, open_next, opened, placed, relocations, room_in, smalls, AreNew, HaveRoom, Laying, used_words, ArePacked, led_cell, led_chunk, laying_of, moves_of}
+use Rattle.copying_gc.proofs.Common.{◌≡◌, ℕ, suc, ◌+◌, ◌*◌, ◌/◌, ◌<◌, ◌≤◌, Bool, true, false, cond, List, [], ◌∷◌, ◌++◌, length, get_or, map, take, refl, sym, ap, ◌∙◌, subst, arith, inl, inr, Option, Some, nat_lt, le-leb, leb-true, append-nil, get_or_read, take_more, All-push, Addr, Cell, IsObject, size_of, ChunkValue, cell_of, chunk_at, object_words_in, held_size, held_words, no_chunk, one_each, small_part, sum_in, sum_of, words_in, Once, In, AreCounted, saturating_words, IsReserved, Counts, Survivor, olds, HaveNames, nothing_laid, laid_all, laid_one, open_next, opened, placed_behind, relocations, room_in, smalls, AreNew, HaveRoom, Laying, used_words, ArePacked, led_cell, led_chunk, laying_of, moves_of}
 use Rattle.object_layout.proofs.ChunkLaws as laws
 use Rattle.object_layout.proofs.PlaceLemmas as place
 use Rattle.leaf_heap.proofs.HeapLemmas as heap
@@ -10,17 +10,17 @@ use Rattle.copying_gc.proofs.SmallSurvivors.{small_lives, small_room}
 
 -- ---- one more object
 
-used_placed : (ks : List ChunkValue) (c : Cell) → 0 < length ks → used_words (placed ks c) ≡ used_words ks + size_of c
+used_placed : (ks : List ChunkValue) (c : Cell) → 0 < length ks → used_words (placed_behind ks c) ≡ used_words ks + size_of c
 used_placed [] c l = absurd (omega arith)
 used_placed (k ∷ []) c l = let e = place.words_in-push k.cells c in omega arith
 used_placed (k ∷ (x ∷ ks)) c l = let ih = used_placed (x ∷ ks) c (omega arith) in omega arith
 
-held_placed : (ks : List ChunkValue) (c : Cell) → 0 < length ks → held_words (placed ks c) ≡ held_words ks + held_size c.mark (size_of c)
+held_placed : (ks : List ChunkValue) (c : Cell) → 0 < length ks → held_words (placed_behind ks c) ≡ held_words ks + held_size c.mark (size_of c)
 held_placed [] c l = absurd (omega arith)
 held_placed (k ∷ []) c l = let e = heap.object_words_in-push k.cells c in omega arith
 held_placed (k ∷ (x ∷ ks)) c l = let ih = held_placed (x ∷ ks) c (omega arith) in omega arith
 
-sum_placed : (f : ℕ → ℕ) (ks : List ChunkValue) (c : Cell) → 0 < length ks → sum_of f (placed ks c) ≡ sum_of f ks + held_size c.mark (f (size_of c))
+sum_placed : (f : ℕ → ℕ) (ks : List ChunkValue) (c : Cell) → 0 < length ks → sum_of f (placed_behind ks c) ≡ sum_of f ks + held_size c.mark (f (size_of c))
 sum_placed f [] c l = absurd (omega arith)
 sum_placed f (k ∷ []) c l = let e = heap.sum_in-push f k.cells c in omega arith
 sum_placed f (k ∷ (x ∷ ks)) c l = let ih = sum_placed f (x ∷ ks) c (omega arith) in omega arith
@@ -28,7 +28,7 @@ sum_placed f (k ∷ (x ∷ ks)) c l = let ih = sum_placed f (x ∷ ks) c (omega 
 part_whole : (n : ℕ) → n ≤ 1024 → small_part n ≡ n
 part_whole n l = rw (le-leb n 1024 l) refl
 
-packed_placed : (ks : List ChunkValue) (c : Cell) (n : ℕ) → 0 < length ks → IsObject c.mark → size_of c ≤ 1024 → ArePacked ks n → ArePacked (placed ks c) (n + 1)
+packed_placed : (ks : List ChunkValue) (c : Cell) (n : ℕ) → 0 < length ks → IsObject c.mark → size_of c ≤ 1024 → ArePacked ks n → ArePacked (placed_behind ks c) (n + 1)
 packed_placed ks c n some o l p =
     let whole : held_size c.mark (size_of c) ≡ size_of c = heap.held_object c.mark (size_of c) o in
     let small : held_size c.mark (small_part (size_of c)) ≡ size_of c = heap.held_object c.mark (small_part (size_of c)) o ∙ part_whole (size_of c) l in
@@ -130,15 +130,15 @@ module _ (f : Option Addr → Option Addr) where
 
 module _ (h : List ChunkValue) (ss : List Survivor) (spare : List ChunkValue) (names : HaveNames h ss) (once : Once (olds ss)) (new : AreNew spare)
     (enough : 2 * ((small_words h + 1023) / 1024) ≤ length spare + 1) where
-  room : HaveRoom (before spare) h (smalls h (olds ss))
+  room : HaveRoom (nothing_laid spare) h (smalls h (olds ss))
   room = small_room h ss names spare once new enough
 
   pub packed : (f : Option Addr → Option Addr) (laid : List ChunkValue) → laid ≡ map (led_chunk f) (laying_of h ss spare).laid → (n : ℕ) → n ≡ length (moves_of h ss spare) → ArePacked laid n
   packed f laid is n count =
       let none : ArePacked [] 0 = record { full = refl; small = refl; count = refl } in
       let all : ArePacked (laying_of h ss spare).laid (0 + length (smalls h (olds ss))) =
-      all_packed (before spare) h (smalls h (olds ss)) 0 (λ a i. let lives = small_lives h ss names a i in (laws.born_object h a lives.0, leb-true (size_of (cell_of h a)) 1024 lives.1)) room new none in
-      let many : length (moves_of h ss spare) ≡ length (smalls h (olds ss)) = length_moves (before spare) h (smalls h (olds ss)) in
+      all_packed (nothing_laid spare) h (smalls h (olds ss)) 0 (λ a i. let lives = small_lives h ss names a i in (laws.born_object h a lives.0, leb-true (size_of (cell_of h a)) 1024 lives.1)) room new none in
+      let many : length (moves_of h ss spare) ≡ length (smalls h (olds ss)) = length_moves (nothing_laid spare) h (smalls h (olds ss)) in
       let e : 0 + length (smalls h (olds ss)) ≡ n = omega arith in
       subst (λ (ks : List ChunkValue). ArePacked ks n) (sym is) (packed_led f (laying_of h ss spare).laid n (subst (λ (m : ℕ). ArePacked (laying_of h ss spare).laid m) e all))
 
@@ -154,7 +154,7 @@ counted_empty ks js k n e none c =
     let no_words : words_in k.cells ≡ 0 = ap words_in none in
     let inside : words_in k.cells ≤ k.size = omega arith in
     subst (λ (xs : List ChunkValue). AreCounted xs n) (sym e) (record {
-      words = c.words ∙ ap (λ (w : ℕ). counted w) (sym (held_empty ks k none));
+      words = c.words ∙ ap (λ (w : ℕ). saturating_words w) (sym (held_empty ks k none));
       objects = heap.sum_pushed one_each ks k none n.objects c.objects;
       small = heap.sum_pushed small_part ks k none n.small c.small;
       within = All-push (λ (x : ChunkValue). words_in x.cells ≤ x.size) ks k c.within inside;

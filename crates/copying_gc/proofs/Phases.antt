@@ -1,5 +1,5 @@
 -- What each phase of an evacuation leaves to the next.
-use Rattle.copying_gc.proofs.Common.{◌≡◌, List, [], map, fold, sym, ap, ◌∙◌, subst, Option, Contains, ◌↔◌, All, IsDistinct, IsPermutation, IsSorted, All-permutation, Addr, Born, ChunkValue, cell_of, IsClosed, IsSoundReference, Once, distinct_from, once_from, LeafHeapValue, In, FramesValue, frames_of, Survivor, as_reference, frame_references, olds, outside, survivor_order, with_chunks, HaveNames, IsSurvivor, CollectorValue, all_found, IsTarget, Laying, before, relocations, smalls, copied, IsReady, followed_ref, followed_large, led_chunk, led_frame, CanFollow, HasTargets, laying_of, moves_of, redirection, AreSurvivors, IsVacated, CollectorBegins, IsEvacuated}
+use Rattle.copying_gc.proofs.Common.{◌≡◌, List, [], map, fold, sym, ap, ◌∙◌, subst, Option, Contains, ◌↔◌, All, IsDistinct, IsPermutation, IsSorted, All-permutation, Addr, Born, ChunkValue, cell_of, IsClosed, IsSoundReference, Once, distinct_from, once_from, LeafHeapValue, In, FramesValue, frames_of, Survivor, as_reference, frame_references, olds, outside, survivor_order, with_chunks, HaveNames, IsSurvivor, CollectorValue, all_found, IsTarget, Laying, nothing_laid, relocations, smalls, copied, IsReady, followed_ref, followed_large, led_chunk, led_frame, CanFollow, HasTargets, laying_of, moves_of, redirection, AreSurvivors, IsVacated, CollectorBegins, IsEvacuated}
 use Rattle.object_layout.specs.Chunks.{same_address}
 use Rattle.copying_gc.proofs.Evacuated as evacuated
 use Rattle.copying_gc.proofs.FrameLemmas as frames
@@ -34,7 +34,7 @@ module _ (b : CollectorValue) (from : List (Option Addr)) (closed : IsClosed b.h
   marks : s.heap.chunks ≡ all_found b.heap.chunks (olds d.found)
   marks = ap (λ (z : CollectorValue). z.heap.chunks) are.rest ∙ ap (λ (z : CollectorValue). z.heap.chunks) are.marked
 
-  none_laid : s.laying ≡ before b.laying.spare
+  none_laid : s.laying ≡ nothing_laid b.laying.spare
   none_laid =
       ap (λ (z : CollectorValue). z.laying) are.rest ∙ (ap (λ (z : CollectorValue). z.laying) are.marked
       ∙ ap (λ (ks : List ChunkValue). let y : Laying = record { laid = ks; spare = b.laying.spare } in y) are.begins.laid)
@@ -59,11 +59,11 @@ module _ (b : CollectorValue) (from : List (Option Addr)) (closed : IsClosed b.h
     pub chunks_have : All (λ (k : ChunkValue). All (HasTargets t.heap.chunks) k.cells) t.laying.laid
     chunks_have = leading.chunks_have b.heap.chunks from closed sound s.found (olds d.found) b.laying.spare kept once all names s marks none_laid none_moved are.begins.new t is
 
-    leads : All (leading.Leads t.heap.chunks (relocations (before b.laying.spare) b.heap.chunks (smalls b.heap.chunks (olds s.found)))) from
+    leads : All (leading.Leads t.heap.chunks (relocations (nothing_laid b.laying.spare) b.heap.chunks (smalls b.heap.chunks (olds s.found)))) from
     leads = leading.leads_from b.heap.chunks from closed sound s.found (olds d.found) b.laying.spare kept once all names s marks none_laid none_moved are.begins.new t is
 
     pub from_targets : All (IsTarget t.heap.chunks) from
-    from_targets = leading.refs_targets t.heap.chunks (relocations (before b.laying.spare) b.heap.chunks (smalls b.heap.chunks (olds s.found))) from leads
+    from_targets = leading.refs_targets t.heap.chunks (relocations (nothing_laid b.laying.spare) b.heap.chunks (smalls b.heap.chunks (olds s.found))) from leads
 
     pub from_led : All (λ r. followed_ref t.heap.chunks r ≡ redirection b.heap.chunks s.found b.laying.spare r) from
     from_led = λ j x l. (leads j x l).0

@@ -1,5 +1,5 @@
 -- The capacity that the lists of a collection need.
-use Rattle.copying_gc.proofs.Common.{◌≡◌, ℕ, zero, suc, ◌+◌, ◌-◌, ◌<◌, ◌≤◌, Bool, true, false, cond, List, [], ◌∷◌, length, fold, refl, ap, ◌∙◌, arith, ⊎_elim, eqb, Option, Some, None, length-append, nat_lt, cases_Bool, cases_lt, le-leb, lt-leb, Addr, Birth, Cell, Moved, size_of, with_mark, ChunkValue, cell_at, put_cell, cell_of, place_in, put_object, length-put, LeafHeapValue, Survivor, born_in, born_of, live_count, with_chunks, CollectorValue, birth_in, visited, visited_at, Laying, is_small, laid_all, laid_one, next_place, open_next, opened, room_in, copied, copied_one, followed_at, followed_large, followed_ref, led_cell}
+use Rattle.copying_gc.proofs.Common.{◌≡◌, ℕ, zero, suc, ◌+◌, ◌-◌, ◌<◌, ◌≤◌, Bool, true, false, cond, List, [], ◌∷◌, length, fold, refl, ap, ◌∙◌, arith, ⊎_elim, eqb, Option, Some, None, length-append, nat_lt, cases_Bool, cases_lt, le-leb, lt-leb, Addr, Birth, Cell, Moved, size_of, with_mark, ChunkValue, cell_at, put_cell, cell_of, place_in, put_object, length-put, LeafHeapValue, Survivor, born_in, born_of, live_count, with_chunks, CollectorValue, birth_in, visited_reference, visited_at, Laying, is_moved, laid_all, laid_one, next_place, open_next, opened, room_in, copied, copied_one, followed_at, followed_large, followed_ref, led_cell}
 use Rattle.object_layout.proofs.ChunkLaws as laws
 use Rattle.copying_gc.proofs.FoundLemmas as marks
 use Rattle.copying_gc.proofs.FoundCounts as counts
@@ -38,7 +38,7 @@ fewer_at h s false = fewer h s.old _ (omega arith)
 -- references are updated
 pub fewer_led : (h : List ChunkValue) (ss : List Survivor) → live_count (fold followed_large h ss) ≤ live_count h
 fewer_led h [] = omega arith
-fewer_led h (s ∷ ss) = let a = fewer_at h s (is_small h s.old) in let ih = fewer_led (followed_large h s) ss in omega arith
+fewer_led h (s ∷ ss) = let a = fewer_at h s (is_moved h s.old) in let ih = fewer_led (followed_large h s) ss in omega arith
 
 length_at : (h : List ChunkValue) (s : Survivor) (b : Bool) → length (cond b h (followed_at h s.old)) ≡ length h
 length_at h s true = refl
@@ -46,7 +46,7 @@ length_at h s false = length-put h s.old _
 
 pub length_led : (h : List ChunkValue) (ss : List Survivor) → length (fold followed_large h ss) ≡ length h
 length_led h [] = refl
-length_led h (s ∷ ss) = length_led (followed_large h s) ss ∙ length_at h s (is_small h s.old)
+length_led h (s ∷ ss) = length_led (followed_large h s) ss ∙ length_at h s (is_moved h s.old)
 
 place_at : (h : List ChunkValue) (s : Survivor) (b : Bool) (n : ℕ) → place_in (cond b h (followed_at h s.old)) n ≡ place_in h n
 place_at h s true n = refl
@@ -55,7 +55,7 @@ place_at h s false n = laws.place_in-put h s.old (led_cell (followed_ref h) (cel
 -- and each chunk keeps its position
 pub place_led : (h : List ChunkValue) (ss : List Survivor) (n : ℕ) → place_in (fold followed_large h ss) n ≡ place_in h n
 place_led h [] n = refl
-place_led h (s ∷ ss) n = place_led (followed_large h s) ss n ∙ place_at h s (is_small h s.old) n
+place_led h (s ∷ ss) n = place_led (followed_large h s) ss n ∙ place_at h s (is_moved h s.old) n
 
 -- ---- a search: found and unfound objects together are as many as before
 
@@ -68,13 +68,13 @@ count_at s a (Some b) e =
     let more = length-append s.found (record { birth = b; old = a } ∷ []) in
     omega arith
 
-count_one : (s : CollectorValue) (r : Option Addr) → length (visited s r).found + live_count (visited s r).heap.chunks ≡ length s.found + live_count s.heap.chunks
+count_one : (s : CollectorValue) (r : Option Addr) → length (visited_reference s r).found + live_count (visited_reference s r).heap.chunks ≡ length s.found + live_count s.heap.chunks
 count_one s None = refl
 count_one s (Some a) = count_at s a (birth_in (cell_of s.heap.chunks a).mark) refl
 
-pub count_all : (s : CollectorValue) (rs : List (Option Addr)) → length (fold visited s rs).found + live_count (fold visited s rs).heap.chunks ≡ length s.found + live_count s.heap.chunks
+pub count_all : (s : CollectorValue) (rs : List (Option Addr)) → length (fold visited_reference s rs).found + live_count (fold visited_reference s rs).heap.chunks ≡ length s.found + live_count s.heap.chunks
 count_all s [] = refl
-count_all s (r ∷ rs) = count_all (visited s r) rs ∙ count_one s r
+count_all s (r ∷ rs) = count_all (visited_reference s r) rs ∙ count_one s r
 
 -- ---- copying: the found objects stay, and no more are moved
 
@@ -83,7 +83,7 @@ found_at s x true = refl
 found_at s x false = refl
 
 pub found_stay : (s : CollectorValue) (x : Survivor) → (copied s x).found ≡ s.found
-found_stay s x = found_at s x (is_small s.heap.chunks x.old)
+found_stay s x = found_at s x (is_moved s.heap.chunks x.old)
 
 pub all_stay : (s : CollectorValue) (xs : List Survivor) → (fold copied s xs).found ≡ s.found
 all_stay s [] = refl
@@ -100,7 +100,7 @@ heap_at s x false = refl
 -- of the heap, only the objects change
 pub heap_after : (s : CollectorValue) (xs : List Survivor) → (fold copied s xs).heap ≡ with_chunks s.heap (fold copied s xs).heap.chunks
 heap_after s [] = refl
-heap_after s (x ∷ xs) = heap_after (copied s x) xs ∙ ap (λ (g : LeafHeapValue). with_chunks g (fold copied (copied s x) xs).heap.chunks) (heap_at s x (is_small s.heap.chunks x.old))
+heap_after s (x ∷ xs) = heap_after (copied s x) xs ∙ ap (λ (g : LeafHeapValue). with_chunks g (fold copied (copied s x) xs).heap.chunks) (heap_at s x (is_moved s.heap.chunks x.old))
 
 -- ---- the new chunks, laid or not
 

@@ -1,5 +1,5 @@
 -- The chunks that stay: those of large survivors, unchanged except for their references.
-use Rattle.copying_gc.proofs.Common.{◌≡◌, ℕ, zero, suc, ◌<◌, Bool, true, false, cond, List, [], ◌∷◌, length, map, filter, refl, sym, ap, ◌∙◌, subst, arith, inl, inr, Option, Some, None, Contains, All, is_some, nat_le, remove, not, ◌&&◌, list_any, cases_Bool, cases_lt, false≢true, le-leb, All-head, All-tail, Addr, Cell, Moved, moved_to, size_of, with_mark, ChunkValue, cell_at, cell_of, chunk_at, is_same, AreTidy, IsReserved, IsTidy, same_address, In, contains_from_in, in_from_contains, AreAlike, numbers, Distinct, Survivor, olds, is_small, led_cell, emptied, goes, stays, unreserved, reserved_of, keeps, leaves}
+use Rattle.copying_gc.proofs.Common.{◌≡◌, ℕ, zero, suc, ◌<◌, Bool, true, false, cond, List, [], ◌∷◌, length, map, filter, refl, sym, ap, ◌∙◌, subst, arith, inl, inr, Option, Some, None, Contains, All, is_some, nat_le, remove, not, ◌&&◌, list_any, cases_Bool, cases_lt, false≢true, le-leb, All-head, All-tail, Addr, Cell, Moved, moved_to, size_of, with_mark, ChunkValue, cell_at, cell_of, chunk_at, is_same, AreTidy, IsReserved, IsTidy, same_address, In, contains_from_in, in_from_contains, AreAlike, numbers, Distinct, Survivor, olds, is_moved, led_cell, emptied, goes, stays, unreserved, reserved_of, keeps, leaves}
 use Rattle.address_laws.proofs.Puts as puts
 use Rattle.copying_gc.proofs.Moves as moves
 use Rattle.address_laws.proofs.Extent as extent
@@ -57,7 +57,7 @@ module _ (ss : List Survivor) (f : Option Addr → Option Addr) where
 
   abbrev pub VacatedIn : List ChunkValue → List ChunkValue → Type 0
   VacatedIn hs gs = (a : Addr) → In (numbers hs) a.chunk →
-      (Contains (olds ss) a → is_small hs a ≡ false → cell_of gs a ≡ led_cell f (with_mark (cell_of hs a) (Moved a)))
+      (Contains (olds ss) a → is_moved hs a ≡ false → cell_of gs a ≡ led_cell f (with_mark (cell_of hs a) (Moved a)))
       × ((Contains (olds ss) a → ⊥) → cell_of gs a ≡ cell_of hs a)
 
   left_tail : (k l : ChunkValue) (ks ls : List ChunkValue) → l.number ≡ k.number → (In (numbers ks) k.number → ⊥) → VacatedIn (k ∷ ks) (l ∷ ls) → VacatedIn ks ls

@@ -1,5 +1,5 @@
 -- These chunks are enough.
-use Rattle.copying_gc.proofs.Common.{eqb, ◌≡◌, ℕ, zero, suc, ◌+◌, ◌-◌, ◌*◌, ◌<◌, ◌≤◌, true, List, [], ◌∷◌, ◌++◌, length, refl, sym, ap, ◌∙◌, subst, arith, inl, inr, nat_le, cases_lt, cases_Bool, lt-ltb, le-ltb, le-leb, lt-leb, length_push, Addr, Cell, Mark, Born, Moved, Hole, IsBorn, size_of, with_mark, ChunkValue, cell_at, put_cell, words_in, cell_of, put_object, HasObjectAt, Once, In, contains_from_in, Filled, filled_more, filled_next, found_in, Laying, room_in, placed, next_place, laid_one, open_next, ObjectFits, HaveRoom, AreNew, is_small, small_size, small_in}
+use Rattle.copying_gc.proofs.Common.{eqb, ◌≡◌, ℕ, zero, suc, ◌+◌, ◌-◌, ◌*◌, ◌<◌, ◌≤◌, true, List, [], ◌∷◌, ◌++◌, length, refl, sym, ap, ◌∙◌, subst, arith, inl, inr, nat_le, cases_lt, cases_Bool, lt-ltb, le-ltb, le-leb, lt-leb, length_push, Addr, Cell, Mark, Born, Moved, Hole, IsBorn, size_of, with_mark, ChunkValue, cell_at, put_cell, words_in, cell_of, put_object, HasObjectAt, Once, In, contains_from_in, Filled, filled_more, filled_next, found_in, Laying, room_in, placed_behind, next_place, laid_one, open_next, ObjectFits, HaveRoom, AreNew, is_moved, small_size, small_in}
 use Rattle.object_layout.proofs.PlaceLemmas as place
 use Rattle.copying_gc.specs.Laid.{small_words}
 use Rattle.copying_gc.proofs.FoundLemmas as marks
@@ -19,19 +19,19 @@ place_push [] k = refl
 place_push (x ∷ []) k = refl
 place_push (x ∷ (z ∷ ks)) k = place_push (z ∷ ks) k
 
-room_placed : (ks : List ChunkValue) (c : Cell) → room_in (placed ks c) ≡ room_in ks - size_of c
+room_placed : (ks : List ChunkValue) (c : Cell) → room_in (placed_behind ks c) ≡ room_in ks - size_of c
 room_placed [] c = omega arith
 room_placed (k ∷ []) c = let e = place.words_in-push k.cells c in omega arith
 room_placed (k ∷ (l ∷ [])) c = room_placed (l ∷ []) c
 room_placed (k ∷ (l ∷ (m ∷ ks))) c = room_placed (l ∷ (m ∷ ks)) c
 
-place_placed : (ks : List ChunkValue) (c : Cell) → 0 < length ks → (next_place (placed ks c)).offset ≡ (next_place ks).offset + size_of c
+place_placed : (ks : List ChunkValue) (c : Cell) → 0 < length ks → (next_place (placed_behind ks c)).offset ≡ (next_place ks).offset + size_of c
 place_placed [] c l = absurd (omega arith)
 place_placed (k ∷ []) c l = place.words_in-push k.cells c
 place_placed (k ∷ (x ∷ [])) c l = place_placed (x ∷ []) c (omega arith)
 place_placed (k ∷ (x ∷ (m ∷ ks))) c l = place_placed (x ∷ (m ∷ ks)) c (omega arith)
 
-pub length_placed : (ks : List ChunkValue) (c : Cell) → length (placed ks c) ≡ length ks
+pub length_placed : (ks : List ChunkValue) (c : Cell) → length (placed_behind ks c) ≡ length ks
 length_placed [] c = refl
 length_placed (k ∷ []) c = refl
 length_placed (k ∷ (l ∷ ks)) c = let ih = length_placed (l ∷ ks) c in omega arith
@@ -56,7 +56,7 @@ module _ (h : List ChunkValue) (n : ℕ) where
     enough : 2 * n ≤ length y.laid + length y.spare + 1
 
   fits_here : (y : Laying) (c : Cell) (t left : ℕ) → Going y t (size_of c + left) → size_of c ≤ room_in y.laid
-      → ((size_of c ≤ room_in y.laid) × ((next_place y.laid).offset < 1024)) × Going (record { laid = placed y.laid c; spare = y.spare }) (t + size_of c) left
+      → ((size_of c ≤ room_in y.laid) × ((next_place y.laid).offset < 1024)) × Going (record { laid = placed_behind y.laid c; spare = y.spare }) (t + size_of c) left
   fits_here y c t left g f =
       let some : 0 < length y.laid = elim (cases_lt 0 (length y.laid)) [ inl l ↦ l | inr z ↦ let e = g.whole.1 (omega arith) in absurd (omega arith) ] in
       let w = g.whole.0 some in
@@ -76,7 +76,7 @@ module _ (h : List ChunkValue) (n : ℕ) where
       )
 
   fits_next : (y : Laying) (k : ChunkValue) (ks : List ChunkValue) (c : Cell) (t left : ℕ) → Going (record { laid = y.laid; spare = k ∷ ks }) t (size_of c + left) → room_in y.laid < size_of c → size_of c ≤ 1024
-      → ((size_of c ≤ room_in (y.laid ++ k ∷ [])) × ((next_place (y.laid ++ k ∷ [])).offset < 1024)) × Going (record { laid = placed (y.laid ++ k ∷ []) c; spare = ks }) (t + size_of c) left
+      → ((size_of c ≤ room_in (y.laid ++ k ∷ [])) × ((next_place (y.laid ++ k ∷ [])).offset < 1024)) × Going (record { laid = placed_behind (y.laid ++ k ∷ []) c; spare = ks }) (t + size_of c) left
   fits_next y k ks c t left g over small =
       let len = length_placed (y.laid ++ k ∷ []) c in
       let len' = length_push y.laid k in
@@ -87,8 +87,8 @@ module _ (h : List ChunkValue) (n : ℕ) where
       let p' = place_push y.laid k in
       let size : k.size ≡ 1024 = g.fresh.0.1 in
       let none = ap words_in g.fresh.0.0 in
-      let u : (next_place (placed (y.laid ++ k ∷ []) c)).offset ≡ size_of c = omega arith in
-      let l : length (placed (y.laid ++ k ∷ []) c) ≡ length y.laid + 1 = omega arith in
+      let u : (next_place (placed_behind (y.laid ++ k ∷ []) c)).offset ≡ size_of c = omega arith in
+      let l : length (placed_behind (y.laid ++ k ∷ []) c) ≡ length y.laid + 1 = omega arith in
       let m : t + (size_of c + left) ≤ 1024 * n = g.most in
       let q : 2 * n ≤ length y.laid + suc (length ks) + 1 = g.enough in (
         (omega arith, omega arith),
@@ -108,7 +108,7 @@ module _ (h : List ChunkValue) (n : ℕ) where
       some_left (length y.laid) (next_place y.laid).offset (size_of c) t n (length y.spare) g.filled (λ z. let w = g.whole.0 z in omega arith) (omega arith) (omega arith) q
 
   fits_opened : (laid spare : List ChunkValue) (c : Cell) (t left : ℕ) → Going (record { laid = laid; spare = spare }) t (size_of c + left) → room_in laid < size_of c → size_of c ≤ 1024
-      → ((size_of c ≤ room_in (open_next laid spare).laid) × ((next_place (open_next laid spare).laid).offset < 1024)) × Going (record { laid = placed (open_next laid spare).laid c; spare = (open_next laid spare).spare }) (t + size_of c) left
+      → ((size_of c ≤ room_in (open_next laid spare).laid) × ((next_place (open_next laid spare).laid).offset < 1024)) × Going (record { laid = placed_behind (open_next laid spare).laid c; spare = (open_next laid spare).spare }) (t + size_of c) left
   fits_opened laid [] c t left g over small = absurd (let z = spare_left (record { laid = laid; spare = [] }) c t left g over in omega arith)
   fits_opened laid (k ∷ ks) c t left g over small = fits_next (record { laid = laid; spare = k ∷ ks }) k ks c t left g over small
 
@@ -157,7 +157,7 @@ words_cells (c ∷ cs) (suc n) to l s =
           rw t (omega arith)
     ]
 
-words_found : (h : List ChunkValue) (a to : Addr) → HasObjectAt h a → is_small h a ≡ true → small_words h ≡ small_words (put_object h a (with_mark (cell_of h a) (Moved to))) + size_of (cell_of h a)
+words_found : (h : List ChunkValue) (a to : Addr) → HasObjectAt h a → is_moved h a ≡ true → small_words h ≡ small_words (put_object h a (with_mark (cell_of h a) (Moved to))) + size_of (cell_of h a)
 words_found [] a to l s = absurd l
 words_found (k ∷ ks) a to l s =
     elim (cases_Bool (eqb k.number a.chunk)) [
@@ -173,7 +173,7 @@ sizes_found h a (x ∷ xs) n =
     omega arith
 
 -- the words of distinct small objects of a heap are no more than those of all its small objects
-pub sizes_most : (h : List ChunkValue) (xs : List Addr) → Once xs → ((a : Addr) → In xs a → HasObjectAt h a × (is_small h a ≡ true)) → sizes h xs ≤ small_words h
+pub sizes_most : (h : List ChunkValue) (xs : List Addr) → Once xs → ((a : Addr) → In xs a → HasObjectAt h a × (is_moved h a ≡ true)) → sizes h xs ≤ small_words h
 sizes_most h [] o l = omega arith
 sizes_most h (a ∷ xs) o l =
     let n : In xs a → ⊥ = λ i. o.0 (contains_from_in xs a i) in

@@ -1,5 +1,5 @@
 -- A collection leaves a tidy heap: no object in it was moved, and a large one has its chunk to itself.
-use Rattle.copying_gc.proofs.Common.{◌≡◌, ℕ, zero, suc, ◌+◌, ◌*◌, ◌<◌, ◌≤◌, Bool, true, false, cond, List, [], ◌∷◌, ◌++◌, length, map, filter, refl, sym, ap, ◌∙◌, subst, arith, inl, inr, Option, Some, None, All, remove, nat_lt, reverse, leb-true, length-map, All-append, All-cons, All-filter, All-get_or, All-head, All-map, All-nil, All-push, All-tail, All-weaker, Addr, Cell, moved_to, size_of, ChunkValue, cell_of, no_chunk, AreTidy, IsTidy, units, unmoved_at, In, Survivor, olds, before, laid_all, laid_one, opened, open_next, placed, room_in, smalls, AreNew, Laying, led_cell, led_chunk, reserved_of, unreserved, keeps, laying_of}
+use Rattle.copying_gc.proofs.Common.{◌≡◌, ℕ, zero, suc, ◌+◌, ◌*◌, ◌<◌, ◌≤◌, Bool, true, false, cond, List, [], ◌∷◌, ◌++◌, length, map, filter, refl, sym, ap, ◌∙◌, subst, arith, inl, inr, Option, Some, None, All, remove, nat_lt, reverse, leb-true, length-map, All-append, All-cons, All-filter, All-get_or, All-head, All-map, All-nil, All-push, All-tail, All-weaker, Addr, Cell, moved_to, size_of, ChunkValue, cell_of, no_chunk, AreTidy, IsTidy, units, unmoved_at, In, Survivor, olds, nothing_laid, laid_all, laid_one, opened, open_next, placed_behind, room_in, smalls, AreNew, Laying, led_cell, led_chunk, reserved_of, unreserved, keeps, laying_of}
 use Rattle.copying_gc.proofs.Moves.{in_smalls}
 use Rattle.copying_gc.proofs.NewNumbers.{Within, new_reverse}
 
@@ -12,12 +12,12 @@ IsLaid c = (moved_to c.mark ≡ None) × (size_of c ≤ 1024)
 abbrev HoldsLaid : ChunkValue → Type 0
 HoldsLaid k = All IsLaid k.cells × (k.size ≡ 1024)
 
-laid_placed : (ks : List ChunkValue) (c : Cell) → IsLaid c → All HoldsLaid ks → All HoldsLaid (placed ks c)
+laid_placed : (ks : List ChunkValue) (c : Cell) → IsLaid c → All HoldsLaid ks → All HoldsLaid (placed_behind ks c)
 laid_placed [] c p a = a
 laid_placed (k ∷ []) c p a =
     let here = All-head HoldsLaid k [] a in
     All-cons HoldsLaid (record k { cells = k.cells ++ c ∷ [] }) [] (All-push IsLaid k.cells c here.0 p, here.1) (All-nil HoldsLaid)
-laid_placed (k ∷ (l ∷ ks)) c p a = All-cons HoldsLaid k (placed (l ∷ ks) c) (All-head HoldsLaid k (l ∷ ks) a) (laid_placed (l ∷ ks) c p (All-tail HoldsLaid k (l ∷ ks) a))
+laid_placed (k ∷ (l ∷ ks)) c p a = All-cons HoldsLaid k (placed_behind (l ∷ ks) c) (All-head HoldsLaid k (l ∷ ks) a) (laid_placed (l ∷ ks) c p (All-tail HoldsLaid k (l ∷ ks) a))
 
 laid_open : (laid spare : List ChunkValue) → All HoldsLaid laid → AreNew spare → All HoldsLaid (open_next laid spare).laid × AreNew (open_next laid spare).spare
 laid_open laid [] a n = (a, n)
@@ -85,7 +85,7 @@ pub all_tidy : (f : Option Addr → Option Addr) (h : List ChunkValue) (ss : Lis
 all_tidy f h ss news r t new within laid is =
     let xs = smalls h (olds ss) in
     let small : (a : Addr) → In (smalls h (olds ss)) a → IsLaid (cell_of h a) = λ a i. (unmoved_at h a t, leb-true (size_of (cell_of h a)) 1024 (in_smalls h (olds ss) a i).1) in
-    let first = all_laid (before (reverse news)) h (smalls h (olds ss)) small (All-nil HoldsLaid) (new_reverse news new) in
+    let first = all_laid (nothing_laid (reverse news)) h (smalls h (olds ss)) small (All-nil HoldsLaid) (new_reverse news new) in
     let one : AreTidy laid = subst AreTidy (sym is) (all_led f (laying_of h ss (reverse news)).laid (All-weaker HoldsLaid IsTidy laid_tidy (laying_of h ss (reverse news)).laid first)) in
     let two : AreTidy (map (led_chunk f) (filter (keeps ss) (unreserved h r))) = all_led f (filter (keeps ss) (unreserved h r)) (All-filter (keeps ss) IsTidy (unreserved h r) (unreserved_tidy h r t)) in
     All-append IsTidy laid (map (led_chunk f) (filter (keeps ss) (unreserved h r)) ++ reserved_of h r) one

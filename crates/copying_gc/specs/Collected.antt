@@ -5,7 +5,7 @@ use Rattle.std.specs.List.Sorted.{IsSorted}
 use Rattle.copying_gc.specs.Common.{Addr, Moved, size_of, with_mark, chunk_words, ChunkValue, cell_at, cell_of, LeafHeapValue, same_address, AreAlike}
 use Rattle.copying_gc.specs.declared.lists.Survivor.{Survivor}
 use Rattle.copying_gc.specs.Survivors.{HaveNames, IsSurvivor, olds, survivor_order}
-use Rattle.copying_gc.specs.Laid.{Laying, before, is_small, laid_all, relocations, smalls}
+use Rattle.copying_gc.specs.Laid.{Laying, nothing_laid, is_moved, laid_all, relocations, smalls}
 use Rattle.copying_gc.specs.Redirected.{led_cell, led_chunk, redirected}
 use Rattle.copying_gc.specs.Exchanged.{emptied, last_place, reserved_of, reserved_place, unreserved}
 
@@ -18,11 +18,11 @@ pub record AreSurvivors (h : List ChunkValue) (from : List (Option Addr)) (ss : 
 
 -- the new chunks after the small survivors are laid into them, and those not opened
 abbrev pub laying_of : List ChunkValue → List Survivor → List ChunkValue → Laying
-laying_of h ss news = laid_all (before news) h (smalls h (olds ss))
+laying_of h ss news = laid_all (nothing_laid news) h (smalls h (olds ss))
 
 -- where each small survivor was, and where it is laid
 abbrev pub moves_of : List ChunkValue → List Survivor → List ChunkValue → List (Addr × Addr)
-moves_of h ss news = relocations (before news) h (smalls h (olds ss))
+moves_of h ss news = relocations (nothing_laid news) h (smalls h (olds ss))
 
 -- where each reference leads
 abbrev pub redirection : List ChunkValue → List Survivor → List ChunkValue → Option Addr → Option Addr
@@ -33,7 +33,7 @@ redirection h ss news = redirected (moves_of h ss news)
 -- a large survivor is where it was, marked as found, with its references updated; what doesn't survive is unchanged
 pub record IsVacated (h g : List ChunkValue) (ss : List Addr) (f : Option Addr → Option Addr) : Type 0 where
   pub alike : AreAlike h g
-  pub large : (a : Addr) → Contains ss a → is_small h a ≡ false → cell_of g a ≡ led_cell f (with_mark (cell_of h a) (Moved a))
+  pub large : (a : Addr) → Contains ss a → is_moved h a ≡ false → cell_of g a ≡ led_cell f (with_mark (cell_of h a) (Moved a))
   pub others : (a : Addr) → (Contains ss a → ⊥) → cell_of g a ≡ cell_of h a
 
 -- ---- the collected heap

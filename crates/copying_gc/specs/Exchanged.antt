@@ -39,10 +39,10 @@ reserved_place n None = None
 reserved_place n (Some i) = Some n
 
 -- a survivor that is in the heap gets its birth name back
-abbrev pub named : List ChunkValue → Survivor → List ChunkValue
-named h s = if is_some (place_in h s.old.chunk) then put_object h s.old (with_mark (cell_of h s.old) (Born s.birth)) else h
+abbrev pub with_birth_name : List ChunkValue → Survivor → List ChunkValue
+with_birth_name h s = if is_some (place_in h s.old.chunk) then put_object h s.old (with_mark (cell_of h s.old) (Born s.birth)) else h
 
 -- each of these that is in the heap is an object there, when its turn comes
 abbrev pub CanName : List ChunkValue → List Survivor → Type 0
 CanName h [] = Unit {0}
-CanName h (s ∷ ss) = (is_some (place_in h s.old.chunk) ≡ true → IsObject (cell_of h s.old).mark) × CanName (named h s) ss
+CanName h (s ∷ ss) = (is_some (place_in h s.old.chunk) ≡ true → IsObject (cell_of h s.old).mark) × CanName (with_birth_name h s) ss

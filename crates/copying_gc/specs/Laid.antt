@@ -5,11 +5,11 @@ use Rattle.copying_gc.specs.Common.{Addr, Born, Cell, Hole, Mark, Moved, size_of
 -- ---- which objects are copied
 
 -- a small object, of at most 1,024 words, is moved; a large one stays where it is
-abbrev pub is_small : List ChunkValue → Addr → Bool
-is_small h a = nat_le (size_of (cell_of h a)) chunk_words
+abbrev pub is_moved : List ChunkValue → Addr → Bool
+is_moved h a = nat_le (size_of (cell_of h a)) chunk_words
 
 abbrev pub smalls : List ChunkValue → List Addr → List Addr
-smalls h xs = filter (is_small h) xs
+smalls h xs = filter (is_moved h) xs
 
 -- the words of an object, if it is small and has its birth name
 abbrev pub small_size : Mark → ℕ → ℕ
@@ -35,10 +35,10 @@ room_in (k ∷ []) = k.size - words_in k.cells
 room_in (k ∷ (l ∷ ks)) = room_in (l ∷ ks)
 
 -- the chunks with one more object in the last one
-abbrev pub placed : List ChunkValue → Cell → List ChunkValue
-placed [] c = []
-placed (k ∷ []) c = record k { cells = k.cells ++ c ∷ [] } ∷ []
-placed (k ∷ (l ∷ ks)) c = k ∷ placed (l ∷ ks) c
+abbrev pub placed_behind : List ChunkValue → Cell → List ChunkValue
+placed_behind [] c = []
+placed_behind (k ∷ []) c = record k { cells = k.cells ++ c ∷ [] } ∷ []
+placed_behind (k ∷ (l ∷ ks)) c = k ∷ placed_behind (l ∷ ks) c
 
 -- the address of that object
 abbrev pub next_place : List ChunkValue → Addr
@@ -67,7 +67,7 @@ laid_at y size = next_place (opened y size).laid
 
 -- an object was laid into the last chunk, or, if it doesn't fit there, into the next one
 abbrev pub laid_one : Laying → Cell → Laying
-laid_one y c = record { laid = placed (opened y (size_of c)).laid c; spare = (opened y (size_of c)).spare }
+laid_one y c = record { laid = placed_behind (opened y (size_of c)).laid c; spare = (opened y (size_of c)).spare }
 
 -- an object of this size fits
 abbrev pub ObjectFits : Laying → ℕ → Type 0
@@ -94,5 +94,5 @@ AreNew [] = Unit {0}
 AreNew (k ∷ ks) = ((k.cells ≡ []) × (k.size ≡ chunk_words)) × AreNew ks
 
 -- before anything is laid
-abbrev pub before : List ChunkValue → Laying
-before spare = record { laid = []; spare = spare }
+abbrev pub nothing_laid : List ChunkValue → Laying
+nothing_laid spare = record { laid = []; spare = spare }

@@ -4,7 +4,7 @@ use Rattle.copying_gc.specs.Common.{Addr, Cell, IsObject, moved_to, ChunkValue, 
 pub use Rattle.object_layout.specs.Objects.{led_cell, led_chunk}
 pub use Rattle.task_frames.specs.FramesValue.{led_frame}
 use Rattle.copying_gc.specs.declared.lists.Survivor.{Survivor}
-use Rattle.copying_gc.specs.Laid.{is_small}
+use Rattle.copying_gc.specs.Laid.{is_moved}
 use Rattle.copying_gc.specs.Search.{IsTarget}
 
 -- ---- by the relocation list
@@ -37,7 +37,7 @@ followed_at h a = put_object h a (led_cell (followed_ref h) (cell_of h a))
 
 -- the same, if the object is large
 abbrev pub followed_large : List ChunkValue → Survivor → List ChunkValue
-followed_large h s = if is_small h s.old then h else followed_at h s.old
+followed_large h s = if is_moved h s.old then h else followed_at h s.old
 
 -- the references of each of these can be followed when its turn comes
 abbrev pub CanFollow : List ChunkValue → List Survivor → Type 0

@@ -27,9 +27,9 @@ visited_at c a (Some b) = record c {
 }
 
 -- a reference was followed
-abbrev pub visited : CollectorValue → Option Addr → CollectorValue
-visited c None = c
-visited c (Some a) = visited_at c a (birth_in (cell_of c.heap.chunks a).mark)
+abbrev pub visited_reference : CollectorValue → Option Addr → CollectorValue
+visited_reference c None = c
+visited_reference c (Some a) = visited_at c a (birth_in (cell_of c.heap.chunks a).mark)
 
 -- a reference into the heap leads to an object there, found or not, at an address that a word can hold
 abbrev pub IsTarget : List ChunkValue → Option Addr → Type 0

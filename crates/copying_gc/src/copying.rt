@@ -5,7 +5,7 @@ ghost use Rattle.object_layout.specs.Cell.{Moved, size_of, with_mark, IsObject, 
 ghost use Rattle.object_layout.specs.Place.{words_in};
 ghost use Rattle.object_layout.specs.Chunks.{cell_of, next_address, place_in, put_object};
 ghost use Rattle.copying_gc.specs.Survivors.{with_chunks};
-ghost use Rattle.copying_gc.specs.Laid.{is_small, next_place, opened, placed, room_in, ObjectFits};
+ghost use Rattle.copying_gc.specs.Laid.{is_moved, next_place, opened, placed_behind, room_in, ObjectFits};
 ghost use Rattle.copying_gc.specs.Copying.{copied, copied_last, copied_one, survivor_cell, IsReady};
 
 use crate::collector::Collector;
@@ -73,7 +73,7 @@ fn move_last(heap: &mut Space, place: usize, survivor: Survivor, laid: &mut [Chu
     requires room { size_of (cell_of heap.old.chunks survivor.old) ≤ room_in laid.old }
     requires begins { (next_place laid.old).offset < chunk_words }
     ensures address { result ≡ next_place laid.old }
-    ensures laid { laid.new ≡ placed laid.old (survivor_cell heap.old.chunks survivor) }
+    ensures laid { laid.new ≡ placed_behind laid.old (survivor_cell heap.old.chunks survivor) }
     ensures left { heap.new ≡ with_chunks heap.old (put_object heap.old.chunks survivor.old (with_mark (cell_of heap.old.chunks survivor.old) (Moved result))) }
 {
     let last = laid.len() - 1;
@@ -124,7 +124,7 @@ impl Collector {
     fn copy_if_small(&mut self, place: usize, survivor: Survivor)
         requires place { place_in self.old.heap.chunks survivor.old.chunk ≡ Some place }
         requires object { IsObject (cell_of self.old.heap.chunks survivor.old).mark }
-        requires room { is_small self.old.heap.chunks survivor.old ≡ true → ObjectFits self.old.laying (size_of (cell_of self.old.heap.chunks survivor.old)) }
+        requires room { is_moved self.old.heap.chunks survivor.old ≡ true → ObjectFits self.old.laying (size_of (cell_of self.old.heap.chunks survivor.old)) }
         requires list { length self.old.moved < length self.old.found }
         ensures { self.new ≡ copied self.old survivor }
     {
@@ -137,7 +137,7 @@ impl Collector {
     // Copies a survivor, if it is small.
     fn copy_small(&mut self, survivor: Survivor)
         requires object { IsObject (cell_of self.old.heap.chunks survivor.old).mark }
-        requires room { is_small self.old.heap.chunks survivor.old ≡ true → ObjectFits self.old.laying (size_of (cell_of self.old.heap.chunks survivor.old)) }
+        requires room { is_moved self.old.heap.chunks survivor.old ≡ true → ObjectFits self.old.laying (size_of (cell_of self.old.heap.chunks survivor.old)) }
         requires list { length self.old.moved < length self.old.found }
         ensures { self.new ≡ copied self.old survivor }
     {

@@ -6,7 +6,7 @@ ghost use Rattle.object_layout.specs.Cell.{IsObject, IsPlace};
 ghost use Rattle.object_layout.specs.Place.{cell_at, IsObjectAt};
 ghost use Rattle.object_layout.specs.Chunks.{cell_of, place_in, same_address};
 ghost use Rattle.copying_gc.specs.Survivors.{as_reference, frame_references, olds, outside, with_chunks, HaveNames, IsSurvivor};
-ghost use Rattle.copying_gc.specs.Search.{all_found, birth_in, visited, IsTarget};
+ghost use Rattle.copying_gc.specs.Search.{all_found, birth_in, visited_reference, IsTarget};
 ghost use Rattle.object_layout.specs.declared.word.Addr.{Addr};
 ghost use Rattle.object_layout.specs.Graph.{IsClosed, IsSoundReference};
 ghost use Rattle.task_frames.specs.FramesValue.{frames_of};
@@ -72,7 +72,7 @@ impl Collector {
     // Adds the object at an address to those found, if it is in the heap and not found yet.
     fn visit(&mut self, reference: Option<Addr>)
         requires { IsTarget self.old.heap.chunks reference }
-        ensures { self.new ≡ visited self.old reference }
+        ensures { self.new ≡ visited_reference self.old reference }
     {
         if let Some(address) = reference {
             let place = self.target.place_of(&self.heap, address.chunk);
@@ -89,7 +89,7 @@ impl Collector {
     // Follows each of these references.
     fn visit_all(&mut self, references: &[Option<Addr>])
         requires { All (IsTarget self.old.heap.chunks) references.now }
-        ensures { self.new ≡ fold visited self.old references.now }
+        ensures { self.new ≡ fold visited_reference self.old references.now }
     {
         for &reference in references {
             self.visit(reference);
@@ -101,7 +101,7 @@ impl Collector {
         requires place { place_in self.old.heap.chunks object.chunk ≡ Some place }
         requires object { IsObject (cell_of self.old.heap.chunks object).mark }
         requires targets { All (IsTarget self.old.heap.chunks) (cell_of self.old.heap.chunks object).refs }
-        ensures { self.new ≡ fold visited self.old (cell_of self.old.heap.chunks object).refs }
+        ensures { self.new ≡ fold visited_reference self.old (cell_of self.old.heap.chunks object).refs }
     {
         for field in 0..refs_in(&self.heap, place, object) {
             let reference = ref_in(&self.heap, place, object, field);
@@ -113,7 +113,7 @@ impl Collector {
     fn visit_refs(&mut self, object: Addr)
         requires object { IsObject (cell_of self.old.heap.chunks object).mark }
         requires targets { All (IsTarget self.old.heap.chunks) (cell_of self.old.heap.chunks object).refs }
-        ensures { self.new ≡ fold visited self.old (cell_of self.old.heap.chunks object).refs }
+        ensures { self.new ≡ fold visited_reference self.old (cell_of self.old.heap.chunks object).refs }
     {
         let place = self.place_of(object);
         self.visit_fields(place, object);
@@ -122,7 +122,7 @@ impl Collector {
     // Follows the references of all frames.
     fn visit_frames(&mut self, frames: &Frames)
         requires { All (IsTarget self.old.heap.chunks) (frame_references (frames_of frames.now)) }
-        ensures { self.new ≡ fold visited self.old (frame_references (frames_of frames.now)) }
+        ensures { self.new ≡ fold visited_reference self.old (frame_references (frames_of frames.now)) }
     {
         for frame in 0..frames.depth() {
             let references = frames.references_in(frame);
@@ -133,7 +133,7 @@ impl Collector {
     // Follows the roots.
     fn visit_roots(&mut self, roots: &[Addr])
         requires { All (IsTarget self.old.heap.chunks) (map as_reference roots.now) }
-        ensures { self.new ≡ fold visited self.old (map as_reference roots.now) }
+        ensures { self.new ≡ fold visited_reference self.old (map as_reference roots.now) }
     {
         for &root in roots {
             self.visit(Some(root));

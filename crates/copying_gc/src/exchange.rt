@@ -4,7 +4,7 @@ ghost use Rattle.std.specs.Prelude.{◌≡◌, ◌+◌, ◌≤◌, ◌++◌, ◌
 ghost use Rattle.leaf_heap.specs.Counted.{AreCounted};
 ghost use Rattle.leaf_heap.specs.LeafHeapValue.{exchanged, with_places, HaveDistinctNumbers, IsCurrent, IsReserved};
 ghost use Rattle.copying_gc.specs.Survivors.{with_chunks};
-ghost use Rattle.copying_gc.specs.Exchanged.{counted32, emptied, goes, last_place, named, reserved_of, reserved_place, stays, unit_count, unreserved, CanName};
+ghost use Rattle.copying_gc.specs.Exchanged.{counted32, emptied, goes, last_place, with_birth_name, reserved_of, reserved_place, stays, unit_count, unreserved, CanName};
 
 use crate::copying::SMALL;
 use crate::lists::Survivor;
@@ -84,7 +84,7 @@ fn place_of_last(chunks: &[Chunk]) -> Option<usize>
 // Gives a survivor that is in the heap its birth name back.
 fn name(heap: &mut Space, survivor: Survivor)
     requires { CanName heap.old.chunks (survivor ∷ []) }
-    ensures { heap.new ≡ with_chunks heap.old (named heap.old.chunks survivor) }
+    ensures { heap.new ≡ with_chunks heap.old (with_birth_name heap.old.chunks survivor) }
 {
     if heap.owns(survivor.old) {
         heap.own_set_birth(survivor.old, survivor.birth);
@@ -94,7 +94,7 @@ fn name(heap: &mut Space, survivor: Survivor)
 // Gives the survivors that are in the heap their birth names back.
 fn name_all(heap: &mut Space, found: &[Survivor])
     requires { CanName heap.old.chunks found.now }
-    ensures { heap.new ≡ with_chunks heap.old (fold named heap.old.chunks found.now) }
+    ensures { heap.new ≡ with_chunks heap.old (fold with_birth_name heap.old.chunks found.now) }
 {
     for &survivor in found {
         name(heap, survivor);
@@ -104,8 +104,8 @@ fn name_all(heap: &mut Space, found: &[Survivor])
 /// Gives the large survivors, if there are any, their birth names back.
 pub fn name_larges(heap: &mut Space, found: &[Survivor], are_large: bool)
     requires can { CanName heap.old.chunks found.now }
-    requires none { are_large ≡ false → fold named heap.old.chunks found.now ≡ heap.old.chunks }
-    ensures { heap.new ≡ with_chunks heap.old (fold named heap.old.chunks found.now) }
+    requires none { are_large ≡ false → fold with_birth_name heap.old.chunks found.now ≡ heap.old.chunks }
+    ensures { heap.new ≡ with_chunks heap.old (fold with_birth_name heap.old.chunks found.now) }
 {
     if are_large {
         name_all(heap, found);

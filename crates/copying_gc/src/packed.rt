@@ -2,7 +2,7 @@
 
 ghost use Rattle.std.specs.Prelude.{◌≡◌, false};
 ghost use Rattle.leaf_heap.specs.Counted.{AreCounted};
-ghost use Rattle.leaf_heap.specs.LeafHeapValue.{counted, AreWithin};
+ghost use Rattle.leaf_heap.specs.LeafHeapValue.{saturating_words, AreWithin};
 ghost use Rattle.copying_gc.specs.Packed.{used_words, ArePacked};
 
 use leaf_heap::{Counts, counts_of};
@@ -10,7 +10,7 @@ use object_layout::Chunk;
 
 // The words that objects and holes of these chunks take.
 fn used_words(chunks: &[Chunk]) -> u64
-    ensures words { result ≡ counted (used_words chunks.now) }
+    ensures words { result ≡ saturating_words (used_words chunks.now) }
     ensures within { AreWithin chunks.now }
 {
     let mut words = 0u64;

@@ -1,6 +1,5 @@
 -- The objects that are read from cells, and the cells.
-use Rattle.core_invariant.proofs.Common.{◌≡◌, ℕ, suc, ◌+◌, ◌<◌, ◌==◌, arith, Bool, true, false, cond, Some, None, List, [], ◌∷◌, ◌++◌, length, nat_lt, ◌⊎◌, inl, inr, refl, ap, sym, subst, ◌∙◌, eq-eqb, le-leb, cond-true, false≢true, contains_from_in, Addr, Birth, Born, Cell, Hole, Mark, Moved, size_of, ChunkValue, cell_of, place_in, place_of, Located, located, located_by, objects_from, objects_of, LiesThere, object_read, objects_lie_there, HaveDistinctNumbers, In, objects_in, chunks_of}
-use Rattle.refinement.specs.below.object_layout.{objects_in as located_in}
+use Rattle.core_invariant.proofs.Common.{◌≡◌, ℕ, suc, ◌+◌, ◌<◌, ◌==◌, arith, Bool, true, false, cond, Some, None, List, [], ◌∷◌, ◌++◌, length, nat_lt, ◌⊎◌, inl, inr, refl, ap, sym, subst, ◌∙◌, eq-eqb, le-leb, cond-true, false≢true, contains_from_in, Addr, Birth, Born, Cell, Hole, Mark, Moved, size_of, ChunkValue, cell_of, place_in, place_of, Located, located, located_by, objects_from, objects_of, LiesThere, object_read, objects_lie_there, HaveDistinctNumbers, In, objects_of_chunks, chunks_of, objects_in as located_in}
 
 -- ---- THE CELLS OF ONE CHUNK
 
@@ -18,12 +17,12 @@ numbered number base (c ∷ cs) o i = number_by number base c c.mark (objects_fr
 -- ---- CHUNKS
 
 -- the objects of a heap's chunks
-pub objects_are : (ks : List ChunkValue) → objects_in (chunks_of ks) ≡ located_in ks
+pub objects_are : (ks : List ChunkValue) → objects_of_chunks (chunks_of ks) ≡ located_in ks
 objects_are [] = refl
 objects_are (k ∷ ks) = ap (λ os. objects_of k ++ os) (objects_are ks)
 
 -- an object at an address is read there
-pub object_seen : (ks : List ChunkValue) (a : Addr) (b : Birth) → (cell_of ks a).mark ≡ Born b → In (objects_in (chunks_of ks)) (located a.chunk a.offset b (cell_of ks a))
+pub object_seen : (ks : List ChunkValue) (a : Addr) (b : Birth) → (cell_of ks a).mark ≡ Born b → In (objects_of_chunks (chunks_of ks)) (located a.chunk a.offset b (cell_of ks a))
 object_seen ks a b e = subst (λ os. In os (located a.chunk a.offset b (cell_of ks a))) (sym (objects_are ks)) (object_read ks a b e)
 
 place_lt : (ks : List ChunkValue) (k : ChunkValue) → In ks k → place_of ks k.number < length ks
@@ -42,5 +41,5 @@ fresh_off ks k number e i q =
     absurd cc
 
 -- an object that is read is at its address
-pub seen_object : (ks : List ChunkValue) (o : Located) → HaveDistinctNumbers ks → In (objects_in (chunks_of ks)) o → LiesThere ks o
+pub seen_object : (ks : List ChunkValue) (o : Located) → HaveDistinctNumbers ks → In (objects_of_chunks (chunks_of ks)) o → LiesThere ks o
 seen_object ks o A i = (objects_lie_there ks A o).0 (contains_from_in (located_in ks) o (subst (λ os. In os o) (objects_are ks) i))

@@ -1,6 +1,6 @@
 -- The remembered fields of a heap are updated to where its objects are now: what is read afterwards in the heaps that
 -- no worker holds.
-use Rattle.core_invariant.proofs.Common.{◌≡◌, ℕ, ◌+◌, ◌-◌, ◌==◌, arith, Bool, true, false, cond, Option, Some, None, List, [], ◌∷◌, fold, length, map, slice_get, inl, inr, refl, ap, ap₂, sym, subst, ◌∙◌, option_flatten, slice_index_or, slice_set, unwrap_or, cases_eq, false≢true, same_Some, got_other, got_same, map_in, Addr, Birth, Born, Cell, marked_object, size_of, with_ref, cell_of, put_object, same_address, with_cell, ChunkValue, Located, with_fields, is_same, same_is, PoolValue, owner_of, LeafHeapValue, room_of, with_ref_of, room_at, SameChunkCounts, Level, writes_keep_counts, RefField, target_of, new_reference, redirected, written, new_address, Chunk, In, mapped_chunk, mapped_belongings, objects_in, put_at, rewritten_belongings, in_chunk, ParkedTask, Work, Calls, Result, refs_of_rest, Resting, refs_for, refs_in, with_ref_at, with_ref_for, with_ref_in, chunk_of, chunks_of, AreMeasured, HeapForm, belongings_by, belongings_in, belongings_of, rest_at}
+use Rattle.core_invariant.proofs.Common.{◌≡◌, ℕ, ◌+◌, ◌-◌, ◌==◌, arith, Bool, true, false, cond, Option, Some, None, List, [], ◌∷◌, fold, length, map, slice_get, inl, inr, refl, ap, ap₂, sym, subst, ◌∙◌, option_flatten, slice_index_or, slice_set, unwrap_or, cases_eq, false≢true, same_Some, got_other, got_same, map_in, Addr, Birth, Born, Cell, marked_object, size_of, with_ref, cell_of, put_object, same_address, with_cell, ChunkValue, Located, with_fields, is_same, same_is, PoolValue, owner_of, LeafHeapValue, room_of, with_ref_of, room_at, SameChunkCounts, Level, writes_keep_counts, RefField, target_of, new_reference, redirected, written, new_address, Chunk, In, mapped_chunk, mapped_belongings, objects_of_chunks, put_at, rewritten_belongings, in_chunk, ParkedTask, Work, Calls, Result, refs_of_rest, Resting, refs_for, resting_references, with_ref_at, with_ref_for, with_ref_in, chunk_of, chunks_of, AreMeasured, HeapForm, belongings_by, belongings_in, belongings_of, rest_at}
 use Rattle.std.specs.Option.{option_map}
 use Rattle.std.proofs.lemmas.List.{length-set}
 use Rattle.refinement.proofs.below.object_layout.ChunkLaws as laws
@@ -98,19 +98,19 @@ module _ (ms : List (Addr × Addr)) where
     abbrev c : Cell
     c = cell_of T.rest.heap.chunks s.object
 
-    held_is : target_of refs_in H s ≡ slice_index_or c.refs s.field None
+    held_is : target_of resting_references H s ≡ slice_index_or c.refs s.field None
     held_is =
         ap (λ o. slice_index_or (refs_for H.rests o s.object) s.field None) T.owner
         ∙ (ap (λ o. slice_index_or (refs_of_rest o s.object) s.field None) T.is ∙ ap (λ m. slice_index_or (marked_object m c).refs s.field None) T.born)
 
     -- the source's object, as it is read
-    at_source : (u : ℕ) → Good u → (o : Located) → In (objects_in (belongings_in (rest_at H.rests u)).chunks) o → o.at ≡ s.object → (u ≡ T.task) × (o.refs ≡ c.refs) × (o.mutable ≡ c.mutable) × (o.ints ≡ c.ints)
+    at_source : (u : ℕ) → Good u → (o : Located) → In (objects_of_chunks (belongings_in (rest_at H.rests u)).chunks) o → o.at ≡ s.object → (u ≡ T.task) × (o.refs ≡ c.refs) × (o.mutable ≡ c.mutable) × (o.ints ≡ c.ints)
     at_source u good o i e = at_source_by_cases (rest_at H.rests u) refl i
       where
-        at_source_by_cases : (q : Option ParkedTask) → rest_at H.rests u ≡ q → In (objects_in (belongings_in q).chunks) o → (u ≡ T.task) × (o.refs ≡ c.refs) × (o.mutable ≡ c.mutable) × (o.ints ≡ c.ints)
+        at_source_by_cases : (q : Option ParkedTask) → rest_at H.rests u ≡ q → In (objects_of_chunks (belongings_in q).chunks) o → (u ≡ T.task) × (o.refs ≡ c.refs) × (o.mutable ≡ c.mutable) × (o.ints ≡ c.ints)
         at_source_by_cases None h j = absurd j
         at_source_by_cases (Some x) h j =
-            let i' : In (objects_in (chunks_of x.heap.chunks)) o = subst (λ cs. In (objects_in cs) o) (belongings_chunks x) j in
+            let i' : In (objects_of_chunks (chunks_of x.heap.chunks)) o = subst (λ cs. In (objects_of_chunks cs) o) (belongings_chunks x) j in
             let ch = in_chunk (chunks_of x.heap.chunks) o i' in
             let k = map_in chunk_of x.heap.chunks ch.0 ch.1 in
             let number : k.0.number ≡ s.object.chunk = sym (numbered k.0.number 0 k.0.cells o (subst (λ (z : Chunk). In z.objects o) (sym k.2) ch.2)) ∙ ap (λ (z : Addr). z.chunk) e in
@@ -125,7 +125,7 @@ module _ (ms : List (Addr × Addr)) where
     elsewhere o ne = ap (λ rs. record o { refs = rs }) (lead_off f s o.at 0 o.refs (λ k e q. ne (sym e)))
 
     -- the source's object is updated
-    led_there : (o : Located) (x : Option Addr) → o.at ≡ s.object → o.refs ≡ c.refs → option_map f (target_of refs_in H s) ≡ x → lead_one f s o ≡ record o { refs = slice_set c.refs s.field x }
+    led_there : (o : Located) (x : Option Addr) → o.at ≡ s.object → o.refs ≡ c.refs → option_map f (target_of resting_references H s) ≡ x → lead_one f s o ≡ record o { refs = slice_set c.refs s.field x }
     led_there o x e same is =
         ap (λ rs. record o { refs = rs })
         (lead_at f s o.at 0 s.field o.refs (sym e) (let z : s.field ≡ 0 + s.field = omega arith in z)
@@ -139,7 +139,7 @@ module _ (ms : List (Addr × Addr)) where
       pub there : (x : RefField) → SourceThere H x Good → SourceThere H' x Good
 
     -- nothing is written, since what it refers to was not moved
-    kept : option_map f (target_of refs_in H s) ≡ target_of refs_in H s → Stepped H
+    kept : option_map f (target_of resting_references H s) ≡ target_of resting_references H s → Stepped H
     kept is = record {
       pool = refl;
       count = refl;
@@ -148,18 +148,18 @@ module _ (ms : List (Addr × Addr)) where
       there = λ x y. y;
     }
       where
-        same_refs : (o : Located) → o.refs ≡ c.refs → record o { refs = slice_set c.refs s.field (target_of refs_in H s) } ≡ o
-        same_refs o e = ap (λ rs. record o { refs = rs }) (set_itself c.refs s.field (target_of refs_in H s) (sym held_is) ∙ sym e)
+        same_refs : (o : Located) → o.refs ≡ c.refs → record o { refs = slice_set c.refs s.field (target_of resting_references H s) } ≡ o
+        same_refs o e = ap (λ rs. record o { refs = rs }) (set_itself c.refs s.field (target_of resting_references H s) (sym held_is) ∙ sym e)
 
-        kept_by_cases : (u : ℕ) → Good u → (o : Located) → In (objects_in (belongings_in (rest_at H.rests u)).chunks) o → (v : Bool) → same_address o.at s.object ≡ v → lead_one f s o ≡ o
+        kept_by_cases : (u : ℕ) → Good u → (o : Located) → In (objects_of_chunks (belongings_in (rest_at H.rests u)).chunks) o → (v : Bool) → same_address o.at s.object ≡ v → lead_one f s o ≡ o
         kept_by_cases u good o i true e =
             let at : o.at ≡ s.object = same_is o.at s.object e in
             let q = at_source u good o i at in
-            led_there o (target_of refs_in H s) at q.1 is ∙ same_refs o q.1
+            led_there o (target_of resting_references H s) at q.1 is ∙ same_refs o q.1
         kept_by_cases u good o i false e = elsewhere o (λ at. false≢true (sym e ∙ is_same o.at s.object at))
 
     -- it is updated to where its object is now
-    module _ (x : Option Addr) (is : option_map f (target_of refs_in H s) ≡ x) where
+    module _ (x : Option Addr) (is : option_map f (target_of resting_references H s) ≡ x) where
       abbrev d : Cell
       d = with_ref c s.field x
 
@@ -200,7 +200,7 @@ module _ (ms : List (Addr × Addr)) where
         | inr ne ↦ F.owned u q good (sym (rest_off H.rests T.task u (Some r') ne) ∙ e) k i
       ]
 
-      one_is : (o : Located) → In (objects_in (belongings_in (rest_at H.rests T.task)).chunks) o → put_at s.object (with_fields d) o ≡ lead_one f s o
+      one_is : (o : Located) → In (objects_of_chunks (belongings_in (rest_at H.rests T.task)).chunks) o → put_at s.object (with_fields d) o ≡ lead_one f s o
       one_is o i = one_is_by_cases (same_address o.at s.object) refl
         where
           one_is_by_cases : (v : Bool) → same_address o.at s.object ≡ v → cond v (with_fields d o) o ≡ lead_one f s o
@@ -251,8 +251,8 @@ module _ (ms : List (Addr × Addr)) where
       written_is : with_ref_in H s.object s.field x ≡ record H { rests = rests' }
       written_is = ap (λ hs. record H { rests = hs }) (ap (λ o. with_ref_for H.rests o s.object s.field x) T.owner ∙ ap (λ o. with_ref_at H.rests T.task o s.object s.field x) T.is)
 
-    pub step : Stepped (redirected refs_in with_ref_in ms H s)
-    step = step_by_cases (target_of refs_in H s) refl (new_reference ms (target_of refs_in H s)) refl
+    pub step : Stepped (redirected resting_references with_ref_in ms H s)
+    step = step_by_cases (target_of resting_references H s) refl (new_reference ms (target_of resting_references H s)) refl
       where
         none_led : (h o : Option Addr) → new_reference ms h ≡ o → o ≡ None → option_map f h ≡ h
         none_led None o e n = refl
@@ -265,10 +265,10 @@ module _ (ms : List (Addr × Addr)) where
             none_some q = absurd cc
         some_led (Some z) o b e n = ap (λ q. Some (unwrap_or q z)) (e ∙ n)
 
-        step_by_cases : (h : Option Addr) → target_of refs_in H s ≡ h → (o : Option Addr) → new_reference ms (target_of refs_in H s) ≡ o → Stepped (written refs_in with_ref_in H s o)
-        step_by_cases h eh None e = kept (none_led (target_of refs_in H s) (new_reference ms (target_of refs_in H s)) refl e)
+        step_by_cases : (h : Option Addr) → target_of resting_references H s ≡ h → (o : Option Addr) → new_reference ms (target_of resting_references H s) ≡ o → Stepped (written resting_references with_ref_in H s o)
+        step_by_cases h eh None e = kept (none_led (target_of resting_references H s) (new_reference ms (target_of resting_references H s)) refl e)
         step_by_cases h eh (Some b) e =
-            let is : option_map f (target_of refs_in H s) ≡ Some b = some_led (target_of refs_in H s) (new_reference ms (target_of refs_in H s)) b refl e in
+            let is : option_map f (target_of resting_references H s) ≡ Some b = some_led (target_of resting_references H s) (new_reference ms (target_of resting_references H s)) b refl e in
             subst Stepped (sym (written_is (Some b) is)) (changed (Some b) is)
 
   -- ---- ALL SOURCES
@@ -280,11 +280,11 @@ module _ (ms : List (Addr × Addr)) where
     pub measured : (u : ℕ) (r : ParkedTask) → Good u → rest_at H'.rests u ≡ Some r → AreMeasured H.pool u r.heap.chunks
     pub belongings : (u : ℕ) → Good u → belongings_in (rest_at H'.rests u) ≡ rewritten_belongings f ss (belongings_in (rest_at H.rests u))
 
-  pub lead_all : (ss : List RefField) (H : Resting) (Good : ℕ → Type 0) → AreOnce ss → ((s : RefField) → In ss s → SourceThere H s Good) → AreFormed H Good → Led H Good ss (fold (redirected refs_in with_ref_in ms) H ss)
+  pub lead_all : (ss : List RefField) (H : Resting) (Good : ℕ → Type 0) → AreOnce ss → ((s : RefField) → In ss s → SourceThere H s Good) → AreFormed H Good → Led H Good ss (fold (redirected resting_references with_ref_in ms) H ss)
   lead_all [] H Good once there F = record { pool = refl; count = refl; form = F.form; measured = F.measured; belongings = λ u good. sym (none_belongings f (belongings_in (rest_at H.rests u))) }
   lead_all (s ∷ ss) H Good once there F =
       let T = step H Good F s (there s (inl refl)) in
-      let R = lead_all ss (redirected refs_in with_ref_in ms H s) Good once.1 (λ x i. T.there x (there x (inr i))) T.formed in
+      let R = lead_all ss (redirected resting_references with_ref_in ms H s) Good once.1 (λ x i. T.there x (there x (inr i))) T.formed in
       record {
         pool = R.pool ∙ T.pool;
         count = R.count ∙ T.count;

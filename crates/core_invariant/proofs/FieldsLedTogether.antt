@@ -1,5 +1,5 @@
 -- Updating remembered fields one after another is the same as updating them together.
-use Rattle.core_invariant.proofs.Common.{◌≡◌, ℕ, zero, suc, ◌+◌, ◌==◌, ◌&&◌, ◌||◌, arith, Bool, true, false, cond, Option, None, List, [], ◌∷◌, map, inl, inr, refl, ap, ap₂, sym, ◌∙◌, eq-eqb, slice_index_or, slice_set, list_any, eqb-true, false≢true, Addr, Located, RefField, Chunk, Belongings, In, is_source, mapped_chunk, mapped_belongings, objects_in, rewritten, rewritten_belongings, rewritten_refs, in_chunk, in_objects}
+use Rattle.core_invariant.proofs.Common.{◌≡◌, ℕ, zero, suc, ◌+◌, ◌==◌, ◌&&◌, ◌||◌, arith, Bool, true, false, cond, Option, None, List, [], ◌∷◌, map, inl, inr, refl, ap, ap₂, sym, ◌∙◌, eq-eqb, slice_index_or, slice_set, list_any, eqb-true, false≢true, Addr, Located, RefField, Chunk, Belongings, In, is_source, mapped_chunk, mapped_belongings, objects_of_chunks, rewritten, rewritten_belongings, rewritten_refs, in_chunk, in_objects}
 use Rattle.std.specs.Option.{option_map}
 
 -- ---- ONE SOURCE AFTER ANOTHER
@@ -50,13 +50,13 @@ objects_each : (one two : Located → Located) (os : List Located) → ((o : Loc
 objects_each one two [] h = refl
 objects_each one two (o ∷ os) h = ap₂ (λ x xs. x ∷ xs) (h o (inl refl)) (objects_each one two os (λ q i. h q (inr i)))
 
-chunks_each : (one two : Located → Located) (ks : List Chunk) → ((o : Located) → In (objects_in ks) o → one o ≡ two o) → map (mapped_chunk one) ks ≡ map (mapped_chunk two) ks
+chunks_each : (one two : Located → Located) (ks : List Chunk) → ((o : Located) → In (objects_of_chunks ks) o → one o ≡ two o) → map (mapped_chunk one) ks ≡ map (mapped_chunk two) ks
 chunks_each one two [] h = refl
 chunks_each one two (k ∷ ks) h =
     ap₂ (λ x xs. record k { objects = x } ∷ xs) (objects_each one two k.objects (λ o i. h o (in_objects (k ∷ ks) k o (inl refl) i)))
     (chunks_each one two ks (λ o i. let c = in_chunk ks o i in h o (in_objects (k ∷ ks) c.0 o (inr c.1) c.2)))
 
-pub belongings_each : (one two : Located → Located) (h : Belongings) → ((o : Located) → In (objects_in h.chunks) o → one o ≡ two o) → mapped_belongings one h ≡ mapped_belongings two h
+pub belongings_each : (one two : Located → Located) (h : Belongings) → ((o : Located) → In (objects_of_chunks h.chunks) o → one o ≡ two o) → mapped_belongings one h ≡ mapped_belongings two h
 belongings_each one two h e = ap (λ ks. record h { chunks = ks }) (chunks_each one two h.chunks e)
 
 objects_same : (os : List Located) → map (λ (o : Located). o) os ≡ os
@@ -68,7 +68,7 @@ chunks_none [] = refl
 chunks_none (k ∷ ks) = ap₂ (λ x xs. record k { objects = x } ∷ xs) (objects_same k.objects) (chunks_none ks)
 
 -- if no object changes
-pub mapped_belongings_stay : (one : Located → Located) (h : Belongings) → ((o : Located) → In (objects_in h.chunks) o → one o ≡ o) → mapped_belongings one h ≡ h
+pub mapped_belongings_stay : (one : Located → Located) (h : Belongings) → ((o : Located) → In (objects_of_chunks h.chunks) o → one o ≡ o) → mapped_belongings one h ≡ h
 mapped_belongings_stay one h e = belongings_each one (λ o. o) h e ∙ ap (λ ks. record h { chunks = ks }) (chunks_none h.chunks)
 
 objects_twice : (one two : Located → Located) (os : List Located) → map one (map two os) ≡ map (λ o. one (two o)) os

@@ -1,5 +1,5 @@
 -- A heap is as its account says, from what is known of it alone and how its belongings are read.
-use Rattle.core_invariant.proofs.Common.{◌≡◌, ℕ, zero, suc, ◌+◌, ◌*◌, ◌/◌, ◌<◌, ◌^◌, ◌==◌, ◌&&◌, ◌++◌, not, arith, Bool, true, false, cond, Option, Some, None, List, [], ◌∷◌, length, map, inl, inr, refl, ap, ap₂, sym, subst, ◌∙◌, ne_eqb, cond-true, false≢true, Name, Heap, Born, Cell, Hole, Mark, Moved, size_of, chunk_at, ChunkValue, Located, located_by, objects_from, chunk_there, LeafHeapValue, IsReserved, room_of, reserved_chunks, reserved_units, HasNames, large_chunks, names_of, small_chunks, Chunk, In, object_name, objects_in, AreReserved, HeapMatchesAccount, large_names, named_by, names_in, small_lists, name_of, is_empty, none_some, chunk_of, chunks_of, HeapForm}
+use Rattle.core_invariant.proofs.Common.{◌≡◌, ℕ, zero, suc, ◌+◌, ◌*◌, ◌/◌, ◌<◌, ◌^◌, ◌==◌, ◌&&◌, ◌++◌, not, arith, Bool, true, false, cond, Option, Some, None, List, [], ◌∷◌, length, map, inl, inr, refl, ap, ap₂, sym, subst, ◌∙◌, ne_eqb, cond-true, false≢true, Name, Heap, Born, Cell, Hole, Mark, Moved, size_of, chunk_at, ChunkValue, Located, located_by, objects_from, chunk_there, LeafHeapValue, IsReserved, room_of, reserved_chunks, reserved_units, HasNames, large_chunks, names_of, small_chunks, Chunk, In, object_name, objects_of_chunks, AreReserved, HeapMatchesAccount, large_names, named_by, names_in, small_lists, name_of, is_empty, none_some, chunk_of, chunks_of, HeapForm}
 
 -- ---- NAMES
 
@@ -24,13 +24,13 @@ names_of_both : (os qs : List Located) (ns ms : List Name) → map object_name o
 names_of_both [] qs ns ms a b = b ∙ ap (λ xs. xs ++ ms) a
 names_of_both (o ∷ os) qs ns ms a b = ap (λ xs. object_name o ∷ xs) (names_of_both os qs (map object_name os) ms refl b) ∙ ap (λ xs. xs ++ ms) a
 
-pub large_are : (ks : List ChunkValue) → map object_name (objects_in (large_chunks (chunks_of ks))) ≡ large_names ks
+pub large_are : (ks : List ChunkValue) → map object_name (objects_of_chunks (large_chunks (chunks_of ks))) ≡ large_names ks
 large_are [] = refl
 large_are (k ∷ ks) = large_are_by_cases (k.size == 1024) (large_are ks)
   where
-    large_are_by_cases : (b : Bool) → map object_name (objects_in (large_chunks (chunks_of ks))) ≡ large_names ks → map object_name (objects_in (cond (not b) (chunk_of k ∷ large_chunks (chunks_of ks)) (large_chunks (chunks_of ks)))) ≡ cond b (large_names ks) (names_in k.cells ++ large_names ks)
+    large_are_by_cases : (b : Bool) → map object_name (objects_of_chunks (large_chunks (chunks_of ks))) ≡ large_names ks → map object_name (objects_of_chunks (cond (not b) (chunk_of k ∷ large_chunks (chunks_of ks)) (large_chunks (chunks_of ks)))) ≡ cond b (large_names ks) (names_in k.cells ++ large_names ks)
     large_are_by_cases true e = e
-    large_are_by_cases false e = names_of_both (objects_from k.number 0 k.cells) (objects_in (large_chunks (chunks_of ks))) (names_in k.cells) (large_names ks) (names_are k.cells k.number 0) e
+    large_are_by_cases false e = names_of_both (objects_from k.number 0 k.cells) (objects_of_chunks (large_chunks (chunks_of ks))) (names_in k.cells) (large_names ks) (names_are k.cells k.number 0) e
 
 -- ---- THE RESERVED CHUNK
 

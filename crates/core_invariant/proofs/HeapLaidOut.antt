@@ -1,5 +1,5 @@
 -- The layout of a heap, from what is known of its chunks.
-use Rattle.core_invariant.proofs.Common.{◌≡◌, ◌⊎◌, ℕ, zero, suc, ◌+◌, ◌*◌, ◌/◌, ◌<◌, ◌≤◌, ◌==◌, ◌&&◌, not, arith, Bool, true, false, Option, Some, None, List, [], ◌∷◌, length, map, inl, inr, refl, ap, ap₂, sym, subst, ◌∙◌, ne_eqb, AllByRecursion, cases_eq, cond-true, cond-false, eqb-true, false≢true, false_from_ne_true, same_Some, is_empty, map_in, Birth, Born, Cell, Hole, Mark, Moved, size_of, chunk_at, ChunkValue, words_in, Located, located, located_by, objects_from, HaveDistinctNumbers as HaveNumbersApart, LeafHeapValue, IsReserved, Chunk, In, objects_in, DontOverlap, AreLaidOut, HoldsLarge, reserved_chunks, reserved_units, words, in_chunk, AreReserved, chunk_of, chunks_of}
+use Rattle.core_invariant.proofs.Common.{◌≡◌, ◌⊎◌, ℕ, zero, suc, ◌+◌, ◌*◌, ◌/◌, ◌<◌, ◌≤◌, ◌==◌, ◌&&◌, not, arith, Bool, true, false, Option, Some, None, List, [], ◌∷◌, length, map, inl, inr, refl, ap, ap₂, sym, subst, ◌∙◌, ne_eqb, AllByRecursion, cases_eq, cond-true, cond-false, eqb-true, false≢true, false_from_ne_true, same_Some, is_empty, map_in, Birth, Born, Cell, Hole, Mark, Moved, size_of, chunk_at, ChunkValue, words_in, Located, located, located_by, objects_from, HaveDistinctNumbers as HaveNumbersApart, LeafHeapValue, IsReserved, Chunk, In, objects_of_chunks, DontOverlap, AreLaidOut, HoldsLarge, reserved_chunks, reserved_units, words, in_chunk, AreReserved, chunk_of, chunks_of}
 use Rattle.std.specs.List.{IsDistinct}
 use Rattle.core_invariant.proofs.CellsRead.{fresh_off, numbered}
 use Rattle.core_invariant.proofs.HeapCounts.{is_spare, spare_tells}
@@ -123,7 +123,7 @@ module _ (h : LeafHeapValue) (F : Formed h) where
   abbrev ks : List ChunkValue
   ks = h.chunks
 
-  apart_from : (o q : Located) → In (objects_in (chunks_of ks)) o → In (objects_in (chunks_of ks)) q → (o ≡ q) ⊎ DontOverlap o q
+  apart_from : (o q : Located) → In (objects_of_chunks (chunks_of ks)) o → In (objects_of_chunks (chunks_of ks)) q → (o ≡ q) ⊎ DontOverlap o q
   apart_from o q i j =
       let a = in_chunk (chunks_of ks) o i in
       let b = in_chunk (chunks_of ks) q j in

@@ -1,5 +1,5 @@
 -- The words of a heap at rest: those that it counts are those of its names.
-use Rattle.core_invariant.proofs.Common.{◌≡◌, ℕ, suc, ◌+◌, ◌==◌, arith, All, Bool, true, false, cond, None, List, [], ◌∷◌, ◌++◌, inl, inr, length, map, refl, ap, ap₂, sym, subst, ◌∙◌, flat_map, sum_by-append, sum_by-cons, in_map, MachineState, Ledger, heap_of, small_in, words_at, words_of, words_sum, Born, Cell, Hole, Mark, Moved, moved_to, size_of, object_words_in, held_size, held_words, ChunkValue, Located, located, located_by, objects_from, behind, AreTidy, Rests, BelongingsStand, Stands, large_chunks, names_of, small_chunks, Chunk, In, Memory, object_name, objects, objects_in, in_objects, large_names, named_by, names_in, small_lists, name_of, chunk_of, chunks_of}
+use Rattle.core_invariant.proofs.Common.{◌≡◌, ℕ, suc, ◌+◌, ◌==◌, arith, All, Bool, true, false, cond, None, List, [], ◌∷◌, ◌++◌, inl, inr, length, map, refl, ap, ap₂, sym, subst, ◌∙◌, flat_map, sum_by-append, sum_by-cons, in_map, MachineState, Ledger, heap_of, small_in, words_at, object_words_of, words_sum, Born, Cell, Hole, Mark, Moved, moved_to, size_of, object_words_in, held_size, held_words, ChunkValue, Located, located, located_by, objects_from, behind, AreTidy, Rests, BelongingsStand, Stands, large_chunks, names_of, small_chunks, Chunk, In, Memory, object_name, objects, objects_of_chunks, in_objects, large_names, named_by, names_in, small_lists, name_of, chunk_of, chunks_of}
 use Rattle.refinement.specs.below.run_ledger.{words_in}
 use Rattle.core_invariant.proofs.HeapCounts.{large_are, small_names}
 use Rattle.core_invariant.proofs.FreeChunks.{refs_long}
@@ -47,17 +47,17 @@ module _ (v : Memory) (l : Ledger) (t : ℕ) (ks : List ChunkValue) (V : Stands 
   pub words_same : (o : Located) → In (objects v t) o → SameWords l.machine o
   words_same o i =
       let c = V.contents t o rests i in
-      ap words_of c.1 ∙ ap₂ (λ a b. 2 + a + b) (sym (refs_long _ o.refs c.0.refs c.2.refs)) (ap length (sym c.2.ints))
+      ap object_words_of c.1 ∙ ap₂ (λ a b. 2 + a + b) (sym (refs_long _ o.refs c.0.refs c.2.refs)) (ap length (sym c.2.ints))
 
   pub small_are : small_lists ks ≡ (heap_of l t).chunks
   small_are = sym (small_names ks) ∙ (ap (λ (cs : List Chunk). map names_of (small_chunks cs)) (sym here) ∙ H.names.small)
 
   pub large_ones : large_names ks ≡ (heap_of l t).large
-  large_ones = sym (large_are ks) ∙ (ap (λ (cs : List Chunk). map object_name (objects_in (large_chunks cs))) (sym here) ∙ H.names.large)
+  large_ones = sym (large_are ks) ∙ (ap (λ (cs : List Chunk). map object_name (objects_of_chunks (large_chunks cs))) (sym here) ∙ H.names.large)
 
   -- ITS WORDS are those of the names that it holds
   pub words_are : AreTidy ks → words_in l.machine (heap_of l t) ≡ held_words ks
   words_are tidy =
       sum_by-append (words_at l.machine) (small_in (heap_of l t)) (heap_of l t).large
       ∙ (ap₂ (λ ns ms. words_sum l.machine (flat_map (λ xs. xs) ns) + words_sum l.machine ms) (sym small_are) (sym large_ones)
-      ∙ all_counted l.machine ks tidy (λ k o i j. words_same o (subst (λ cs. In (objects_in cs) o) (sym here) (in_objects (chunks_of ks) (chunk_of k) o (in_map chunk_of ks k i) j))))
+      ∙ all_counted l.machine ks tidy (λ k o i j. words_same o (subst (λ cs. In (objects_of_chunks cs) o) (sym here) (in_objects (chunks_of ks) (chunk_of k) o (in_map chunk_of ks k i) j))))

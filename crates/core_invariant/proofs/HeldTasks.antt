@@ -1,6 +1,6 @@
 -- What a value has for tasks that workers hold is irrelevant: two values that differ only there stand for the same
 -- accounts, and the same parts fit them.
-use Rattle.core_invariant.proofs.Common.{length, ◌≡◌, ℕ, true, not, Option, Some, None, slice_get, inl, inr, refl, ap, sym, subst, ◌∙◌, cases_eq, and_parts, ProgramText, Name, is_waiting, SettingsValue, Heap, Ledger, heap_of, SoundLedger, Addr, Located, Rests, own, StepsAlone, rested_worker, Begun, Belongings, In, Lies, Memory, objects, objects_in, shown_at, TaskIsRead, Place, Stands, IsReachedAt, PartFits, FitsAt, Part, ahead, with_belongings, NotedAt, BegunBy, StandsFor, TreeCounts, WorkerFits, belongings_kept, object_kept, task_kept, gives_kept, notes_stay, same_whole, ahead_alone, root_same, source_same, at_belongings, off_belongings, aside_is}
+use Rattle.core_invariant.proofs.Common.{length, ◌≡◌, ℕ, true, not, Option, Some, None, slice_get, inl, inr, refl, ap, sym, subst, ◌∙◌, cases_eq, and_parts, ProgramText, Name, is_waiting, SettingsValue, Heap, Ledger, heap_of, SoundLedger, Addr, Located, Rests, own, StepsAlone, rested_worker, Begun, Belongings, In, Lies, Memory, objects, objects_of_chunks, shown_at, TaskIsRead, Place, Stands, IsReachedAt, PartFits, FitsAt, Part, ahead, with_belongings, NotedAt, BegunBy, StandsFor, TreeCounts, WorkerFits, belongings_kept, object_kept, task_kept, gives_kept, notes_stay, same_whole, ahead_alone, root_same, source_same, at_belongings, off_belongings, aside_is}
 
 -- the same value, with other belongings of the tasks that workers hold
 module _ (v : Memory) (hs : ℕ → Belongings) (l : Ledger) (same : (u : ℕ) → Rests l u → hs u ≡ v.belongings u) where
@@ -11,10 +11,10 @@ module _ (v : Memory) (hs : ℕ → Belongings) (l : Ledger) (same : (u : ℕ) �
   place n a p = record { chunk = p.chunk; here = λ r. subst (λ (h : Belongings). Lies h.chunks n a) (sym (same (own l n) r)) (p.here r) }
 
   was : (u : ℕ) (o : Located) → Rests l u → In (objects v' u) o → In (objects v u) o
-  was u o r i = subst (λ (h : Belongings). In (objects_in h.chunks) o) (same u r) i
+  was u o r i = subst (λ (h : Belongings). In (objects_of_chunks h.chunks) o) (same u r) i
 
   object_is_among : (u : ℕ) (o : Located) → Rests l u → In (objects v u) o → In (objects v' u) o
-  object_is_among u o r i = subst (λ (h : Belongings). In (objects_in h.chunks) o) (sym (same u r)) i
+  object_is_among u o r i = subst (λ (h : Belongings). In (objects_of_chunks h.chunks) o) (sym (same u r)) i
 
   pub stands_held : Stands v l → Stands v' l
   stands_held V = record {
@@ -46,8 +46,8 @@ module _ (v : Memory) (hs : ℕ → Belongings) (l : Ledger) (same : (u : ℕ) �
   module _ (waits : (u : ℕ) → is_waiting (slice_get l.machine.tasks u) ≡ true → Rests l u) where
     noted : (c : TreeCounts) → StandsFor v c l → (t : ℕ) → Rests l t → NotedAt v' l t
     noted c S t r =
-        notes_stay v v' l l t (record { keeps = refl; kept = refl; waits = refl; swept = refl; snapshot = refl; none_new = λ k e. e; frames = ap (λ (h : Belongings). h.frames) (same t r); rooted = λ b y. root_same v v' l l t (λ s i. i) (λ k e. e) b y y.rests (ap (λ (h : Belongings). objects_in h.chunks) (same y.task y.rests)) }) refl refl
-        (same_whole v v' t (ap (λ (h : Belongings). objects_in h.chunks) (same t r)) (ap (λ (h : Belongings). length h.chunks) (same t r))) (record { keeps = S.keeps t; since = S.since t; marks = S.marks t })
+        notes_stay v v' l l t (record { keeps = refl; kept = refl; waits = refl; swept = refl; snapshot = refl; none_new = λ k e. e; frames = ap (λ (h : Belongings). h.frames) (same t r); rooted = λ b y. root_same v v' l l t (λ s i. i) (λ k e. e) b y y.rests (ap (λ (h : Belongings). objects_of_chunks h.chunks) (same y.task y.rests)) }) refl refl
+        (same_whole v v' t (ap (λ (h : Belongings). objects_of_chunks h.chunks) (same t r)) (ap (λ (h : Belongings). length h.chunks) (same t r))) (record { keeps = S.keeps t; since = S.since t; marks = S.marks t })
 
     rest : (c : TreeCounts) → StandsFor v c l → (t : ℕ) → (v.noted t).keeps ≡ true → Rests l t
     rest c S t e = waits t (and_parts (is_waiting (slice_get l.machine.tasks t)) (not (heap_of l t).swept) (sym (S.keeps t) ∙ e)).0

@@ -1,5 +1,5 @@
 -- An object of a heap is written: what is read of the heap afterwards, and that it keeps its form.
-use Rattle.core_invariant.proofs.Common.{◌≡◌, ℕ, ◌+◌, ◌-◌, ◌*◌, ◌/◌, ◌<◌, ◌≤◌, ◌==◌, arith, Bool, true, false, cond, Option, Some, None, List, [], ◌∷◌, All, length, map, inl, inr, refl, ap, ap₂, sym, subst, ◌∙◌, eq-eqb, cond-true, eqb-true, false≢true, length-map, All-cons, All-head, All-nil, All-tail, in_map, map_in, Addr, Born, Cell, Hole, Mark, Moved, moved_to, size_of, cell_of, chunk_at, put_object, same_address, with_cell, ChunkValue, cell_at, words_in, Located, changed_at, located_by, objects_from, objects_of, with_fields, length-put, put_changes_one, same_is, HaveDistinctNumbers, LeafHeapValue, IsTidy, room_at, room_of, units, Chunk, In, mapped_chunk, objects_in, put_at, in_chunk, in_objects, IsLastLarge, IsLastSmall, outline_of_cell, outline_of_chunk, outline_at, outline_size, written_outline, shape_written, AreNear, chunk_of, chunks_of, HeapForm}
+use Rattle.core_invariant.proofs.Common.{◌≡◌, ℕ, ◌+◌, ◌-◌, ◌*◌, ◌/◌, ◌<◌, ◌≤◌, ◌==◌, arith, Bool, true, false, cond, Option, Some, None, List, [], ◌∷◌, All, length, map, inl, inr, refl, ap, ap₂, sym, subst, ◌∙◌, eq-eqb, cond-true, eqb-true, false≢true, length-map, All-cons, All-head, All-nil, All-tail, in_map, map_in, Addr, Born, Cell, Hole, Mark, Moved, moved_to, size_of, cell_of, chunk_at, put_object, same_address, with_cell, ChunkValue, cell_at, words_in, Located, changed_at, located_by, objects_from, objects_of, with_fields, length-put, put_changes_one, same_is, HaveDistinctNumbers, LeafHeapValue, IsTidy, room_at, room_of, units, Chunk, In, mapped_chunk, objects_of_chunks, put_at, in_chunk, in_objects, IsLastLarge, IsLastSmall, outline_of_cell, outline_of_chunk, outline_at, outline_size, written_outline, shape_written, AreNear, chunk_of, chunks_of, HeapForm}
 use Rattle.core_invariant.proofs.CellsRead.{fresh_off, numbered}
 
 -- ---- WHAT IS READ
@@ -14,7 +14,7 @@ elsewhere a f (o ∷ os) h = ap₂ (λ x xs. x ∷ xs) (elsewhere_by_cases (same
     elsewhere_by_cases false e = refl
 
 -- and so are those of other chunks, as a whole
-pub chunks_elsewhere : (a : Addr) (f : Located → Located) (ks : List Chunk) → ((o : Located) → In (objects_in ks) o → o.at ≡ a → ⊥) → map (mapped_chunk (put_at a f)) ks ≡ ks
+pub chunks_elsewhere : (a : Addr) (f : Located → Located) (ks : List Chunk) → ((o : Located) → In (objects_of_chunks ks) o → o.at ≡ a → ⊥) → map (mapped_chunk (put_at a f)) ks ≡ ks
 chunks_elsewhere a f [] h = refl
 chunks_elsewhere a f (k ∷ ks) h =
     ap₂ (λ x xs. record k { objects = x } ∷ xs) (elsewhere a f k.objects (λ o i. h o (in_objects (k ∷ ks) k o (inl refl) i)))
@@ -29,7 +29,7 @@ put_same a f g (o ∷ os) h = ap₂ (λ x xs. x ∷ xs) (put_same_by_cases (same
     put_same_by_cases true e = h o (inl refl) (same_is o.at a e)
     put_same_by_cases false e = refl
 
-pub chunks_same : (a : Addr) (f g : Located → Located) (ks : List Chunk) → ((o : Located) → In (objects_in ks) o → o.at ≡ a → f o ≡ g o) → map (mapped_chunk (put_at a f)) ks ≡ map (mapped_chunk (put_at a g)) ks
+pub chunks_same : (a : Addr) (f g : Located → Located) (ks : List Chunk) → ((o : Located) → In (objects_of_chunks ks) o → o.at ≡ a → f o ≡ g o) → map (mapped_chunk (put_at a f)) ks ≡ map (mapped_chunk (put_at a g)) ks
 chunks_same a f g [] h = refl
 chunks_same a f g (k ∷ ks) h =
     ap₂ (λ x xs. record k { objects = x } ∷ xs) (put_same a f g k.objects (λ o i. h o (in_objects (k ∷ ks) k o (inl refl) i)))
@@ -152,7 +152,7 @@ module _ (h : LeafHeapValue) (a : Addr) (d : Cell) (form : HeapForm h) (mark : d
 
   near : AreNear ks
   near o i =
-      let j = subst (λ (z : List Chunk). In (objects_in z) o) (chunks_put h.chunks a d form.shaped.apart (sym mark) (sym size)) i in
+      let j = subst (λ (z : List Chunk). In (objects_of_chunks z) o) (chunks_put h.chunks a d form.shaped.apart (sym mark) (sym size)) i in
       let c = in_chunk (map (mapped_chunk (put_at a (with_fields d))) (chunks_of h.chunks)) o j in
       let k = map_in (mapped_chunk (put_at a (with_fields d))) (chunks_of h.chunks) c.0 c.1 in
       let q = map_in (put_at a (with_fields d)) k.0.objects o (subst (λ (z : Chunk). In z.objects o) (sym k.2) c.2) in

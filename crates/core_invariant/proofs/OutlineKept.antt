@@ -1,5 +1,5 @@
 -- A run of private steps keeps the addresses of objects: it only adds to existing chunks.
-use Rattle.core_invariant.proofs.Common.{◌≡◌, ℕ, zero, suc, ◌-◌, Bool, true, false, cond, Option, Some, None, List, [], ◌∷◌, map, nat_le, slice_set, ◌==◌, inl, inr, refl, ap, sym, subst, ◌∙◌, in_map, map_in, ProgramText, MachineState, asked, Addr, Cell, no_cell, size_of, cell_of, chunk_at, ChunkValue, cell_at, LeafHeapValue, place_for, placed, cell_of-others, In, Private, outline_after, outline_by, outline_of, outline_of_cell, outline_of_chunk, steps, Places, outline_size, born_is, KeepsPlaces}
+use Rattle.core_invariant.proofs.Common.{◌≡◌, ℕ, zero, suc, ◌-◌, Bool, true, false, cond, Option, Some, None, List, [], ◌∷◌, map, nat_le, slice_set, ◌==◌, inl, inr, refl, ap, sym, subst, ◌∙◌, in_map, map_in, ProgramText, MachineState, asked, Addr, Cell, no_cell, size_of, cell_of, chunk_at, ChunkValue, cell_at, LeafHeapValue, place_for, with_object_placed, cell_of-others, In, Private, outline_after, outline_by, outline_of, outline_of_cell, outline_of_chunk, steps, Places, outline_size, born_is, KeepsPlaces}
 use Rattle.refinement.specs.below.task_machine.{Ran}
 
 mark_at : (cs : List Cell) (off : ℕ) → (cell_at (map outline_of_cell cs) off).mark ≡ (cell_at cs off).mark
@@ -34,7 +34,7 @@ numbers_set (x ∷ xs) zero y k e s (inr h) = (k, inr h, refl, refl)
 numbers_set (x ∷ xs) (suc i) y k e s (inl q) = (x, inl refl, ap (λ (z : ChunkValue). z.number) q, ap (λ (z : ChunkValue). z.size) q)
 numbers_set (x ∷ xs) (suc i) y k e s (inr h) = let r = numbers_set xs i y k e s h in (r.0, inr r.1, r.2, r.3)
 
-placed_keeps : (h : LeafHeapValue) (o : Option ℕ) (c : Cell) → KeepsPlaces h (placed h o c)
+placed_keeps : (h : LeafHeapValue) (o : Option ℕ) (c : Cell) → KeepsPlaces h (with_object_placed h o c)
 placed_keeps h None c = record { stays = λ a b e. e; numbers = λ k i. (k, i, refl, refl) }
 placed_keeps h (Some i) c = record {
   stays = λ a b e. ap (λ (z : Cell). z.mark) (cell_of-others h.chunks i c a (born_is (cell_of h.chunks a).mark b e)) ∙ e;

@@ -1,5 +1,5 @@
 -- A part that fits the shared value fits the machine, with the addresses of the value's belongings.
-use Rattle.core_invariant.proofs.Common.{◌≡◌, ℕ, ◌+◌, ◌<◌, ◌≤◌, ◌==◌, arith, Bool, true, false, cond, Option, Some, None, List, [], ◌∷◌, ◌++◌, length, nat_lt, replicate, slice_get, is_none, ◌⊎◌, inl, inr, refl, ap, sym, subst, ◌∙◌, eq-eqb, ne_eqb, option_map, cases_eq, cond-true, cond-false, eqb-true, ltb-true, false≢true, both_ways, same_Some, in_got, in_map, Frame as ModelFrame, Name, Object, Running, MachineState, object_at, is_joined, is_on_path, is_waiting, parents, run, run_from, runs, start, run_on, start_is_fork_join_state, path_along, path_le, runs_idle, runs_live, limit_from, field_limit, Ran, Heap, Ledger, heap_of, let_go, tasks_of, is_name, task_steps, tasks_are_out_once, kind_machine, machine_is_run, heap_machine, is_name_itself, same_from_is_name, machine_goes_on, wait_run, Addr, Birth, Born, Cell, cell_of, place_in, place_of, ChunkValue, Located, located, seen_at, CallFrame, Rests, own, Knows, StepsAlone, rested_worker, legal_knows, leaf_alone, Chunk, Belongings, In, Lies, Memory, as_shown, object_name, objects, objects_in, shown_at, AllRead, FrameIsRead, FramesAreRead, HoldsRead, IsModelObject, ReadsReference, TaskIsRead, BelongingsStand, Place, Stands, FitsAt, ahead, with_belongings, belongings_own, object_kept, task_kept, in_chunk, ahead_alone, ahead_sound, noted_mutable, at_belongings, off_belongings, aside_is, Private, AreAt, FrameStands, FramesStand, NamesAddress, birth_of, name_of, FitsNow as FitsMachine, HeapStands, IsOwn, IsRun, IsShownBy, StackStands, ParkedTask, Work, Calls, Result, chunk_of, SharedValue, accounts, frames_down, rest_at, value_of, belongings_in, belongings_by, HeapForm, IsSharedValue, Fits, belongings_of_part, part_of, FitsFirst, above_of, find_at}
+use Rattle.core_invariant.proofs.Common.{◌≡◌, ℕ, ◌+◌, ◌<◌, ◌≤◌, ◌==◌, arith, Bool, true, false, cond, Option, Some, None, List, [], ◌∷◌, ◌++◌, length, nat_lt, replicate, slice_get, is_none, ◌⊎◌, inl, inr, refl, ap, sym, subst, ◌∙◌, eq-eqb, ne_eqb, option_map, cases_eq, cond-true, cond-false, eqb-true, ltb-true, false≢true, both_ways, same_Some, in_got, in_map, Frame as ModelFrame, Name, Object, Running, MachineState, object_at, is_joined, is_on_path, is_waiting, parents, run, run_from, runs, start, run_on, start_is_fork_join_state, path_along, path_le, runs_idle, runs_live, limit_from, field_limit, Ran, Heap, Ledger, heap_of, let_go, tasks_of, is_name, task_steps, tasks_are_out_once, kind_machine, machine_is_run, heap_machine, is_name_itself, same_from_is_name, machine_goes_on, wait_run, Addr, Birth, Born, Cell, cell_of, place_in, place_of, ChunkValue, Located, located, seen_at, CallFrame, Rests, own, Knows, StepsAlone, rested_worker, legal_knows, leaf_alone, Chunk, Belongings, In, Lies, Memory, as_shown, object_name, objects, objects_of_chunks, shown_at, AllRead, FrameIsRead, FramesAreRead, HoldsRead, IsModelObject, ReadsReference, TaskIsRead, BelongingsStand, Place, Stands, FitsAt, ahead, with_belongings, belongings_own, object_kept, task_kept, in_chunk, ahead_alone, ahead_sound, noted_mutable, at_belongings, off_belongings, aside_is, Private, AreAt, FrameStands, FramesStand, NamesAddress, birth_of, name_of, FitsNow as FitsMachine, HeapStands, IsOwn, IsRun, IsShownBy, StackStands, ParkedTask, Work, Calls, Result, chunk_of, SharedValue, accounts, frames_down, rest_at, value_of, belongings_in, belongings_by, HeapForm, IsSharedValue, Fits, belongings_of_part, part_of, FitsFirst, above_of, find_at}
 use Rattle.refinement.specs.below.hh_model.{owner_of}
 use Rattle.refinement.proofs.below.run_ledger.{SoundLedger}
 use Rattle.core_invariant.proofs.CellsRead.{object_seen, seen_object}
@@ -35,11 +35,11 @@ found_some (y ∷ os) o i = found_some_by_cases (is_name (object_name y) (object
     found_some_by_cases false e (inr j) go = let r = go j in (r.0, inr r.1, r.2, r.3)
 
 -- a name with an address is found
-found_at : (ks : List Chunk) (n : Name) (a : Addr) → ((o q : Located) → In (objects_in ks) o → In (objects_in ks) q → object_name o ≡ object_name q → o ≡ q) → Lies ks n a → find_at (objects_in ks) n ≡ Some a
+found_at : (ks : List Chunk) (n : Name) (a : Addr) → ((o q : Located) → In (objects_of_chunks ks) o → In (objects_of_chunks ks) q → object_name o ≡ object_name q → o ≡ q) → Lies ks n a → find_at (objects_of_chunks ks) n ≡ Some a
 found_at ks n a named y =
-    let f = found_some (objects_in ks) y.0 y.1 in
+    let f = found_some (objects_of_chunks ks) y.0 y.1 in
     let same : f.0 ≡ y.0 = named f.0 y.0 f.1 y.1 f.2 in
-    ap (find_at (objects_in ks)) (sym y.2.name) ∙ (f.3 ∙ ap Some (ap (λ (z : Located). z.at) same ∙ y.2.at))
+    ap (find_at (objects_of_chunks ks)) (sym y.2.name) ∙ (f.3 ∙ ap Some (ap (λ (z : Located). z.at) same ∙ y.2.at))
 
 pub placed_in : (ks : List ChunkValue) (number i : ℕ) → place_in ks number ≡ Some i → (k : ChunkValue) × In ks k × (k.number ≡ number)
 placed_in ks number i e = placed_in_at ks (lt (nat_lt (place_of ks number) (length ks)) refl e)
@@ -85,11 +85,11 @@ module _ (place : Name → Option Addr) where
 
 -- ---- THE LINK
 
-rest_near : (o : Option ParkedTask) → ((r : ParkedTask) → o ≡ Some r → HeapForm r.heap) → (q : Located) → In (objects_in (belongings_in o).chunks) q → q.at.offset < 1024
+rest_near : (o : Option ParkedTask) → ((r : ParkedTask) → o ≡ Some r → HeapForm r.heap) → (q : Located) → In (objects_of_chunks (belongings_in o).chunks) q → q.at.offset < 1024
 rest_near None h q i = absurd i
 rest_near (Some r) h q i = rest_near_by_cases r.work i
   where
-    rest_near_by_cases : (x : Work) → In (objects_in (belongings_by r.heap r.view r.allocations x).chunks) q → q.at.offset < 1024
+    rest_near_by_cases : (x : Work) → In (objects_of_chunks (belongings_by r.heap r.view r.allocations x).chunks) q → q.at.offset < 1024
     rest_near_by_cases (Calls s) j = (h r refl).near q j
     rest_near_by_cases (Result n b) j = (h r refl).near q j
 
@@ -187,13 +187,13 @@ module _ (w : SharedValue) (k : ℕ) (p : Private) (I : IsSharedValue w) (F : Fi
   above = above_of v l t
 
   abbrev place : Name → Option Addr
-  place n = cond (own l n == t) (find_at (objects_in h.chunks) n) (above n)
+  place n = cond (own l n == t) (find_at (objects_of_chunks h.chunks) n) (above n)
 
-  place_own : (n : Name) → own l n ≡ t → place n ≡ find_at (objects_in h.chunks) n
-  place_own n e = cond-true (own l n == t) (find_at (objects_in h.chunks) n) (above n) (eq-eqb (own l n) t e)
+  place_own : (n : Name) → own l n ≡ t → place n ≡ find_at (objects_of_chunks h.chunks) n
+  place_own n e = cond-true (own l n == t) (find_at (objects_of_chunks h.chunks) n) (above n) (eq-eqb (own l n) t e)
 
   place_off : (n : Name) → (own l n ≡ t → ⊥) → place n ≡ above n
-  place_off n ne = cond-false (own l n == t) (find_at (objects_in h.chunks) n) (above n) (ne_eqb (own l n) t ne)
+  place_off n ne = cond-false (own l n == t) (find_at (objects_of_chunks h.chunks) n) (above n) (ne_eqb (own l n) t ne)
 
   pub above_rests : (n : Name) → (own l n ≡ t → ⊥) → Rests l (own l n) → above n ≡ find_at (objects v (own l n)) n
   above_rests n ne r =
@@ -210,14 +210,14 @@ module _ (w : SharedValue) (k : ℕ) (p : Private) (I : IsSharedValue w) (F : Fi
       above_tells_by_cases false q (Some u) r g = absurd cc
       above_tells_by_cases false q None r g = ((λ z. false≢true (sym q ∙ eq-eqb (own l n) t z)), r, g)
 
-  named_here : (o q : Located) → In (objects_in h.chunks) o → In (objects_in h.chunks) q → object_name o ≡ object_name q → o ≡ q
-  named_here o q i j e = (W.belongings t at_rest).named o q (subst (λ (z : Belongings). In (objects_in z.chunks) o) (sym own_belongings) i) (subst (λ (z : Belongings). In (objects_in z.chunks) q) (sym own_belongings) j) e
+  named_here : (o q : Located) → In (objects_of_chunks h.chunks) o → In (objects_of_chunks h.chunks) q → object_name o ≡ object_name q → o ≡ q
+  named_here o q i j e = (W.belongings t at_rest).named o q (subst (λ (z : Belongings). In (objects_of_chunks z.chunks) o) (sym own_belongings) i) (subst (λ (z : Belongings). In (objects_of_chunks z.chunks) q) (sym own_belongings) j) e
 
   belongings_off : (a : ℕ) → (a ≡ t → ⊥) → Rests l a → BelongingsStand v' L a
   belongings_off a ne r = W.belongings a (rests_then a ne r)
 
   pub named_off : (a : ℕ) → (a ≡ t → ⊥) → Rests l a → (o q : Located) → In (objects v a) o → In (objects v a) q → object_name o ≡ object_name q → o ≡ q
-  named_off a ne r o q i j e = (belongings_off a ne r).named o q (subst (λ (z : Belongings). In (objects_in z.chunks) o) (sym (off a ne)) i) (subst (λ (z : Belongings). In (objects_in z.chunks) q) (sym (off a ne)) j) e
+  named_off a ne r o q i j e = (belongings_off a ne r).named o q (subst (λ (z : Belongings). In (objects_of_chunks z.chunks) o) (sym (off a ne)) i) (subst (λ (z : Belongings). In (objects_of_chunks z.chunks) q) (sym (off a ne)) j) e
 
   -- a name of the path is at its address by the map
   place_is : (n : Name) (a : Addr) → is_on_path L.machine.tasks (own L n) t ≡ true → Place v' L n a → place n ≡ Some a
@@ -244,8 +244,8 @@ module _ (w : SharedValue) (k : ℕ) (p : Private) (I : IsSharedValue w) (F : Fi
   stack = record { top = frame_stands place p.frames.top A.task.top frames_at.0; below = frames_stand place p.frames.below A.task.below frames_at.1 }
 
   -- OBJECTS
-  in_here : (o : Located) → In (objects_in h.chunks) o → In (objects v' t) o
-  in_here o i = subst (λ (z : Belongings). In (objects_in z.chunks) o) (sym own_belongings) i
+  in_here : (o : Located) → In (objects_of_chunks h.chunks) o → In (objects v' t) o
+  in_here o i = subst (λ (z : Belongings). In (objects_of_chunks z.chunks) o) (sym own_belongings) i
 
   -- a reference of an own object goes up or inside
   refs_up : (o : Located) (x : Object) → In (objects v' t) o → object_at L.machine.store (object_name o) ≡ Some x → (n : Name) → In x.refs (Some n) → is_on_path L.machine.tasks (own L n) t ≡ true
@@ -261,18 +261,18 @@ module _ (w : SharedValue) (k : ℕ) (p : Private) (I : IsSharedValue w) (F : Fi
             absurd (both_ways (is_waiting (slice_get L.machine.tasks t)) idle (ap (λ z. is_waiting (slice_get L.machine.tasks z)) (sym same) ∙ S.waits))
       ]
 
-  object_is : (o : Located) → In (objects_in h.chunks) o → (x : Object) × (object_at L.machine.store (object_name o) ≡ Some x) × IsModelObject (At place) o x
+  object_is : (o : Located) → In (objects_of_chunks h.chunks) o → (x : Object) × (object_at L.machine.store (object_name o) ≡ Some x) × IsModelObject (At place) o x
   object_is o i =
       let c = W.contents t o at_rest (in_here o i) in
       (c.0, c.1, object_kept (Place v' L) (At place) o c.0 (λ n j a P. place_is n a (refs_up o c.0 (in_here o i) c.1 n j) P) c.2)
 
-  own_here : (o : Located) → In (objects_in h.chunks) o → own L (object_name o) ≡ t
+  own_here : (o : Located) → In (objects_of_chunks h.chunks) o → own L (object_name o) ≡ t
   own_here o i = belongings_own v' L sound t (W.belongings t at_rest) o (in_here o i)
 
   cell_is_own : (a : Addr) (b : Birth) → (cell_of p.heap.chunks a).mark ≡ Born b → IsOwn place (owner_of L.machine.tasks) t L.machine.store (name_of b) a (cell_of p.heap.chunks a)
   cell_is_own a b e =
       let o : Located = located a.chunk a.offset b (cell_of p.heap.chunks a) in
-      let i : In (objects_in h.chunks) o = object_seen p.heap.chunks a b e in
+      let i : In (objects_of_chunks h.chunks) o = object_seen p.heap.chunks a b e in
       let x = object_is o i in
       let owned : own L (object_name o) ≡ t = own_here o i in
       record {
@@ -285,7 +285,7 @@ module _ (w : SharedValue) (k : ℕ) (p : Private) (I : IsSharedValue w) (F : Fi
 
   born_there : (n : Name) (a : Addr) → owner_of L.machine.tasks n.task ≡ t → place n ≡ Some a → (cell_of p.heap.chunks a).mark ≡ Born (birth_of n)
   born_there n a e q =
-      let f = found_is (objects_in h.chunks) n a (sym (place_own n (sym (own_same n) ∙ e)) ∙ q) in
+      let f = found_is (objects_of_chunks h.chunks) n a (sym (place_own n (sym (own_same n) ∙ e)) ∙ q) in
       let y = seen_object p.heap.chunks f.object F.form.shaped.apart f.there in
       ap (λ z. (cell_of p.heap.chunks z).mark) (sym f.at) ∙ (y.mark ∙ ap (λ m. Born (birth_of m)) f.name)
 
@@ -293,7 +293,7 @@ module _ (w : SharedValue) (k : ℕ) (p : Private) (I : IsSharedValue w) (F : Fi
   pub above_chunk : (n : Name) (a : Addr) → (own l n ≡ t → ⊥) → (r : Rests l (own l n)) → (o : Located) → In (objects v (own l n)) o → o.at ≡ a → v.owner a.chunk ≡ Some (own l n)
   above_chunk n a ne r o i q =
       let H = belongings_off (own l n) ne r in
-      let c = in_chunk (v'.belongings (own l n)).chunks o (subst (λ (z : Belongings). In (objects_in z.chunks) o) (sym (off (own l n) ne)) i) in
+      let c = in_chunk (v'.belongings (own l n)).chunks o (subst (λ (z : Belongings). In (objects_of_chunks z.chunks) o) (sym (off (own l n) ne)) i) in
       ap (λ (z : Addr). v.owner z.chunk) (sym q) ∙ (ap v.owner (H.inside c.0 o c.1 c.2) ∙ H.owned c.0 c.1)
 
   once : (n m : Name) (a : Addr) → above n ≡ Some a → above m ≡ Some a → n ≡ m
@@ -304,8 +304,8 @@ module _ (w : SharedValue) (k : ℕ) (p : Private) (I : IsSharedValue w) (F : Fi
       let g = found_is (objects v (own l m)) m a y.2 in
       let same : own l m ≡ own l n = same_Some (own l m) (own l n) (sym (above_chunk m a y.0 y.1 g.object g.there g.at) ∙ above_chunk n a x.0 x.1 f.object f.there f.at) in
       let H = belongings_off (own l n) x.0 x.1 in
-      let i = subst (λ (z : Belongings). In (objects_in z.chunks) f.object) (sym (off (own l n) x.0)) f.there in
-      let j = subst (λ (z : Belongings). In (objects_in z.chunks) g.object) (sym (off (own l n) x.0)) (subst (λ u. In (objects v u) g.object) same g.there) in
+      let i = subst (λ (z : Belongings). In (objects_of_chunks z.chunks) f.object) (sym (off (own l n) x.0)) f.there in
+      let j = subst (λ (z : Belongings). In (objects_of_chunks z.chunks) g.object) (sym (off (own l n) x.0)) (subst (λ u. In (objects v u) g.object) same g.there) in
       let o : f.object ≡ g.object = H.once f.object g.object i j (f.at ∙ sym g.at) in
       sym f.name ∙ (ap object_name o ∙ g.name)
 
@@ -325,7 +325,7 @@ module _ (w : SharedValue) (k : ℕ) (p : Private) (I : IsSharedValue w) (F : Fi
   within : (n : Name) (a : Addr) → place n ≡ Some a → a.offset < 1024
   within n a e = elim (cases_eq (own l n) t) [
     | inl q ↦
-        let f = found_is (objects_in h.chunks) n a (sym (place_own n q) ∙ e) in
+        let f = found_is (objects_of_chunks h.chunks) n a (sym (place_own n q) ∙ e) in
         subst (λ (z : Addr). z.offset < 1024) f.at (F.form.near f.object f.there)
     | inr ne ↦
         let x = above_tells n a (sym (place_off n ne) ∙ e) in
@@ -358,7 +358,7 @@ module _ (w : SharedValue) (k : ℕ) (p : Private) (I : IsSharedValue w) (F : Fi
     q = found.object
 
     in_then : In (objects v' u) q
-    in_then = subst (λ (z : Belongings). In (objects_in z.chunks) q) (sym (off u tells.0)) found.there
+    in_then = subst (λ (z : Belongings). In (objects_of_chunks z.chunks) q) (sym (off u tells.0)) found.there
 
     rest_then : Rests L u
     rest_then = rests_then u tells.0 tells.1

@@ -1,5 +1,5 @@
 -- What is known of a heap's chunks stays known when an object is placed.
-use Rattle.core_invariant.proofs.Common.{◌≡◌, ℕ, ◌+◌, ◌-◌, ◌*◌, ◌/◌, ◌<◌, ◌≤◌, ◌^◌, arith, true, false, Option, Some, None, List, [], ◌∷◌, ◌++◌, length, length-set, nat_le, option_map, inl, inr, refl, ap, sym, subst, ◌∙◌, le-leb, cases_eq, cases_lt, cond-true, same_Some, get_or_default, get_or-set_other, get_or-set_same, All-from_get_or, All-get_or, Birth, Born, Cell, moved_to, size_of, chunk_at, held_words, no_chunk, object_count, place_in, push_object, small_words, ChunkValue, words_in, located, located_by, objects_from, appended_is_last, words_in-push, AreTidy, LeafHeapValue, AgreesWithChunks, IsTidy, counted, place_for, placed_at, units, settled_placed, HoldsLarge, IsShaped, size_pushed, shape_placed, chunk_of}
+use Rattle.core_invariant.proofs.Common.{◌≡◌, ℕ, ◌+◌, ◌-◌, ◌*◌, ◌/◌, ◌<◌, ◌≤◌, ◌^◌, arith, true, false, Option, Some, None, List, [], ◌∷◌, ◌++◌, length, length-set, nat_le, option_map, inl, inr, refl, ap, sym, subst, ◌∙◌, le-leb, cases_eq, cases_lt, cond-true, same_Some, get_or_default, get_or-set_other, get_or-set_same, All-from_get_or, All-get_or, Birth, Born, Cell, moved_to, size_of, chunk_at, held_words, no_chunk, object_count, place_in, push_object, small_words, ChunkValue, words_in, located, located_by, objects_from, appended_is_last, words_in-push, AreTidy, LeafHeapValue, AgreesWithChunks, IsTidy, saturating_words, place_for, placed_at, units, settled_placed, HoldsLarge, IsShaped, size_pushed, shape_placed, chunk_of}
 use Rattle.leaf_heap.proofs.HeapLemmas as heap
 
 -- a chunk: a large one is empty, or holds one object that has exactly its units
@@ -40,7 +40,7 @@ module _ (h : LeafHeapValue) (F : Formed h) (i : ℕ) (c : Cell) (b : Birth) (bo
   abbrev table : ℕ → Option ℕ
   table n = option_map (λ j. 2 ^ 63 - j) (place_in h.chunks n)
 
-  keeps : AgreesWithChunks h.chunks (record { layers = []; stale = []; places = 0; lost = true }) h.current h.reserved (counted (held_words h.chunks)) (counted (object_count h.chunks)) (counted (small_words h.chunks)) (2 ^ 63) table (length h.chunks)
+  keeps : AgreesWithChunks h.chunks (record { layers = []; stale = []; places = 0; lost = true }) h.current h.reserved (saturating_words (held_words h.chunks)) (saturating_words (object_count h.chunks)) (saturating_words (small_words h.chunks)) (2 ^ 63) table (length h.chunks)
   keeps = record {
     current = F.shaped.current;
     reserved = F.shaped.reserved;

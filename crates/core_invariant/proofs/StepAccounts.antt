@@ -1,6 +1,6 @@
 -- What private steps of a task keep of the accounts.
-use Rattle.core_invariant.proofs.Common.{◌≡◌, ℕ, zero, suc, ◌+◌, ◌-◌, ◌++◌, ◌||◌, Bool, true, false, cond, Option, Some, None, List, [], ◌∷◌, slice_get, option_map, refl, ap, ap₂, sym, subst, ◌∙◌, cond-true, cond-false, got_same, got_other, ProgramText, Name, Running, Task, MachineState, step, can_step, goes_on, is_running, runs, asked, SettingsValue, Heap, Ledger, or_fresh, fresh, put_last, is_small, allocated_by, allocated_in, settled, moved_on, stepped_to, task_step, task_steps, is_private, is_due, is_in_need, standing, allocated_end, ArePrivate, private_off, with_at, heap_then, GoesOn, private_on}
-use Rattle.refinement.specs.below.run_ledger.{placed, moved_to}
+use Rattle.core_invariant.proofs.Common.{◌≡◌, ℕ, zero, suc, ◌+◌, ◌-◌, ◌++◌, ◌||◌, Bool, true, false, cond, Option, Some, None, List, [], ◌∷◌, slice_get, option_map, refl, ap, ap₂, sym, subst, ◌∙◌, cond-true, cond-false, got_same, got_other, ProgramText, Name, Running, Task, MachineState, step, can_step, goes_on, is_running, runs, asked, SettingsValue, Heap, Ledger, or_fresh, fresh, put_last, is_small_size, allocated_by, allocated_in, settled, moved_on, stepped_to, task_step, task_steps, is_private, is_due, is_in_need, standing, allocated_end, ArePrivate, private_off, with_at, heap_then, GoesOn, private_on}
+use Rattle.refinement.specs.below.run_ledger.{with_allocation, moved_to}
 
 -- what no allocation changes of an account
 abbrev pub hold : Heap → Option ℕ × Option ℕ × List Name × Bool
@@ -17,8 +17,8 @@ hold_or (Some h) = refl
 pub hold_same : (o o' : Option Heap) → option_map hold o' ≡ option_map hold o → hold (or_fresh o') ≡ hold (or_fresh o)
 hold_same o o' e = hold_or o' ∙ (ap or_hold e ∙ sym (hold_or o))
 
-placed_hold : (h : Heap) (n : Name) (w : ℕ) → hold (placed h n w) ≡ hold h
-placed_hold h n w = placed_hold_by_cases (is_small w)
+placed_hold : (h : Heap) (n : Name) (w : ℕ) → hold (with_allocation h n w) ≡ hold h
+placed_hold h n w = placed_hold_by_cases (is_small_size w)
   where
     placed_hold_by_cases : (b : Bool) → hold (cond b (record h { chunks = put_last h.chunks n; room = h.room - w; since = h.since + w }) (record h { large = h.large ++ n ∷ []; reserved = 0; since = h.since + w })) ≡ hold h
     placed_hold_by_cases true = refl

@@ -21,7 +21,7 @@ pub use Rattle.refinement.specs.below.run_ledger.{Refused, Collecting, Due, Over
 pub use Rattle.refinement.specs.below.run_trace.{Kind, Took, Ran, Chunk, Begin, End, PutOff, Mark, More, Sweep, Fuel, SettingsValue, EntryValue, field_limit, AreSettings}
 pub use Rattle.refinement.specs.below.task_frames.{FramesValue, CallFrame, int_of, ref_of}
 pub use Rattle.refinement.specs.below.task_machine.{Private, is_part_due, Places, FitsNow, Begun, IsLastLarge, IsLastSmall, IsShaped}
-pub use Rattle.task_slots.specs.RestingHeaps.{Resting, refs_in}
+pub use Rattle.task_slots.specs.RestingHeaps.{Resting, resting_references}
 pub use Rattle.task_slots.specs.below.chunk_pool.{PoolValue, slot_at, one_unit, owner_of, units_in_use}
 pub use Rattle.task_slots.specs.below.write_barrier.{SetOf}
 pub use Rattle.task_slots.specs.declared.task_at_rest.ParkedTask.{ParkedTask}

@@ -11,9 +11,9 @@ abbrev pub refused : SharedValue → EntryValue → Option Refused
 refused w e = refusal w.program w.settings (accounts w) e
 
 -- why a call was refused
-abbrev pub cause_of : {A : Type 0} → Result A Refused → Option Refused
-cause_of (Ok x) = None
-cause_of (Err cause) = Some cause
+abbrev pub refusal_of_result : {A : Type 0} → Result A Refused → Option Refused
+refusal_of_result (Ok x) = None
+refusal_of_result (Err cause) = Some cause
 
 -- a call that can run out of memory is refused if and only if the ledger refuses
 abbrev pub IsCaused : NotEntered → Option Refused → Type 0

@@ -2,7 +2,7 @@
 use Rattle.std.specs.Prelude.{ℕ, ◌<◌, ◌/◌, ◌==◌, not, false, List, map}
 use Rattle.refinement.specs.below.object_layout.{Birth, Born, Cell, Hole, Mark, Moved, chunk_words, ChunkValue, Located, located, objects_of, PieceValue}
 use Rattle.chunk_list.specs.View.{Level}
-use Rattle.refinement.specs.Memory.{Chunk, In, objects_in}
+use Rattle.refinement.specs.Memory.{Chunk, In, objects_of_chunks}
 
 abbrev pub chunk_of : ChunkValue → Chunk
 chunk_of k = record { number = k.number; units = k.size / chunk_words; large = not (k.size == chunk_words); objects = objects_of k }
@@ -30,4 +30,4 @@ levels_of ls = map (map shown_chunk) ls
 
 -- words can hold the objects' addresses
 abbrev pub AreNear : List ChunkValue → Type 0
-AreNear ks = (o : Located) → In (objects_in (chunks_of ks)) o → o.at.offset < chunk_words
+AreNear ks = (o : Located) → In (objects_of_chunks (chunks_of ks)) o → o.at.offset < chunk_words

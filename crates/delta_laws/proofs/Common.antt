@@ -38,7 +38,7 @@ pub use Rattle.plain_vec.proofs.Places.{got_some}
 pub use Rattle.plain_vec.specs.Members.{In}
 pub use Rattle.plain_vec.specs.Options.{option_is}
 pub use Rattle.run_deltas.proofs.Machines.{after_run, machine_moves}
-pub use Rattle.run_deltas.specs.Deeds.{deed, act_of, act_by, act_line, if_there, reference_in, number_in, number_place}
+pub use Rattle.run_deltas.specs.Deeds.{deed, act_of, act_by, step_act_of, if_there, reference_in, number_in, number_place}
 pub use Rattle.run_deltas.specs.Deltas.{delta, deltas_from, machine_after}
 pub use Rattle.run_deltas.specs.News.{units_given, news_in, news_at, news_for, news}
 pub use Rattle.run_deltas.specs.Roots.{with_root, with_roots, roots}
@@ -67,7 +67,7 @@ pub use Rattle.run_ledger.proofs.Steps.{SoundAt, steps_last, task_steps_sound, r
 pub use Rattle.run_ledger.proofs.Stocks.{with_heap_any}
 pub use Rattle.run_ledger.proofs.Use.{chunks_are_used}
 pub use Rattle.run_ledger.specs.Entries.{refusal, kind_refusal, after_kind, after, with_chunk, chunk_units, is_ready, is_out}
-pub use Rattle.run_ledger.specs.Heaps.{chunk_words, units, is_small, words_of, begun_in, marked_in, left_in, heap_of, or_fresh, with_heap, with_heap_at, in_use, within, lacks_room, placed, put_last, fresh, forked_heap, merged, emptied, let_go, collected, swept_heap}
+pub use Rattle.run_ledger.specs.Heaps.{chunk_words, units, is_small_size, object_words_of, begun_in, marked_in, left_in, heap_of, or_fresh, with_heap, with_heap_at, in_use, within, lacks_room, with_allocation, put_last, fresh, forked_heap, merged, emptied, let_go, collected, swept_heap}
 pub use Rattle.run_ledger.specs.Journals.{after_all, ledger_of, is_legal, is_legal_from, tasks_of, tasks_in, opening}
 pub use Rattle.run_ledger.specs.Reachable.{is_name, holds_name}
 pub use Rattle.run_ledger.specs.Steps.{is_due, is_in_need, allocated_by, allocated_in, settled, moved_on, moved_to, at_join, join_heaps, stepped_to, task_step, task_steps, on_asked}

@@ -1,5 +1,5 @@
 -- What the entries of a legal journal tell of heaps gives what these hold.
-use Rattle.delta_laws.proofs.Common.{◌≡◌, ◌<◌, ◌≤◌, ℕ, pos, zero, suc, ◌+◌, ◌-◌, ◌==◌, ◌⊎◌, Bool, true, false, cond, Option, Some, None, List, [], ◌∷◌, ◌++◌, length, map, slice_get, slice_set, replicate, take, nat_lt, inl, inr, refl, ap, ap₂, sym, subst, ◌∙◌, is_some, is_none, arith, eq-eqb, ne_eqb, append_assoc, min, option_map, unwrap_or, cond-true, cond-false, false≢true, both_ways, and_parts, le-leb, leb-false, slice_get-map, same_Some, length-set, length-take, length-replicate, got_same, got_within, got_some, none_of, Instr, Set, Mov, Movr, Nil as NilOf, Calc, Same, Jmp, Jz, Newm, Pack, Getr, Geti, Putr, Puti, Cntr, Cnti, Freeze, Cas, Call, Par, Ret, Out, Line, ProgramText, IsProgram, line_at, Name, Object, Frame, Done, Running, Waiting, Joined, Task, Size, MachineState, Effect, Goes, effect, made, object_at, row_of, counts_in, place_in, same_name, int_in, ref_in, or_trap, with_ref, onward, next_name, words_asked, words_for, step, follow, setting, fetched, can_step, asked, asked_line, runs, is_running, is_left, owner_of, parent_of, child, strand, strand_of, edge, joined_task, resumed, join_of, ended_task, result_of, ended_by, set_got, asked_at, Counted, rows_from, runs_are_counted, packs_are_few, waiting, grown_length, grown_at, grown_left, grown_right, three_top, three_left, three_right, three_length, below, parr, step_cases, runs_is, can_task, step_taken, made_here, Kind, Took, Ran, Chunk, Begin, End as EndOf, PutOff, Mark, More, Sweep, Fuel, EntryValue, SettingsValue, field_limit, Heap, Ledger, Pool, chunk_words, units, is_small, words_of, begun_in, marked_in, left_in, heap_of, or_fresh, with_heap, with_heap_at, in_use, within, lacks_room, placed, put_last, fresh, forked_heap, merged, emptied, let_go, collected, swept_heap, is_due, is_in_need, allocated_by, allocated_in, settled, moved_on, moved_to, at_join, join_heaps, stepped_to, task_step, task_steps, on_asked, refusal, kind_refusal, after_kind, after, with_chunk, chunk_units, after_all, ledger_of, is_legal, is_legal_from, tasks_of, stepped_machine, task_step_machine, machine_is_run, SoundLedger, collecting, SoundAt, steps_last, task_steps_sound, running_at, can_tells, with_heap_any, wait_run, heap_end, none_where, none_unless, out_tells, wait_tells, entry_tells, legal_sound, chunks_are_used, journals_can_be_cut, Deed, Allocates, Reads, Counts, Writes, Swaps, Freezes, Prints, StepAct, NewObject, Change, Changes, Reference, Number, deed, act_of, act_by, act_line, if_there, reference_in, number_in, number_place, born, changed_by, with_act, changes, stepped, standing_for, now_of, joined_now, moved_by, moved, children, child_of, delta, units_given, news_in, news_at, news_for, news, after_run, Marking, Holding, marking_with, holding, holdings, nothing_held, changed_in, changed_at, with_birth, put_birth, put_births, put_made, or_nothing, with_children, without_objects, put_join, has_joined, without_marking, put_moves, put_delta, with_given, with_marked, put_news, held_after, DeltasGiveHoldings}
+use Rattle.delta_laws.proofs.Common.{◌≡◌, ◌<◌, ◌≤◌, ℕ, pos, zero, suc, ◌+◌, ◌-◌, ◌==◌, ◌⊎◌, Bool, true, false, cond, Option, Some, None, List, [], ◌∷◌, ◌++◌, length, map, slice_get, slice_set, replicate, take, nat_lt, inl, inr, refl, ap, ap₂, sym, subst, ◌∙◌, is_some, is_none, arith, eq-eqb, ne_eqb, append_assoc, min, option_map, unwrap_or, cond-true, cond-false, false≢true, both_ways, and_parts, le-leb, leb-false, slice_get-map, same_Some, length-set, length-take, length-replicate, got_same, got_within, got_some, none_of, Instr, Set, Mov, Movr, Nil as NilOf, Calc, Same, Jmp, Jz, Newm, Pack, Getr, Geti, Putr, Puti, Cntr, Cnti, Freeze, Cas, Call, Par, Ret, Out, Line, ProgramText, IsProgram, line_at, Name, Object, Frame, Done, Running, Waiting, Joined, Task, Size, MachineState, Effect, Goes, effect, made, object_at, row_of, counts_in, place_in, same_name, int_in, ref_in, or_trap, with_ref, onward, next_name, words_asked, words_for, step, follow, setting, fetched, can_step, asked, asked_line, runs, is_running, is_left, owner_of, parent_of, child, strand, strand_of, edge, joined_task, resumed, join_of, ended_task, result_of, ended_by, set_got, asked_at, Counted, rows_from, runs_are_counted, packs_are_few, waiting, grown_length, grown_at, grown_left, grown_right, three_top, three_left, three_right, three_length, below, parr, step_cases, runs_is, can_task, step_taken, made_here, Kind, Took, Ran, Chunk, Begin, End as EndOf, PutOff, Mark, More, Sweep, Fuel, EntryValue, SettingsValue, field_limit, Heap, Ledger, Pool, chunk_words, units, is_small_size, object_words_of, begun_in, marked_in, left_in, heap_of, or_fresh, with_heap, with_heap_at, in_use, within, lacks_room, with_allocation, put_last, fresh, forked_heap, merged, emptied, let_go, collected, swept_heap, is_due, is_in_need, allocated_by, allocated_in, settled, moved_on, moved_to, at_join, join_heaps, stepped_to, task_step, task_steps, on_asked, refusal, kind_refusal, after_kind, after, with_chunk, chunk_units, after_all, ledger_of, is_legal, is_legal_from, tasks_of, stepped_machine, task_step_machine, machine_is_run, SoundLedger, collecting, SoundAt, steps_last, task_steps_sound, running_at, can_tells, with_heap_any, wait_run, heap_end, none_where, none_unless, out_tells, wait_tells, entry_tells, legal_sound, chunks_are_used, journals_can_be_cut, Deed, Allocates, Reads, Counts, Writes, Swaps, Freezes, Prints, StepAct, NewObject, Change, Changes, Reference, Number, deed, act_of, act_by, step_act_of, if_there, reference_in, number_in, number_place, born, changed_by, with_act, changes, stepped, standing_for, now_of, joined_now, moved_by, moved, children, child_of, delta, units_given, news_in, news_at, news_for, news, after_run, Marking, Holding, marking_with, holding, holdings, nothing_held, changed_in, changed_at, with_birth, put_birth, put_births, put_made, or_nothing, with_children, without_objects, put_join, has_joined, without_marking, put_moves, put_delta, with_given, with_marked, put_news, held_after, DeltasGiveHoldings}
 use Rattle.hh_model.specs.declared.data.End.{End}
 
 -- CHANGES OF ONE HEAP
@@ -88,8 +88,8 @@ module _ (k : Ledger) (t : ℕ) (x : Task) (line : ℕ) (row : List Object) (is_
   abbrev birth : Object → NewObject
   birth o = record { name = new_name; mutable = o.mutable; refs = o.refs; ints = o.ints }
 
-  placed_so : (o : Object) (w : ℕ) (h : Heap) → is_small (words_of (Some o)) ≡ is_small w → holding (placed h new_name w) ≡ with_birth (birth o) (holding h)
-  placed_so o w h same = placed_so_by_cases (is_small w) (is_small (words_of (Some o))) same
+  placed_so : (o : Object) (w : ℕ) (h : Heap) → is_small_size (object_words_of (Some o)) ≡ is_small_size w → holding (with_allocation h new_name w) ≡ with_birth (birth o) (holding h)
+  placed_so o w h same = placed_so_by_cases (is_small_size w) (is_small_size (object_words_of (Some o))) same
     where
       placed_so_by_cases : (v u : Bool) → u ≡ v → holding (cond v (record h { chunks = put_last h.chunks new_name; room = h.room - w; since = h.since + w }) (record h { large = h.large ++ new_name ∷ []; reserved = 0; since = h.since + w }))
           ≡ cond u (record (holding h) { chunks = put_last h.chunks new_name }) (record (holding h) { large = h.large ++ new_name ∷ []; waiting = 0 })
@@ -98,12 +98,12 @@ module _ (k : Ledger) (t : ℕ) (x : Task) (line : ℕ) (row : List Object) (is_
       placed_so_by_cases false true e = absurd (false≢true (sym e))
       placed_so_by_cases false false e = refl
 
-  lands_new : (f : Frame) (o : Object) (w : ℕ) → is_small (words_of (Some o)) ≡ is_small w → Lands (Goes f (slice_set at_k.store t (row_of (slice_get at_k.store t) ++ o ∷ []))) (Some (Allocates new_name)) (Some w)
+  lands_new : (f : Frame) (o : Object) (w : ℕ) → is_small_size (object_words_of (Some o)) ≡ is_small_size w → Lands (Goes f (slice_set at_k.store t (row_of (slice_get at_k.store t) ++ o ∷ []))) (Some (Allocates new_name)) (Some w)
   lands_new f o w same =
       ap (λ (b : Option Object). put_births (holdings k) (born new_name b)) (made_here at_k.store t row o is_row)
-      ∙ sym (changed_now k t (λ h. placed h new_name w) (with_birth (birth o)) (λ h e. placed_so o w h same))
+      ∙ sym (changed_now k t (λ h. with_allocation h new_name w) (with_birth (birth o)) (λ h e. placed_so o w h same))
 
-  pack_small : (f : Frame) (o : Object) (r i : ℕ) → length o.refs ≤ r → length o.ints ≤ i → r ≤ 16 → i ≤ 16 → is_small (words_of (Some o)) ≡ is_small (2 + r + i)
+  pack_small : (f : Frame) (o : Object) (r i : ℕ) → length o.refs ≤ r → length o.ints ≤ i → r ≤ 16 → i ≤ 16 → is_small_size (object_words_of (Some o)) ≡ is_small_size (2 + r + i)
   pack_small f o r i a b c d = le-leb (2 + length o.refs + length o.ints) chunk_words (omega arith) ∙ sym (le-leb (2 + r + i) chunk_words (omega arith))
 
   at_most : {A : Type 0} (r : ℕ) (xs : List A) → length (take r xs) ≤ r
@@ -119,7 +119,7 @@ module _ (k : Ledger) (t : ℕ) (x : Task) (line : ℕ) (row : List Object) (is_
       lands_by_cases None = refl
       lands_by_cases (Some c) =
           lands_new (onward (with_ref x.top d (Some new_name))) (record { strand = strand_of t x; mutable = true; refs = replicate c.0 None; ints = replicate c.1 (pos 0) }) (2 + c.0 + c.1)
-          (ap₂ (λ i j. is_small (2 + i + j)) (length-replicate {A = Option Name} c.0 None) (length-replicate c.1 (pos 0)))
+          (ap₂ (λ i j. is_small_size (2 + i + j)) (length-replicate {A = Option Name} c.0 None) (length-replicate c.1 (pos 0)))
   lands (Pack d r i) small =
       let o : Object = record { strand = strand_of t x; mutable = false; refs = take r x.top.refs; ints = take i x.top.ints } in
       lands_new (onward (with_ref x.top d (Some new_name))) o (2 + r + i) (pack_small x.top o r i (at_most r x.top.refs) (at_most i x.top.ints) (small d r i refl).0 (small d r i refl).1)
@@ -324,7 +324,7 @@ module _ (p : ProgramText) (l : Ledger) (t : ℕ) where
       abbrev runner : Task
       runner = found.0
 
-      act_is : act_of p k.machine t ≡ act_line k.machine t runner (fetched p runner.top)
+      act_is : act_of p k.machine t ≡ step_act_of k.machine t runner (fetched p runner.top)
       act_is = cond-true (can_step k.machine t) (act_by p k.machine t (slice_get k.machine.tasks t)) None can ∙ ap (act_by p k.machine t) found.1
 
       asked_now : asked p k.machine t ≡ asked_line k.machine.field_limit runner.top (fetched p runner.top)
@@ -336,7 +336,7 @@ module _ (p : ProgramText) (l : Ledger) (t : ℕ) where
       abbrev Put : Option StepAct → Type 0
       Put a = holdings (allocated_in p k t) ≡ put_births hs (with_act (step p k.machine t) ch a).all
 
-      births_by : (o : Option Line) → fetched p runner.top ≡ o → Put (act_line k.machine t runner o)
+      births_by : (o : Option Line) → fetched p runner.top ≡ o → Put (step_act_of k.machine t runner o)
       births_by None e = ap (λ w. holdings (allocated_by k t w)) (asked_now ∙ ap (asked_line k.machine.field_limit runner.top) e) ∙ so_far
       births_by (Some line) e =
           let new : MachineState → List Change = λ q. changed_by q (deed k.machine t runner.top line.instr) in
@@ -413,20 +413,20 @@ module _ (p : ProgramText) (s : SettingsValue) (before : List EntryValue) (legal
   -- a chunk is given
   given_so : (t : ℕ) (asks : Option ℕ) (h : Heap) → slice_get l.heaps t ≡ Some h → asked p l.machine t ≡ asks → is_some asks ≡ true → holding (with_chunk asks h) ≡ with_given (units_given (with_chunk asks h)) (holding h)
   given_so t None h e q some = absurd (false≢true some)
-  given_so t (Some w) h e q some = given_so_by_cases (is_small w) refl
+  given_so t (Some w) h e q some = given_so_by_cases (is_small_size w) refl
     where
-      free : is_small w ≡ true → (n : ℕ) → h.reserved ≡ n → n ≡ 0
+      free : is_small_size w ≡ true → (n : ℕ) → h.reserved ≡ n → n ≡ 0
       free small zero is = refl
       free small (suc n) is =
           let at : (heap_of l t).reserved ≡ suc n = ap (λ (o : Option Heap). (or_fresh o).reserved) e ∙ is in
           let r = (chunks_are_used p s before legal).reserved t (let lt : 0 < (heap_of l t).reserved = omega arith in lt) in
           let same : r.words ≡ w = same_Some r.words w (sym r.asks ∙ q) in
-          absurd (false≢true (sym r.large ∙ (ap is_small same ∙ small)))
+          absurd (false≢true (sym r.large ∙ (ap is_small_size same ∙ small)))
 
-      many_units : is_small w ≡ false → 2 ≤ units w
+      many_units : is_small_size w ≡ false → 2 ≤ units w
       many_units large = let a : chunk_words < w = leb-false w chunk_words large in omega arith
 
-      given_so_by_cases : (v : Bool) → is_small w ≡ v → holding (cond v (record h { chunks = h.chunks ++ [] ∷ []; room = chunk_words }) (record h { reserved = cond v 1 (units w) }))
+      given_so_by_cases : (v : Bool) → is_small_size w ≡ v → holding (cond v (record h { chunks = h.chunks ++ [] ∷ []; room = chunk_words }) (record h { reserved = cond v 1 (units w) }))
           ≡ with_given (units_given (cond v (record h { chunks = h.chunks ++ [] ∷ []; room = chunk_words }) (record h { reserved = cond v 1 (units w) }))) (holding h)
       given_so_by_cases true small =
           let none : h.reserved ≡ 0 = free small h.reserved refl in

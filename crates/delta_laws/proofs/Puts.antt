@@ -1,5 +1,5 @@
 -- The deltas of a journal, put together, give its objects and outputs.
-use Rattle.delta_laws.proofs.Common.{◌≡◌, ℕ, ℤ, pos, zero, suc, ◌+◌, ◌-◌, ◌==◌, Bool, true, false, cond, Option, Some, None, List, [], ◌∷◌, ◌++◌, length, slice_get, slice_set, replicate, take, inl, inr, refl, ap, sym, ◌∙◌, arith, cases_eq, false≢true, got_other, option_map, nat_lt, option_flatten, Instr, Set, Mov, Movr, Nil as NilOf, Calc, Same, Jmp, Jz, Newm, Pack, Getr, Geti, Putr, Puti, Cntr, Cnti, Freeze, Cas, Call, Par, Ret, Out, Line, ProgramText, Name, Object, Frame, Task, MachineState, Trap, Range, Frozen, Div as DivTrap, Size, Effect, Goes, Calls, Forks, Traps, Stops, effect, object_at, put_object, row_of, or_trap, with_object, made, read_effect, swap_effect, int_in, ref_in, with_int, with_ref, onward, same_name, calculated, counts_in, place_in, next_name, precedes, step, start, follow, can_step, fetched, setting, returned_to, last_return, last_of, child_ended_by, result_at, or_same, sibling, is_left, result_of, owner_of, run_from, frame_limit, depth_limit, strand_of, rows_same, put_leaves, put_here, made_here, Kind, Took, Ran, Chunk, Begin, End, PutOff, Mark, More, Sweep, Fuel, EntryValue, field_limit, is_name, tasks_in, tasks_of, same_from_is_name, is_name_itself, machine_is_run, Value, Reference, Number, Deed, Allocates, Reads, Writes, Swaps, Freezes, Change, Changes, deed, act_of, act_by, act_line, if_there, reference_in, number_place, born, changed_by, with_act, changes, stepped, deltas_from, delta, machine_after, after_run, Body, Seen, seen, body_of, with_field, frozen, put, put_all, put_deltas, DeltasGiveObjects}
+use Rattle.delta_laws.proofs.Common.{◌≡◌, ℕ, ℤ, pos, zero, suc, ◌+◌, ◌-◌, ◌==◌, Bool, true, false, cond, Option, Some, None, List, [], ◌∷◌, ◌++◌, length, slice_get, slice_set, replicate, take, inl, inr, refl, ap, sym, ◌∙◌, arith, cases_eq, false≢true, got_other, option_map, nat_lt, option_flatten, Instr, Set, Mov, Movr, Nil as NilOf, Calc, Same, Jmp, Jz, Newm, Pack, Getr, Geti, Putr, Puti, Cntr, Cnti, Freeze, Cas, Call, Par, Ret, Out, Line, ProgramText, Name, Object, Frame, Task, MachineState, Trap, Range, Frozen, Div as DivTrap, Size, Effect, Goes, Calls, Forks, Traps, Stops, effect, object_at, put_object, row_of, or_trap, with_object, made, read_effect, swap_effect, int_in, ref_in, with_int, with_ref, onward, same_name, calculated, counts_in, place_in, next_name, precedes, step, start, follow, can_step, fetched, setting, returned_to, last_return, last_of, child_ended_by, result_at, or_same, sibling, is_left, result_of, owner_of, run_from, frame_limit, depth_limit, strand_of, rows_same, put_leaves, put_here, made_here, Kind, Took, Ran, Chunk, Begin, End, PutOff, Mark, More, Sweep, Fuel, EntryValue, field_limit, is_name, tasks_in, tasks_of, same_from_is_name, is_name_itself, machine_is_run, Value, Reference, Number, Deed, Allocates, Reads, Writes, Swaps, Freezes, Change, Changes, deed, act_of, act_by, step_act_of, if_there, reference_in, number_place, born, changed_by, with_act, changes, stepped, deltas_from, delta, machine_after, after_run, Body, Seen, seen, body_of, with_field, frozen, put, put_all, put_deltas, DeltasGiveObjects}
 use Rattle.hh_model.specs.declared.data.Trap.TheVariants.{Nil}
 use Rattle.hh_model.specs.Step.{stepped as step_line}
 
@@ -209,7 +209,7 @@ module _ (m : MachineState) (t : ℕ) (x : Task) (line : ℕ) (n : Name) where
 module _ (p : ProgramText) (n : Name) where
   -- one more step
   module _ (m : MachineState) (t : ℕ) (s : Seen) (c : Changes) (h : put_all n s c.all ≡ seen m n) where
-    by_line : (x : Task) (b : Option Line) → put_all n s (with_act (step_line p m t x b) c (act_line m t x b)).all ≡ seen (step_line p m t x b) n
+    by_line : (x : Task) (b : Option Line) → put_all n s (with_act (step_line p m t x b) c (step_act_of m t x b)).all ≡ seen (step_line p m t x b) n
     by_line x None = h
     by_line x (Some line) =
         put_more n s c.all (changed_by (step_line p m t x (Some line)) (deed m t x.top line.instr))

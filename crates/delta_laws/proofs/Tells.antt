@@ -1,5 +1,5 @@
 -- The deltas of a legal journal tell where its tasks stand.
-use Rattle.delta_laws.proofs.Common.{◌≡◌, ◌<◌, ◌≤◌, ℕ, zero, suc, ◌+◌, ◌-◌, ◌==◌, ◌⊎◌, Bool, true, false, cond, Option, Some, None, List, [], ◌∷◌, ◌++◌, length, slice_get, slice_set, nat_lt, inl, inr, refl, ap, sym, subst, ◌∙◌, is_some, is_none, arith, eq-eqb, append_assoc, cases_eq, cases_lt, cond-true, cond-false, false≢true, both_ways, and_parts, length-set, In, got_same, got_other, got_past, got_within, none_of, option_is, ProgramText, TaskStatus, Running, Waiting, Ended, Joined, Task, MachineState, onward, next_name, step, start, can_step, asked, runs, is_running, is_left, parent_of, child, strand, strand_of, edge, joined_task, resumed, join_of, ended_task, result_of, ended_by, waiting, grown_at, grown_left, grown_right, grown_past, grown_other, three_top, three_left, three_right, three_other, below, parr, wp, step_cases, runs_is, Kind, Took, Ran, Chunk, Begin, End as EndOf, PutOff, Mark, More, Sweep, Fuel, EntryValue, SettingsValue, field_limit, Heap, Ledger, Pool, placed, heap_of, with_heap, with_heap_at, in_use, allocated_by, allocated_in, settled, moved_on, moved_to, stepped_to, task_step, task_steps, on_asked, is_small, refusal, kind_refusal, after_kind, after, is_ready, is_out, with_chunk, chunk_units, opening, after_all, ledger_of, is_legal, is_legal_from, stepped_machine, SoundLedger, moves_each, SoundAt, StepLeaves, step_leaves, step_keeps, steps_keep, heap_of_task, running_at, can_tells, worker_at, allots, with_heap_any, MannedLedger, moved_to_end, allocated_end, placed_worker, worker_of, step_manned, chunk_worker_by, tasks_are_out_once, held_is, wait_run, none_unless, out_tells, entry_tells, legal_sound, collecting_is, journals_can_be_cut, Standing, TaskNow, roots, standing_for, line_for, now_of, now_out, now_free, joined_now, moved_by, moved, deltas_from, delta, machine_after, machine_moves, told, told_by, stands_as, stands, DeltasGiveTasks}
+use Rattle.delta_laws.proofs.Common.{◌≡◌, ◌<◌, ◌≤◌, ℕ, zero, suc, ◌+◌, ◌-◌, ◌==◌, ◌⊎◌, Bool, true, false, cond, Option, Some, None, List, [], ◌∷◌, ◌++◌, length, slice_get, slice_set, nat_lt, inl, inr, refl, ap, sym, subst, ◌∙◌, is_some, is_none, arith, eq-eqb, append_assoc, cases_eq, cases_lt, cond-true, cond-false, false≢true, both_ways, and_parts, length-set, In, got_same, got_other, got_past, got_within, none_of, option_is, ProgramText, TaskStatus, Running, Waiting, Ended, Joined, Task, MachineState, onward, next_name, step, start, can_step, asked, runs, is_running, is_left, parent_of, child, strand, strand_of, edge, joined_task, resumed, join_of, ended_task, result_of, ended_by, waiting, grown_at, grown_left, grown_right, grown_past, grown_other, three_top, three_left, three_right, three_other, below, parr, wp, step_cases, runs_is, Kind, Took, Ran, Chunk, Begin, End as EndOf, PutOff, Mark, More, Sweep, Fuel, EntryValue, SettingsValue, field_limit, Heap, Ledger, Pool, with_allocation, heap_of, with_heap, with_heap_at, in_use, allocated_by, allocated_in, settled, moved_on, moved_to, stepped_to, task_step, task_steps, on_asked, is_small_size, refusal, kind_refusal, after_kind, after, is_ready, is_out, with_chunk, chunk_units, opening, after_all, ledger_of, is_legal, is_legal_from, stepped_machine, SoundLedger, moves_each, SoundAt, StepLeaves, step_leaves, step_keeps, steps_keep, heap_of_task, running_at, can_tells, worker_at, allots, with_heap_any, MannedLedger, moved_to_end, allocated_end, placed_worker, worker_of, step_manned, chunk_worker_by, tasks_are_out_once, held_is, wait_run, none_unless, out_tells, entry_tells, legal_sound, collecting_is, journals_can_be_cut, Standing, TaskNow, roots, standing_for, line_for, now_of, now_out, now_free, joined_now, moved_by, moved, deltas_from, delta, machine_after, machine_moves, told, told_by, stands_as, stands, DeltasGiveTasks}
 use Rattle.std.proofs.lemmas.Bool.{ne_eqb}
 use Rattle.hh_model.specs.declared.data.End.{End}
 
@@ -142,8 +142,8 @@ module _ (p : ProgramText) (l : Ledger) (t : ℕ) where
     held_b : (o : Option ℕ) → worker_at (slice_get (allocated_by k t o).heaps t) ≡ worker_at (slice_get k.heaps t)
     held_b None = refl
     held_b (Some w) =
-        ap (λ (q : Ledger). worker_at (slice_get q.heaps t)) (ap (with_heap_at k t (λ g. placed g (next_name t m.store) w)) heap.1)
-        ∙ (ap worker_at (got_same k.heaps t heap.0 (placed heap.0 (next_name t m.store) w) heap.1) ∙ (placed_worker heap.0 (next_name t m.store) w ∙ sym (ap worker_at heap.1)))
+        ap (λ (q : Ledger). worker_at (slice_get q.heaps t)) (ap (with_heap_at k t (λ g. with_allocation g (next_name t m.store) w)) heap.1)
+        ∙ (ap worker_at (got_same k.heaps t heap.0 (with_allocation heap.0 (next_name t m.store) w) heap.1) ∙ (placed_worker heap.0 (next_name t m.store) w ∙ sym (ap worker_at heap.1)))
 
     none_free : (u : ℕ) → is_running (slice_get m.tasks u) ≡ false → worker_at (slice_get k.heaps u) ≡ None
     none_free u stops = none_free_by_cases (worker_at (slice_get k.heaps u)) refl
@@ -393,7 +393,7 @@ module _ (p : ProgramText) (s : SettingsValue) (l : Ledger) (S : SoundLedger l) 
   chunk_told : (t : ℕ) (next : Option ℕ) (full : Bool) (u : ℕ)
       → let k : Ledger = cond full (record l { end = Some (Pool (in_use l)) }) (with_heap l t (with_chunk next)) in now_at p l.machine.tasks l.heaps u ≡ now_at p k.machine.tasks k.heaps u
   chunk_told t next true u = refl
-  chunk_told t next false u = unmoved t (with_chunk next) (λ h. chunk_worker_by h (chunk_units next) (on_asked next is_small)) u
+  chunk_told t next false u = unmoved t (with_chunk next) (λ h. chunk_worker_by h (chunk_units next) (on_asked next is_small_size)) u
 
   out_held : (w t : ℕ) → is_out l w t ≡ true → is_some (worker_at (slice_get l.heaps t)) ≡ true
   out_held w t h = ap is_some (sym (worker_of l t)) ∙ ap is_some (held_is (heap_of l t).worker w (and_parts (is_running (slice_get l.machine.tasks t)) (option_is (heap_of l t).worker w) h).1)

@@ -22,7 +22,7 @@ pub use Rattle.run_deltas.specs.declared.data.TaskNow.{TaskNow}
 pub use Rattle.run_deltas.specs.declared.data.Value.{Value}
 pub use Rattle.run_deltas.specs.declared.data.Value.TheVariants.{Reference, Number}
 pub use Rattle.run_ledger.specs.Entries.{after}
-pub use Rattle.run_ledger.specs.Heaps.{is_small, begun_in, put_last, heap_of}
+pub use Rattle.run_ledger.specs.Heaps.{is_small_size, begun_in, put_last, heap_of}
 pub use Rattle.run_ledger.specs.Journals.{opening, is_legal, ledger_of}
 pub use Rattle.run_ledger.specs.Reachable.{holds_name, is_name}
 pub use Rattle.run_ledger.specs.declared.data.Heap.{Heap}

@@ -1,6 +1,6 @@
 -- What heaps hold and how far they are marked, by what entries tell of them, and by a journal's accounts.
 use Rattle.std.specs.Prelude.{ℕ, ◌+◌, ◌==◌, Bool, true, false, Option, Some, None, List, [], ◌∷◌, ◌++◌, length, map, option_map, slice_get, slice_set, if◌then◌else◌}
-use Rattle.delta_laws.specs.Common.{ProgramText, Name, EntryValue, SettingsValue, Heap, Ledger, is_small, begun_in, put_last, after, NewObject, Change, New, Set, Froze, Print, NewTask, Standing, Ready, Out, Waits, HasEnded, HasJoined, TaskNow, Delta, delta, News, Nothing, Given, Taken, Laid, Snapped, Marked, Swept, news}
+use Rattle.delta_laws.specs.Common.{ProgramText, Name, EntryValue, SettingsValue, Heap, Ledger, is_small_size, begun_in, put_last, after, NewObject, Change, New, Set, Froze, Print, NewTask, Standing, Ready, Out, Waits, HasEnded, HasJoined, TaskNow, Delta, delta, News, Nothing, Given, Taken, Laid, Snapped, Marked, Swept, news}
 
 -- a marking that goes on: of which objects, and how many of them are marked
 pub record Marking : Type 0 where
@@ -45,7 +45,7 @@ changed_at t f hs = changed_in t f hs (slice_get hs t)
 -- a small object lies in the last chunk; a large one has the chunk that waited for it
 abbrev pub with_birth : NewObject → Holding → Holding
 with_birth b h =
-    if is_small (2 + length b.refs + length b.ints)
+    if is_small_size (2 + length b.refs + length b.ints)
     then record h { chunks = put_last h.chunks b.name }
     else record h { large = h.large ++ b.name ∷ []; waiting = 0 }
 

@@ -8,11 +8,11 @@ use Rattle.leaf_collections.specs.below.run_ledger.{Refused, heap_of, left_in}
 use Rattle.leaf_collections.specs.below.object_layout.{Addr}
 use Rattle.leaf_collections.specs.below.copying_gc.{Moved, ToChunks}
 use Rattle.leaf_collections.specs.below.task_machine.{Private}
-use Rattle.leaf_collections.specs.below.core_invariant.{NotEntered, NotRan, SharedValue, accounts, rest_at, AllFit, Fits, OthersFit, EntersOrRefuses, Enters, IsSamePart, RanAnswers, cause_of, refused, HasBegun}
+use Rattle.leaf_collections.specs.below.core_invariant.{NotEntered, NotRan, SharedValue, accounts, rest_at, AllFit, Fits, OthersFit, EntersOrRefuses, Enters, IsSamePart, RanAnswers, refusal_of_result, refused, HasBegun}
 use Rattle.leaf_collections.specs.below.task_slots.{ParkedTask}
 use Rattle.fork_join_commit.specs.below.step_commit.{alone_entry}
 use Rattle.fork_join_commit.specs.Joins.{IsUnchanged}
-use Rattle.leaf_collections.specs.LeafEnd.{end_entry, ended}
+use Rattle.leaf_collections.specs.LeafEnd.{end_entry, without_collection}
 use Rattle.entry_calls.specs.declared.answers.NotEnded.{NotEnded}
 use Rattle.entry_calls.specs.declared.answers.Ran.{Ran as RanOf}
 use Rattle.entry_calls.specs.declared.answers.Lent.{Lent}
@@ -23,7 +23,7 @@ use Rattle.entry_calls.specs.Ran.{LentTo, RanTo}
 
 -- the worker takes the task t, and gets its part, with its parked heap
 pub record TakesTask (w after : SharedValue) (k t : ℕ) (answer : Result Private Refused) : Type 0 where
-  pub refused : cause_of answer ≡ refused w (record { worker = k; kind = Took t })
+  pub refused : refusal_of_result answer ≡ refused w (record { worker = k; kind = Took t })
   pub same : OnErr answer (after ≡ w)
   pub enters : OnOk answer (Enters w after (record { worker = k; kind = Took t }))
   pub task : IfOk answer (λ (p : Private). p.task ≡ t)
@@ -35,7 +35,7 @@ pub record TakesTask (w after : SharedValue) (k t : ℕ) (answer : Result Privat
 
 -- the fresh steps of the part p, all private, are committed: it becomes q, without any
 pub record EntersSteps (w after : SharedValue) (k : ℕ) (p q : Private) (answer : Result (Unit {0}) Refused) : Type 0 where
-  pub refused : cause_of answer ≡ refused w (record { worker = k; kind = Ran p.task p.fresh })
+  pub refused : refusal_of_result answer ≡ refused w (record { worker = k; kind = Ran p.task p.fresh })
   pub same : OnErr answer (after ≡ w)
   pub back : OnErr answer (q ≡ p)
   pub enters : OnOk answer (Enters w after (record { worker = k; kind = Ran p.task p.fresh }))
@@ -63,7 +63,7 @@ pub record EntersLeaving (w after : SharedValue) (k : ℕ) (p : Private) (answer
 
 -- the run ends because its fuel is used up
 pub record EndsForFuel (w after : SharedValue) (k : ℕ) (answer : Result (Unit {0}) Refused) : Type 0 where
-  pub refused : cause_of answer ≡ refused w (record { worker = k; kind = Fuel })
+  pub refused : refusal_of_result answer ≡ refused w (record { worker = k; kind = Fuel })
   pub same : OnErr answer (after ≡ w)
   pub enters : OnOk answer (Enters w after (record { worker = k; kind = Fuel }))
   pub all : OnOk answer (AllFit w after)
@@ -97,14 +97,14 @@ pub record EndsLeaf (w after : SharedValue) (k : ℕ) (p q : Private) (m : Moved
   pub same : OnErr answer (after ≡ w)
   pub back : OnErr answer (q ≡ p)
   pub moved : IfErr answer (λ (e : NotEnded). e.moved ≡ m)
-  pub part : OnOk answer (q ≡ ended p)
+  pub part : OnOk answer (q ≡ without_collection p)
   pub enters : OnOk answer (Enters w after (end_entry k p m))
   pub fits : OnOk answer (Fits after k q)
   pub others : OnOk answer (OthersFit w after k)
 
 -- a due collection of the part p is put off: its words are counted from 0 on in q
 pub record PutsOff (w after : SharedValue) (k : ℕ) (p q : Private) (answer : Result (Unit {0}) Refused) : Type 0 where
-  pub refused : cause_of answer ≡ refused w (record { worker = k; kind = PutOff p.task })
+  pub refused : refusal_of_result answer ≡ refused w (record { worker = k; kind = PutOff p.task })
   pub same : OnErr answer (after ≡ w)
   pub back : OnErr answer (q ≡ p)
   pub part : OnOk answer (q ≡ record p { heap = record p.heap { since = 0 } })
@@ -123,7 +123,7 @@ pub record BeginsMarking (w after : SharedValue) (k t : ℕ) (answer : Result (U
 
 -- n more objects of it are marked, or all that are left: the result is how many
 pub record MarksMore (w after : SharedValue) (k t n : ℕ) (answer : Result ℕ Refused) : Type 0 where
-  pub refused : cause_of answer ≡ refused w (record { worker = k; kind = More t n })
+  pub refused : refusal_of_result answer ≡ refused w (record { worker = k; kind = More t n })
   pub same : OnErr answer (after ≡ w)
   pub count : IfOk answer (λ many. many ≡ min n (left_in (heap_of (accounts w) t)))
   pub enters : OnOk answer (Enters w after (record { worker = k; kind = More t n }))
@@ -131,7 +131,7 @@ pub record MarksMore (w after : SharedValue) (k t n : ℕ) (answer : Result ℕ 
 
 -- it is swept, and the given units are released
 pub record SweepsHeap (w after : SharedValue) (k t given : ℕ) (answer : Result (Unit {0}) Refused) : Type 0 where
-  pub refused : cause_of answer ≡ refused w (record { worker = k; kind = Sweep t given })
+  pub refused : refusal_of_result answer ≡ refused w (record { worker = k; kind = Sweep t given })
   pub same : OnErr answer (after ≡ w)
   pub enters : OnOk answer (Enters w after (record { worker = k; kind = Sweep t given }))
   pub fits : OnOk answer (AllFit w after)

@@ -11,5 +11,5 @@ pub use Rattle.std.proofs.lemmas.Result.{IfOk-weaker, on_ok_weaker}
 pub use Rattle.std.specs.Fmt.{decimal}
 pub use Rattle.std.specs.List.{flat_map}
 pub use Rattle.std.specs.Prelude.{codes, Option, Some, None}
-pub use Rattle.text_faults.specs.Faults.{cause_of}
+pub use Rattle.text_faults.specs.Faults.{cause_of_wrong}
 pub use Rattle.text_faults.specs.declared.fault.Fault.{Fault}

@@ -1,5 +1,5 @@
 -- What is added to a text piece by piece.
-use Rattle.fault_lines.proofs.Common.{◌≡◌, ◌<◌, ◌≤◌, ◌+◌, ◌++◌, ◌∷◌, [], ℕ, List, length, take, drop, get_or, arith, refl, ap, sym, ◌∙◌, append_assoc, codes, flat_map, flat_map_more, take_more, Number, Word, first_member, more_member, text_of_cause, Fault, cause_of, expected, near_piece, fault_piece, further_piece, pieces}
+use Rattle.fault_lines.proofs.Common.{◌≡◌, ◌<◌, ◌≤◌, ◌+◌, ◌++◌, ◌∷◌, [], ℕ, List, length, take, drop, get_or, arith, refl, ap, sym, ◌∙◌, append_assoc, codes, flat_map, flat_map_more, take_more, Number, Word, first_member, more_member, text_of_cause, Fault, cause_of_wrong, expected, near_piece, fault_piece, further_piece, pieces}
 
 eight : (t a b c d e n z : List ℕ) → (((((((t ++ 123 ∷ []) ++ a) ++ b) ++ c) ++ d) ++ e) ++ n) ++ z ≡ t ++ 123 ∷ (a ++ b ++ c ++ d ++ e ++ n ++ z)
 eight t a b c d e n z = simp append_assoc
@@ -7,7 +7,7 @@ eight t a b c d e n z = simp append_assoc
 pub piece_added : (f : Fault) (t u1 u2 u3 u4 u5 u6 u7 u8 w k x : List ℕ)
     → u1 ≡ t ++ 123 ∷ [] → u2 ≡ u1 ++ first_member (codes "line") (Number f.line) → u3 ≡ u2 ++ more_member (codes "column") (Number f.column)
     → w ≡ f.word → u4 ≡ u3 ++ more_member (codes "word") (Word w)
-    → k ≡ text_of_cause (cause_of f.wrong) → u5 ≡ u4 ++ more_member (codes "cause") (Word k)
+    → k ≡ text_of_cause (cause_of_wrong f.wrong) → u5 ≡ u4 ++ more_member (codes "cause") (Word k)
     → x ≡ expected f.wrong → u6 ≡ u5 ++ more_member (codes "expected") (Word x)
     → u7 ≡ u6 ++ near_piece f.near → u8 ≡ u7 ++ 125 ∷ [] → u8 ≡ t ++ fault_piece f
 piece_added f t u1 u2 u3 u4 u5 u6 u7 u8 w k x e1 e2 e3 ew e4 ek e5 ex e6 e7 e8 =
@@ -15,12 +15,12 @@ piece_added f t u1 u2 u3 u4 u5 u6 u7 u8 w k x e1 e2 e3 ew e4 ek e5 ex e6 e7 e8 =
     ∙ ap (λ y. y ++ 125 ∷ []) (e7
     ∙ ap (λ y. y ++ near_piece f.near) (e6 ∙ ap (λ v. u5 ++ more_member (codes "expected") (Word v)) ex
     ∙ ap (λ y. y ++ more_member (codes "expected") (Word (expected f.wrong))) (e5 ∙ ap (λ v. u4 ++ more_member (codes "cause") (Word v)) ek
-    ∙ ap (λ y. y ++ more_member (codes "cause") (Word (text_of_cause (cause_of f.wrong)))) (e4 ∙ ap (λ v. u3 ++ more_member (codes "word") (Word v)) ew
+    ∙ ap (λ y. y ++ more_member (codes "cause") (Word (text_of_cause (cause_of_wrong f.wrong)))) (e4 ∙ ap (λ v. u3 ++ more_member (codes "word") (Word v)) ew
     ∙ ap (λ y. y ++ more_member (codes "word") (Word f.word)) (e3
     ∙ ap (λ y. y ++ more_member (codes "column") (Number f.column)) (e2
     ∙ ap (λ y. y ++ first_member (codes "line") (Number f.line)) e1))))))
     ∙ eight t (first_member (codes "line") (Number f.line)) (more_member (codes "column") (Number f.column)) (more_member (codes "word") (Word f.word))
-    (more_member (codes "cause") (Word (text_of_cause (cause_of f.wrong)))) (more_member (codes "expected") (Word (expected f.wrong))) (near_piece f.near) (125 ∷ [])
+    (more_member (codes "cause") (Word (text_of_cause (cause_of_wrong f.wrong)))) (more_member (codes "expected") (Word (expected f.wrong))) (near_piece f.near) (125 ∷ [])
 
 behind_comma : (t p : List ℕ) → ((t ++ 44 ∷ []) ++ 10 ∷ []) ++ p ≡ t ++ 44 ∷ 10 ∷ p
 behind_comma t p = simp append_assoc

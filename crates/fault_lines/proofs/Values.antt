@@ -1,5 +1,5 @@
 -- The pieces of a text are the text of its JSON value.
-use Rattle.fault_lines.proofs.Common.{◌≡◌, ℕ, List, [], ◌∷◌, ◌++◌, map, refl, ap, sym, ◌∙◌, append_assoc, append-nil, Option, Some, None, codes, flat_map, decimal, quoted, Json, Number, Word, json, values, more_values, more_members, text_of_cause, Fault, cause_of, expected, near_members, near_piece, fault_value, fault_piece, further_piece, pieces, array_text, faults_json}
+use Rattle.fault_lines.proofs.Common.{◌≡◌, ℕ, List, [], ◌∷◌, ◌++◌, map, refl, ap, sym, ◌∙◌, append_assoc, append-nil, Option, Some, None, codes, flat_map, decimal, quoted, Json, Number, Word, json, values, more_values, more_members, text_of_cause, Fault, cause_of_wrong, expected, near_members, near_piece, fault_value, fault_piece, further_piece, pieces, array_text, faults_json}
 
 near_is : (o : Option (List ℕ)) → near_piece o ≡ more_members (near_members o)
 near_is None = refl
@@ -12,8 +12,8 @@ fault_is : (f : Fault) → fault_piece f ≡ json (fault_value f)
 fault_is f =
     flat (58 ∷ []) (44 ∷ []) (125 ∷ [])
     (quoted (codes "line")) (decimal f.line) (quoted (codes "column")) (decimal f.column) (quoted (codes "word")) (quoted f.word)
-    (quoted (codes "cause")) (quoted (text_of_cause (cause_of f.wrong))) (quoted (codes "expected")) (quoted (expected f.wrong)) (near_piece f.near)
-    ∙ ap (λ m. 123 ∷ ((quoted (codes "line") ++ 58 ∷ (decimal f.line ++ 44 ∷ (quoted (codes "column") ++ 58 ∷ (decimal f.column ++ 44 ∷ (quoted (codes "word") ++ 58 ∷ (quoted f.word ++ 44 ∷ (quoted (codes "cause") ++ 58 ∷ (quoted (text_of_cause (cause_of f.wrong)) ++ 44 ∷ (quoted (codes "expected") ++ 58 ∷ (quoted (expected f.wrong) ++ m)))))))))) ++ 125 ∷ [])) (near_is f.near)
+    (quoted (codes "cause")) (quoted (text_of_cause (cause_of_wrong f.wrong))) (quoted (codes "expected")) (quoted (expected f.wrong)) (near_piece f.near)
+    ∙ ap (λ m. 123 ∷ ((quoted (codes "line") ++ 58 ∷ (decimal f.line ++ 44 ∷ (quoted (codes "column") ++ 58 ∷ (decimal f.column ++ 44 ∷ (quoted (codes "word") ++ 58 ∷ (quoted f.word ++ 44 ∷ (quoted (codes "cause") ++ 58 ∷ (quoted (text_of_cause (cause_of_wrong f.wrong)) ++ 44 ∷ (quoted (codes "expected") ++ 58 ∷ (quoted (expected f.wrong) ++ m)))))))))) ++ 125 ∷ [])) (near_is f.near)
   where
     flat : (s y z a b c d e g h i k l m : List ℕ)
         → 123 ∷ ((a ++ (s ++ b)) ++ (y ++ (c ++ (s ++ d))) ++ (y ++ (e ++ (s ++ g))) ++ (y ++ (h ++ (s ++ i))) ++ (y ++ (k ++ (s ++ l))) ++ m ++ z)

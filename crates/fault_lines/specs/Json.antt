@@ -4,7 +4,7 @@ use Rattle.std.specs.List.{flat_map}
 use Rattle.json_text.specs.Json.{Json, Members, Number, Word, Array, Object, NoMember, Member, json, values, first_member, more_member}
 use Rattle.program_reader.specs.Cause.{text_of_cause}
 use Rattle.text_faults.specs.declared.fault.Fault.{Fault}
-use Rattle.text_faults.specs.Faults.{cause_of}
+use Rattle.text_faults.specs.Faults.{cause_of_wrong}
 use Rattle.fault_lines.specs.Expected.{expected}
 
 -- what may have been meant, if that is known
@@ -19,7 +19,7 @@ fault_value f =
     Member (codes "line") (Number f.line) (
     Member (codes "column") (Number f.column) (
     Member (codes "word") (Word f.word) (
-    Member (codes "cause") (Word (text_of_cause (cause_of f.wrong))) (
+    Member (codes "cause") (Word (text_of_cause (cause_of_wrong f.wrong))) (
     Member (codes "expected") (Word (expected f.wrong)) (near_members f.near))))))
 
 -- all faults, and a line feed
@@ -35,7 +35,7 @@ near_piece (Some w) = more_member (codes "near") (Word w)
 abbrev pub fault_piece : Fault → List ℕ
 fault_piece f =
     123 ∷ (first_member (codes "line") (Number f.line) ++ more_member (codes "column") (Number f.column) ++ more_member (codes "word") (Word f.word)
-    ++ more_member (codes "cause") (Word (text_of_cause (cause_of f.wrong))) ++ more_member (codes "expected") (Word (expected f.wrong)) ++ near_piece f.near ++ 125 ∷ [])
+    ++ more_member (codes "cause") (Word (text_of_cause (cause_of_wrong f.wrong))) ++ more_member (codes "expected") (Word (expected f.wrong)) ++ near_piece f.near ++ 125 ∷ [])
 
 abbrev pub further_piece : Fault → List ℕ
 further_piece f = 44 ∷ 10 ∷ fault_piece f

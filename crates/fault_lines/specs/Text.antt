@@ -7,8 +7,8 @@ use Rattle.text_faults.specs.declared.fault.Fault.{Fault}
 use Rattle.fault_lines.specs.Expected.{expected}
 
 -- line and column
-abbrev pub place_text : ℕ → ℕ → List ℕ
-place_text line column = codes "line " ++ decimal line ++ codes ", column " ++ decimal column ++ codes ": "
+abbrev pub line_and_column : ℕ → ℕ → List ℕ
+line_and_column line column = codes "line " ++ decimal line ++ codes ", column " ++ decimal column ++ codes ": "
 
 -- the word, if there is one
 abbrev pub word_text : List ℕ → List ℕ
@@ -22,7 +22,7 @@ near_text (Some w) = codes "; did you mean " ++ quoted w ++ codes "?"
 
 -- where a fault is, and what is expected there
 abbrev pub where_text : Fault → List ℕ
-where_text f = place_text f.line f.column ++ word_text f.word
+where_text f = line_and_column f.line f.column ++ word_text f.word
 
 abbrev pub what_text : Fault → List ℕ
 what_text f = codes "expected " ++ expected f.wrong ++ near_text f.near ++ 10 ∷ []

@@ -1,7 +1,7 @@
 // What is shown of a text.
 
 ghost use Rattle.std.specs.Prelude.{◌≡◌, IfOk};
-ghost use Rattle.fault_lines.specs.Shown.{shown_as, shown_faults, too_long};
+ghost use Rattle.fault_lines.specs.Shown.{shown_as, shown_faults, text_too_long};
 
 use crate::json::faults_json;
 use crate::text::faults_text;
@@ -23,8 +23,8 @@ fn shown_as(alloc: Global, json: bool, faults: &[Fault]) -> Result<Vec<u8>, Allo
 }
 
 // A text that is too long to be a program.
-fn too_long() -> TextFault
-    ensures { result ≡ too_long }
+fn text_too_long() -> TextFault
+    ensures { result ≡ text_too_long }
 {
     TextFault {
         line: 0,
@@ -41,7 +41,7 @@ pub fn shown_faults(
     ensures { IfOk result (λ shown. shown ≡ shown_faults json text.now) }
 {
     if text.len() > PROGRAM_LIMIT {
-        return Ok(Err(too_long()));
+        return Ok(Err(text_too_long()));
     }
     let faults = text_faults(alloc, text)?;
     let shown = shown_as(alloc, json, faults.as_slice())?;

@@ -1,7 +1,7 @@
 // The lines that are shown of faults.
 
 ghost use Rattle.std.specs.Prelude.{◌≡◌, ◌++◌, OnOk, IfOk, string_bytes};
-ghost use Rattle.fault_lines.specs.Text.{place_text, word_text, near_text, where_text, what_text, fault_line, faults_text};
+ghost use Rattle.fault_lines.specs.Text.{line_and_column, word_text, near_text, where_text, what_text, fault_line, faults_text};
 
 use crate::expected::expected;
 use plain_vec::Listed;
@@ -9,8 +9,8 @@ use quoted_text::add_quoted;
 use std::alloc::{AllocError, Global};
 use text_faults::Fault;
 
-fn place_text(alloc: Global, line: u32, column: usize) -> Result<String, AllocError>
-    ensures { IfOk result (λ text. string_bytes text ≡ place_text line column) }
+fn line_and_column(alloc: Global, line: u32, column: usize) -> Result<String, AllocError>
+    ensures { IfOk result (λ text. string_bytes text ≡ line_and_column line column) }
 {
     format!(in alloc; "line {line}, column {column}: ")
 }
@@ -44,7 +44,7 @@ fn add_near(text: &mut Vec<u8>, near: &Option<Listed<u8>>) -> Result<(), AllocEr
 fn add_where(alloc: Global, text: &mut Vec<u8>, fault: &Fault) -> Result<(), AllocError>
     ensures { OnOk result (text.new.items ≡ text.old.items ++ where_text fault.now) }
 {
-    let place = place_text(alloc, fault.line, fault.column)?;
+    let place = line_and_column(alloc, fault.line, fault.column)?;
     text.extend_from_slice(place.as_bytes())?;
     add_word(text, fault.word.as_slice())
 }

@@ -1,8 +1,8 @@
 -- Faults of turns and of tasks' ends, and tasks without one.
-use Rattle.fork_graph.proofs.Common.{◌≡◌, ℕ, ◌+◌, ◌<◌, true, false, List, length, inl, inr, refl, ap, sym, subst, ◌∙◌, arith, None, list_any, cases_lt, cases_order, slice_get_within, GraphTurn, Spawn, Join, GraphStrand, ChildState, Extent, Whole, Cut, StrandCause, SpawnsNoNewTask, JoinsNoOpenChild, LeavesUnjoined, IsUnreached, tasks_in, strand, last_of, Does, IsAncestor, IsFault, HasNoEarlier, IsFirstFault, cause_of, after_turn, spawns_open, AreStates}
+use Rattle.fork_graph.proofs.Common.{◌≡◌, ℕ, ◌+◌, ◌<◌, true, false, List, length, inl, inr, refl, ap, sym, subst, ◌∙◌, arith, None, list_any, cases_lt, cases_order, slice_get_within, GraphTurn, Spawn, Join, GraphStrand, ChildState, Extent, Whole, Cut, StrandCause, SpawnsNoNewTask, JoinsNoOpenChild, LeavesUnjoined, IsUnreached, tasks_in, strand, last_of, Does, IsAncestor, IsFault, HasNoEarlier, IsFirstFault, cause_of_turn, after_turn, spawns_open, AreStates}
 use Rattle.fork_graph.proofs.States.{turn_refused, left_open, none_left}
 
-turn_cause : (turn : GraphTurn) → cause_of turn ≡ IsUnreached → ⊥
+turn_cause : (turn : GraphTurn) → cause_of_turn turn ≡ IsUnreached → ⊥
 turn_cause (Spawn c) e = cc
 turn_cause (Join c) e = cc
 
@@ -10,7 +10,7 @@ turn_cause (Join c) e = cc
 pub refused_first : (rows : List (List GraphTurn)) (extent : Extent) (t i : ℕ) (turn : GraphTurn) (states : List ChildState) → t < length rows
     → AreStates (tasks_in rows) (length rows) (strand t i) states → HasNoEarlier rows extent (strand t i)
     → Does (tasks_in rows) t i turn → after_turn states t turn ≡ None
-    → IsFirstFault rows extent (record { strand = strand t i; cause = cause_of turn })
+    → IsFirstFault rows extent (record { strand = strand t i; cause = cause_of_turn turn })
 refused_first rows extent t i turn states lt f none h is = record {
   there = lt;
   is_fault = turn_refused rows extent t i states f none turn h is;

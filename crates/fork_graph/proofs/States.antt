@@ -1,5 +1,5 @@
 -- How tasks stand with their parents as turns are taken, and what is wrong with a turn that isn't allowed.
-use Rattle.fork_graph.proofs.Common.{◌≡◌, ◌==◌, ℕ, zero, suc, ◌+◌, ◌<◌, Bool, true, false, List, length, ◌⊎◌, inl, inr, refl, ap, sym, subst, ◌∙◌, arith, Option, Some, None, slice_get, slice_set, replicate, if◌then◌else◌, list_any, cases_lt, cases_eq, cases_order, false≢true, eqb-true, eqb-false, length-set, length-replicate, same_Some, slice_get_within, got_same, got_other, any_from_in, in_from_any, got_in, got_none, in_got, none_some, GraphTurn, Spawn, Join, GraphStrand, ChildState, Unspawned, Open, Joined, Extent, StrandCause, SpawnsNoNewTask, JoinsNoOpenChild, LeavesUnjoined, IsUnreached, Tasks, tasks_in, strand, last_of, Does, IsEarlier, IsSpawnedBefore, IsNew, IsOpen, IsFault, HasNoEarlier, cause_of, none_spawned, spawned_from, joined_from, after_turn, is_open, spawns_open, HasState, AreStates}
+use Rattle.fork_graph.proofs.Common.{◌≡◌, ◌==◌, ℕ, zero, suc, ◌+◌, ◌<◌, Bool, true, false, List, length, ◌⊎◌, inl, inr, refl, ap, sym, subst, ◌∙◌, arith, Option, Some, None, slice_get, slice_set, replicate, if◌then◌else◌, list_any, cases_lt, cases_eq, cases_order, false≢true, eqb-true, eqb-false, length-set, length-replicate, same_Some, slice_get_within, got_same, got_other, any_from_in, in_from_any, got_in, got_none, in_got, none_some, GraphTurn, Spawn, Join, GraphStrand, ChildState, Unspawned, Open, Joined, Extent, StrandCause, SpawnsNoNewTask, JoinsNoOpenChild, LeavesUnjoined, IsUnreached, Tasks, tasks_in, strand, last_of, Does, IsEarlier, IsSpawnedBefore, IsNew, IsOpen, IsFault, HasNoEarlier, cause_of_turn, none_spawned, spawned_from, joined_from, after_turn, is_open, spawns_open, HasState, AreStates}
 use Rattle.fork_graph.proofs.Cut.{same_spawn, same_join, spawn_no_join}
 
 -- ORDER
@@ -292,7 +292,7 @@ module _ (rows : List (List GraphTurn)) (extent : Extent) where
     own_join after false e is = eqb-false t t e refl
 
     pub turn_refused : (turn : GraphTurn) → Does (tasks_in rows) t i turn → after_turn states t turn ≡ None
-        → IsFault (tasks_in rows) (length rows) extent (strand t i) (cause_of turn)
+        → IsFault (tasks_in rows) (length rows) extent (strand t i) (cause_of_turn turn)
     turn_refused (Spawn c) h is = (c, h, spawn_refused c (slice_get states c) h refl is)
     turn_refused (Join c) h is = (
       c,

@@ -34,9 +34,9 @@ IsFault tasks n extent u LeavesUnjoined = (extent ≡ Whole) × (u ≡ last_of t
 IsFault tasks n extent u IsUnreached = (extent ≡ Whole) × (u ≡ last_of tasks u.task) × (IsAncestor tasks 0 u.task → ⊥)
 
 -- what is wrong with a turn that isn't allowed
-abbrev pub cause_of : GraphTurn → StrandCause
-cause_of (Spawn c) = SpawnsNoNewTask
-cause_of (Join c) = JoinsNoOpenChild
+abbrev pub cause_of_turn : GraphTurn → StrandCause
+cause_of_turn (Spawn c) = SpawnsNoNewTask
+cause_of_turn (Join c) = JoinsNoOpenChild
 
 -- no earlier strand has a fault
 abbrev pub HasNoEarlier : List (List GraphTurn) → Extent → GraphStrand → Type 0

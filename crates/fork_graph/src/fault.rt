@@ -4,7 +4,7 @@ ghost use Rattle.std.specs.Prelude.{◌≡◌, ◌+◌, ◌<◌, ◌↔◌, IfOk
 ghost use Rattle.fork_graph.specs.Graph.{AreSmall, tasks_in, strand, last_of, IsAncestor};
 ghost use Rattle.fork_graph.specs.Faults.{IsFault, IsSoundRun, HasNoEarlier, IsFirstFault};
 ghost use Rattle.fork_graph.specs.Children.{AreStates};
-ghost use Rattle.fork_graph.specs.Faults.{cause_of};
+ghost use Rattle.fork_graph.specs.Faults.{cause_of_turn};
 ghost use Rattle.fork_graph.specs.declared.fault.Extent.TheVariants.{Whole};
 
 use crate::children::{ChildState, leaves_open, none_spawned, take_turn};
@@ -115,7 +115,7 @@ fn turn_fault(
                     task,
                     index: index as u32,
                 },
-                cause: cause_of(turn),
+                cause: cause_of_turn(turn),
             });
         }
     }
@@ -123,8 +123,8 @@ fn turn_fault(
 }
 
 // What is wrong with a turn that isn't allowed.
-fn cause_of(turn: GraphTurn) -> StrandCause
-    ensures { result ≡ cause_of turn }
+fn cause_of_turn(turn: GraphTurn) -> StrandCause
+    ensures { result ≡ cause_of_turn turn }
 {
     match turn {
         GraphTurn::Spawn(_) => StrandCause::SpawnsNoNewTask,

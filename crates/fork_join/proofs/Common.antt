@@ -13,7 +13,7 @@ pub use Rattle.object_layout.proofs.Owning.{has_append, has_one}
 pub use Rattle.object_layout.specs.ChunkValue.{ChunkValue}
 pub use Rattle.object_layout.specs.Chunks.{has_chunk, chunk_at, no_chunk}
 pub use Rattle.remembered_set.proofs.LiftLemmas.{lifted_are_there}
-pub use Rattle.remembered_set.specs.Sources.{lifted, noted}
+pub use Rattle.remembered_set.specs.Sources.{lifted, with_noted_source}
 pub use Rattle.remembered_set.specs.declared.remembered.RefField.{RefField}
 pub use Rattle.std.proofs.Common.{◌≡◌, ℕ, ◌+◌, ◌<◌, List, [], ◌∷◌, ◌++◌, length, get_or, take, fold, filter, sym, ap, ◌∙◌, Bool, true, false, cond, ◌⊎◌, inl, inr, refl, Option, Some, None, Contains, subst, ◌||◌, arith, zero, suc, slice_get, rules, ◌≤◌}
 pub use Rattle.std.proofs.lemmas.Bool.{cases_Bool, cases_eq, false≢true, or_from, or_left, or_right, eq-eqb, ne_eqb}

@@ -1,5 +1,5 @@
 -- A part whose next step is the last return of a task that isn't the root: what is known before it is committed.
-use Rattle.fork_join_commit.proofs.Common.{◌≡◌, ℕ, ℤ, ◌+◌, ◌-◌, ◌<◌, ◌&&◌, arith, not, Bool, true, false, Option, Some, None, List, [], ◌∷◌, length, slice_get, option_map, is_some, refl, ap, sym, subst, ◌∙◌, and_parts, cond-false, cond-true, false≢true, same_Some, none_some, Instr, Ret, Line, Frame, Name, MachineState, TaskStatus, Running, Waiting as WaitingOf, Joined as JoinedOf, Task, effect, child_ended_by, fetched, follow, is_joined, is_over, is_waiting, result_at, last_of, last_return, parents, result_in, result_of, returned_to, setting, step, TreeOf, has_no_caller, is_open, is_private_by, is_private_line, TaskState, Ended, TaskNode, parent_of as parent_in_tree, state_of as state_in_tree, state_by, as_node, Private, is_some_place, refused, Fits, IsSharedValue, SharedValue, accounts, node_now, After, parent_is as tree_parent_is, IsShared, alone_entry, machine_after, AsksAlone, node_there, runs_on, AsksLast, machine_same, IsAtEnd, is_last, is_last_by, is_last_line}
+use Rattle.fork_join_commit.proofs.Common.{◌≡◌, ℕ, ℤ, ◌+◌, ◌-◌, ◌<◌, ◌&&◌, arith, not, Bool, true, false, Option, Some, None, List, [], ◌∷◌, length, slice_get, option_map, is_some, refl, ap, sym, subst, ◌∙◌, and_parts, cond-false, cond-true, false≢true, same_Some, none_some, Instr, Ret, Line, Frame, Name, MachineState, TaskStatus, Running, Waiting as WaitingOf, Joined as JoinedOf, Task, effect, child_ended_by, fetched, follow, is_joined, is_over, is_waiting, result_at, last_of, last_return, parents, result_in, result_of, returned_to, setting, step, TreeOf, has_no_caller, is_open, is_private_by, is_private_line, TaskState, Ended, TaskNode, parent_of as parent_in_tree, state_of as state_in_tree, state_by, as_node, Private, is_some_place, refused, Fits, IsSharedValue, SharedValue, accounts, node_now, After, parent_is as tree_parent_is, IsShared, alone_entry, machine_after, AsksAlone, node_there, runs_on, AsksLast, machine_same, IsAtEnd, is_last_return, is_last_by, is_last_line}
 use Rattle.step_commit.specs.below.hh_model.{Ended as EndedWith, is_left, parent_of, sibling}
 use Rattle.step_commit.proofs.below.core_invariant.PartFitsMachine as link
 use Rattle.step_commit.proofs.AloneEntries as own
@@ -7,7 +7,7 @@ use Rattle.step_commit.proofs.LastStepEntry as last
 
 -- ---- IT ISN'T PRIVATE
 
-last_open : (x : Task) (i : Instr) (b : Bool) → is_last x i ≡ true → (not (is_open x i) && b) ≡ false
+last_open : (x : Task) (i : Instr) (b : Bool) → is_last_return x i ≡ true → (not (is_open x i) && b) ≡ false
 last_open x Ret b e = ap (λ c. not c && b) (and_parts (has_no_caller x.below) (is_some x.parent) e).0
 last_open x _ b e = absurd cc
 
@@ -15,7 +15,7 @@ lone_is : (fs : List Frame) → has_no_caller fs ≡ true → fs ≡ []
 lone_is [] e = refl
 lone_is (f ∷ fs) e = absurd (false≢true e)
 
-last_is : (x : Task) (i : Instr) → is_last x i ≡ true → (i ≡ Ret) × (x.below ≡ []) × (q : ℕ) × (x.parent ≡ Some q)
+last_is : (x : Task) (i : Instr) → is_last_return x i ≡ true → (i ≡ Ret) × (x.below ≡ []) × (q : ℕ) × (x.parent ≡ Some q)
 last_is x Ret e =
     let b = and_parts (has_no_caller x.below) (is_some x.parent) e in
     let q = is_some_place x.parent b.1 in
@@ -97,7 +97,7 @@ module _ {w : SharedValue} {k : ℕ} {p : Private} (asks : AsksEnd w k p) where
 
   open (last.names asked) use {t, l, M, S}
 
-  last_here : is_last S.task S.line.instr ≡ true
+  last_here : is_last_return S.task S.line.instr ≡ true
   last_here =
       ap (is_last_line S.task) (sym S.at.next)
       ∙ (ap (is_last_by w.program) (sym S.at.task) ∙ (ap (λ (m : MachineState). is_last_by w.program (slice_get m.tasks t)) (sym (machine_same w k p I F on)) ∙ at_end.ends))

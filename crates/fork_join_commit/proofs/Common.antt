@@ -1,7 +1,7 @@
 -- The names of lower crates and of the specifications that these proofs use. Declares nothing.
-pub use Rattle.fork_join_commit.specs.ChildEnds.{EndsChild, running_parent, where_running, IsAtEnd, is_last, is_last_by, is_last_line}
-pub use Rattle.fork_join_commit.specs.Forks.{nothing_noted, ForksTo, IsAtFork, is_fork, is_fork_by, is_par, SetsFork}
-pub use Rattle.fork_join_commit.specs.Joins.{sources_by, RestsJoin, SetsJoin, sources_at, AreSides, CanJoin, HasPlaces, IsRestOf, chunk_count, left_of, other_child, own_child, parent_side, right_of, IsSameRest, SameButPlaces, part_result, work_result}
+pub use Rattle.fork_join_commit.specs.ChildEnds.{EndsChild, running_parent, where_running, IsAtEnd, is_last_return, is_last_by, is_last_line}
+pub use Rattle.fork_join_commit.specs.Forks.{nothing_noted, ForksTo, IsAtFork, is_fork, is_fork_by, is_par, SetsFork, ForksOn, RestsFork, waiting_rest, begun_rest, part_child}
+pub use Rattle.fork_join_commit.specs.Joins.{sources_by, RestsJoin, SetsJoin, sources_at, AreSides, CanJoin, HasPlaces, IsRestOf, chunk_count, left_child_of, other_child, own_child, parent_side, right_of, IsSameRest, SameButPlaces, part_result, work_result}
 pub use Rattle.std.proofs.Common.{◌≡◌, ℕ, false, Some, None, slice_get, refl, ap, sym, ◌∙◌, if◌then◌else◌, ℤ, ◌+◌, ◌-◌, ◌<◌, ◌&&◌, arith, not, Bool, true, Option, List, [], ◌∷◌, length, option_map, is_some, subst, ◌⊎◌, zero, suc, ◌++◌, nat_lt, length-set, slice_set, inl, inr, ap₂, length-append, ◌^◌, eqb, eq-eqb, append_assoc, ◌≤◌, ◌*◌, ◌/◌, ◌↔◌, is_none, cond, map, ◌%◌, ◌==◌}
 pub use Rattle.std.proofs.Math.Path.{fun_ext}
 pub use Rattle.std.proofs.lemmas.Bool.{and_parts, cond-false, cond-true, false≢true, cases_eq, cases_lt, lt-ltb, cases_Bool, or_from, both_ways, ltb-true, eqb-false, false_from_ne_true}
@@ -37,12 +37,12 @@ pub use Rattle.step_commit.specs.below.fork_join.{Child, AreRelabelled, with_res
 pub use Rattle.step_commit.specs.below.heap_tree.{Ended, state_of, TaskState, TaskNode, parent_of, child_of, depth_of, forked, with_state, is_left, sibling, Ready}
 pub use Rattle.step_commit.specs.below.hh_lang.{Instr, Ret, Line, Par, ProgramText, Out}
 pub use Rattle.step_commit.specs.below.hh_model.{MachineState, Task, child_ended_by, ended_task, is_running, parents, result_of, with_task, Frame, Name, TaskStatus, Running, Waiting, Joined, effect, fetched, follow, is_joined, is_over, is_waiting, result_at, last_of, last_return, result_in, returned_to, setting, step, TreeOf, onward, child, depth_limit, edge, strand, strand_of, waits, Trapped, Depth, ended_by, AreLow, join_of, joined_task, or_same, resumed}
-pub use Rattle.step_commit.specs.below.leaf_heap.{LeafHeapValue, counted, merged, room_of, with_places, IsCurrent, IsReserved, IsTidy}
+pub use Rattle.step_commit.specs.below.leaf_heap.{LeafHeapValue, saturating_words, merged, room_of, with_places, IsCurrent, IsReserved, IsTidy}
 pub use Rattle.step_commit.specs.below.ledger_step_laws.{EndsFirst, Ending, RunsPrivateSteps, rested, Forking, LastStepForks, Rests, own, EndsLast, IsOfKind, JustReads, LastKind, Wrote, Reading, Writing, Printing, Joining, Finishing, Halting}
 pub use Rattle.step_commit.specs.below.mark_sweep_gc.{MarkingValue}
 pub use Rattle.step_commit.specs.below.object_layout.{Addr, has_chunk, ChunkValue, HaveDistinctNumbers, chunk_at, no_chunk, words_in, Located}
 pub use Rattle.step_commit.specs.below.plain_vec.{ReservedVecValue}
-pub use Rattle.step_commit.specs.below.refinement.{state_by, as_node, Belongings, Noted, Memory, sources, AreRoots, ForksBelongings, advanced, child_belongings, with_belongings, NodesFork, ForksNotes, Chunk, no_belongings, In, IsLifted, JoinsBelongings, top_with_results, Stands, NodesJoin, JoinsNotes, StandsForAll, WorkerFits, node_then, HasResult, objects_in, StandsFor, objects, IsSource, part_for, reserved_chunks, reserved_units, HoldsRead, TaskIsRead, HasNames, BelongingsStand, Place}
+pub use Rattle.step_commit.specs.below.refinement.{state_by, as_node, Belongings, Noted, Memory, sources, AreRoots, ForksBelongings, advanced, child_belongings, with_belongings, NodesFork, ForksNotes, Chunk, no_belongings, In, IsLifted, JoinsBelongings, top_with_results, Stands, NodesJoin, JoinsNotes, StandsForAll, WorkerFits, node_then, HasResult, objects_of_chunks, StandsFor, objects, IsSource, part_for, reserved_chunks, reserved_units, HoldsRead, TaskIsRead, HasNames, BelongingsStand, Place}
 pub use Rattle.step_commit.specs.below.remembered_set.{RefField, lifted, RememberedValue, notes_in}
 pub use Rattle.step_commit.specs.below.run_ledger.{Ledger, has_no_caller, is_open, is_private_by, is_private_line, Heap, heap_of, is_private, let_go, or_fresh, CountsFew}
 pub use Rattle.step_commit.specs.below.run_trace.{EntryValue, private_limit}

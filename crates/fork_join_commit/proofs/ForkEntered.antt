@@ -1,18 +1,17 @@
 -- A fork is committed: the task waits, and two children are ready.
-use Rattle.fork_join_commit.proofs.Common.{◌≡◌, ◌⊎◌, ℕ, zero, suc, ◌+◌, ◌<◌, ◌++◌, arith, true, false, nat_lt, Option, Some, None, List, [], ◌∷◌, length, length-set, slice_get, slice_set, option_map, inl, inr, refl, ap, ap₂, sym, subst, ◌∙◌, option_flatten, cases_eq, cases_lt, cond-true, lt-ltb, same_Some, got_back, got_front, got_other, got_past, got_some, ReservedVecValue, Instr, Par, MachineState, Waiting as WaitingOf, Task, onward, child, depth_limit, edge, strand, strand_of, grown_at, EntryValue, Addr, view_below, TaskNode, child_of, depth_of, forked, with_state, all, SetOf, content_at, content_of, MarkingValue, rested, Forking, LastStepForks, RunsPrivateSteps, Belongings, Noted, Memory, sources, AreRoots, ForksBelongings, advanced, child_belongings, with_belongings, NodesFork, ForksNotes, at_belongings, off_belongings, Private, ParkedTask, keeping, levels_of, SharedValue, marks_at, belongings_in, belongings_of, noted_in, tree_counts_of, value_of, IsSharedValue, noted_of, RestIsWell, RestStays, each_form, free_before, still_goes, task_is_out, well_at, MakesSteps, steps_others, steps_world, all_kept, level_is, tree_long, made_by, node_by, node_off, lets_go, alone_entry, node_there, AsksLast, last_enters, last_entry, last_steps}
+use Rattle.fork_join_commit.proofs.Common.{◌≡◌, ◌⊎◌, ℕ, zero, suc, ◌+◌, ◌<◌, ◌++◌, arith, true, false, nat_lt, Option, Some, None, List, [], ◌∷◌, length, length-set, slice_get, slice_set, option_map, inl, inr, refl, ap, ap₂, sym, subst, ◌∙◌, option_flatten, cases_eq, cases_lt, cond-true, lt-ltb, same_Some, got_back, got_front, got_other, got_past, got_some, ReservedVecValue, Instr, Par, MachineState, Waiting as WaitingOf, Task, onward, child, depth_limit, edge, strand, strand_of, grown_at, EntryValue, Addr, view_below, TaskNode, child_of, depth_of, forked, with_state, all, SetOf, content_at, content_of, MarkingValue, rested, Forking, LastStepForks, RunsPrivateSteps, Belongings, Noted, Memory, sources, AreRoots, ForksBelongings, advanced, child_belongings, with_belongings, NodesFork, ForksNotes, at_belongings, off_belongings, Private, ParkedTask, keeping, levels_of, SharedValue, marks_at, belongings_in, belongings_of, noted_in, tree_counts_of, value_of, IsSharedValue, noted_of, RestIsWell, RestStays, each_form, free_before, still_goes, task_is_out, well_at, MakesSteps, steps_others, steps_world, all_kept, level_is, tree_long, made_by, node_by, node_off, lets_go, alone_entry, node_there, AsksLast, last_enters, last_entry, last_steps, ForksOn as EntersFork, ForksTo, RestsFork, SetsFork, waiting_rest}
 use Rattle.step_commit.specs.below.heap_tree.{Waiting}
 use Rattle.step_commit.proofs.below.core_invariant.PartFitsMachine as link
 use Rattle.step_commit.proofs.LastStepEntry as last
-use Rattle.fork_join_commit.specs.Forks.{ForksOn as EntersFork, ForksTo, RestsFork, SetsFork, waiting_rest}
 use Rattle.fork_join_commit.proofs.NextStepForks as steps
 use Rattle.fork_join_commit.proofs.NextStepForks.{AsksFork}
 use Rattle.fork_join_commit.proofs.LastForkKinds.{forks}
 use Rattle.fork_join_commit.proofs.RootsListed.{roots_are}
 use Rattle.fork_join_commit.proofs.SetsNoted.{empty_form, keeping_kept, keeping_sources, noted_by}
 
-abbrev left_of : Instr → ℕ
-left_of (Par g h) = g
-left_of _ = 0
+abbrev left_child_of : Instr → ℕ
+left_child_of (Par g h) = g
+left_child_of _ = 0
 
 abbrev right_of : Instr → ℕ
 right_of (Par g h) = h
@@ -62,7 +61,7 @@ module _ {w : SharedValue} {k : ℕ} {p : Private} (asks : AsksFork w k p) (left
       forks w.program M L t S.task S.line (last.is_not_private asked) left right (steps.line_is_fork asks left right number B) y at_then refl goes_then S.kind S.last
 
   left_is : Q.left ≡ left
-  left_is = ap left_of (sym Q.by ∙ steps.line_is_fork asks left right number B)
+  left_is = ap left_child_of (sym Q.by ∙ steps.line_is_fork asks left right number B)
 
   right_is : Q.right ≡ right
   right_is = ap right_of (sym Q.by ∙ steps.line_is_fork asks left right number B)

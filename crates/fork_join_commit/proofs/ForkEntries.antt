@@ -1,6 +1,5 @@
 -- An entry of a fork, as the call makes it.
-use Rattle.fork_join_commit.proofs.Common.{◌≡◌, true, ℕ, zero, suc, ◌+◌, ◌<◌, ◌++◌, arith, false, option_map, Option, Some, None, List, [], ◌∷◌, length, length-append, length-set, slice_get, slice_set, inl, inr, refl, ap, sym, subst, ◌∙◌, option_flatten, cases_lt, got_back, got_front, got_other, got_past, got_set, ReservedVecValue, EntryValue, depth_of, SetOf, bare, content_at, content_of, MarkingValue, Child, Private, ParkedTask, keeping, SharedValue, marks_at, rest_at, IsSharedValue}
-use Rattle.fork_join_commit.specs.Forks.{ForksOn, ForksTo, RestsFork, SetsFork, begun_rest, part_child, waiting_rest}
+use Rattle.fork_join_commit.proofs.Common.{◌≡◌, true, ℕ, zero, suc, ◌+◌, ◌<◌, ◌++◌, arith, false, option_map, Option, Some, None, List, [], ◌∷◌, length, length-append, length-set, slice_get, slice_set, inl, inr, refl, ap, sym, subst, ◌∙◌, option_flatten, cases_lt, got_back, got_front, got_other, got_past, got_set, ReservedVecValue, EntryValue, depth_of, SetOf, bare, content_at, content_of, MarkingValue, Child, Private, ParkedTask, keeping, SharedValue, marks_at, rest_at, IsSharedValue, ForksOn, ForksTo, RestsFork, SetsFork, begun_rest, part_child, waiting_rest}
 use Rattle.fork_join_commit.proofs.ForkEntered as fork
 use Rattle.fork_join_commit.proofs.NextStepForks.{AsksFork}
 

@@ -1,5 +1,5 @@
 -- How a join changes the belongings of two children and of their parent, in the terms of the relation.
-use Rattle.fork_join_commit.proofs.Common.{◌≡◌, ◌⊎◌, ℕ, ℤ, ◌+◌, ◌<◌, ◌^◌, ◌++◌, arith, true, false, Option, Some, None, List, [], inl, inr, refl, ap, ap₂, sym, subst, ◌∙◌, eqb, eq-eqb, append_assoc, Contains, cases_Bool, false≢true, map-append, same_Some, any_from_in, contains_from_in, in_append_cases, in_append_left, in_append_right, in_from_contains, in_map, map_in, Ledger, Addr, has_chunk, ChunkValue, found_any, PoolValue, owner_of, LeafHeapValue, counted, merged, room_of, with_places, Level, FramesValue, RefField, lifted, lifted_are_there, Content, AreRelabelled, with_results as with_both, joined_are_owned, Rests, own, Chunk, Belongings, no_belongings, In, Memory, sources, IsLifted, JoinsBelongings, top_with_results, Stands, in_chunk, Work, Calls, Result, chunk_of, chunks_of, belongings_by, by_chunks, noted_of, chunk_in, owner_held, sources_by}
+use Rattle.fork_join_commit.proofs.Common.{◌≡◌, ◌⊎◌, ℕ, ℤ, ◌+◌, ◌<◌, ◌^◌, ◌++◌, arith, true, false, Option, Some, None, List, [], inl, inr, refl, ap, ap₂, sym, subst, ◌∙◌, eqb, eq-eqb, append_assoc, Contains, cases_Bool, false≢true, map-append, same_Some, any_from_in, contains_from_in, in_append_cases, in_append_left, in_append_right, in_from_contains, in_map, map_in, Ledger, Addr, has_chunk, ChunkValue, found_any, PoolValue, owner_of, LeafHeapValue, saturating_words, merged, room_of, with_places, Level, FramesValue, RefField, lifted, lifted_are_there, Content, AreRelabelled, with_results as with_both, joined_are_owned, Rests, own, Chunk, Belongings, no_belongings, In, Memory, sources, IsLifted, JoinsBelongings, top_with_results, Stands, in_chunk, Work, Calls, Result, chunk_of, chunks_of, belongings_by, by_chunks, noted_of, chunk_in, owner_held, sources_by}
 
 -- ---- CHUNKS BY NUMBER
 
@@ -187,7 +187,7 @@ module _ (v v' : Memory) (l : Ledger) (V : Stands v l) (pool pool' : PoolValue) 
       let a : (v.belongings q).since ≡ J.own_heap.since = ap (λ (z : Belongings). z.since) J.own_belongings in
       let b : (v.belongings c).since ≡ J.left_heap.since = ap (λ (z : Belongings). z.since) J.left_belongings ∙ by_since J.left_heap J.left_view J.left_count J.left_work in
       let e : (v.belongings d).since ≡ J.right_heap.since = ap (λ (z : Belongings). z.since) J.right_belongings ∙ by_since J.right_heap J.right_view J.right_count J.right_work in
-      let f : (v'.belongings q).since ≡ counted (J.own_heap.since + (J.left_heap.since + J.right_heap.since)) = ap (λ (z : Belongings). z.since) J.own_then ∙ ap (λ (h : LeafHeapValue). h.since) J.heap_is in
+      let f : (v'.belongings q).since ≡ saturating_words (J.own_heap.since + (J.left_heap.since + J.right_heap.since)) = ap (λ (z : Belongings). z.since) J.own_then ∙ ap (λ (h : LeafHeapValue). h.since) J.heap_is in
       let small = J.small in
       omega (arith, a, b, e, f, small)
 

@@ -1,6 +1,6 @@
 -- An entry of a join, as the call makes it: what is required of the parts that it joins, and how the code changes slots
 -- and sets.
-use Rattle.fork_join_commit.proofs.Common.{◌≡◌, ℕ, ◌+◌, ◌<◌, ◌++◌, arith, Bool, true, false, Option, Some, None, List, [], ◌∷◌, length, slice_get, slice_set, option_map, inl, inr, refl, ap, sym, subst, ◌∙◌, option_flatten, IfSome, IsSome, cases_eq, same_Some, got_other, got_within, got_some, none_some, ReservedVecValue, EntryValue, PoolValue, FramesValue, TaskState, Ended, TaskNode, parent_of as parent_in_tree, state_of as state_in_tree, with_state, is_left, sibling, states_change, RememberedValue, lifted, SetOf, content_at, MarkingValue, EndedChild, AreRelabelled, HasCapacityForBoth, HaveEnded, JoinsSides, joined_nodes, with_results, Private, ParkedTask, Calls, SharedValue, marks_at, rest_at, IsSharedValue, IsAtWork, stands_now, HasCalls, parent_is as tree_parent_is, some_calls, as_node, alone_entry, EndsChild, nothing_noted, AreSides, CanJoin, HasPlaces, RestsJoin, IsRestOf, SetsJoin, chunk_count, left_of, other_child, own_child, parent_side, right_of, sources_at}
+use Rattle.fork_join_commit.proofs.Common.{◌≡◌, ℕ, ◌+◌, ◌<◌, ◌++◌, arith, Bool, true, false, Option, Some, None, List, [], ◌∷◌, length, slice_get, slice_set, option_map, inl, inr, refl, ap, sym, subst, ◌∙◌, option_flatten, IfSome, IsSome, cases_eq, same_Some, got_other, got_within, got_some, none_some, ReservedVecValue, EntryValue, PoolValue, FramesValue, TaskState, Ended, TaskNode, parent_of as parent_in_tree, state_of as state_in_tree, with_state, is_left, sibling, states_change, RememberedValue, lifted, SetOf, content_at, MarkingValue, EndedChild, AreRelabelled, HasCapacityForBoth, HaveEnded, JoinsSides, joined_nodes, with_results, Private, ParkedTask, Calls, SharedValue, marks_at, rest_at, IsSharedValue, IsAtWork, stands_now, HasCalls, parent_is as tree_parent_is, some_calls, as_node, alone_entry, EndsChild, nothing_noted, AreSides, CanJoin, HasPlaces, RestsJoin, IsRestOf, SetsJoin, chunk_count, left_child_of, other_child, own_child, parent_side, right_of, sources_at}
 use Rattle.step_commit.specs.below.heap_tree.{Waiting}
 use Rattle.step_commit.proofs.LastStepEntry as last
 use Rattle.fork_join_commit.proofs.ChildReturns as steps
@@ -80,7 +80,7 @@ module _ {w : SharedValue} {k : ℕ} {p : Private} (asks : AsksEnd w k p) (ended
 
   module _ (above beside : ParkedTask) (own_notes other_notes notes : RememberedValue) (above_of : IsRestOf (rest_at w.rests q) above) (beside_of : IsRestOf (rest_at w.rests s') beside) where
     abbrev L : EndedChild
-    L = left_of (is_left p.task) (own_child p own_notes) (other_child s' beside other_notes)
+    L = left_child_of (is_left p.task) (own_child p own_notes) (other_child s' beside other_notes)
 
     abbrev R : EndedChild
     R = right_of (is_left p.task) (own_child p own_notes) (other_child s' beside other_notes)
@@ -111,7 +111,7 @@ module _ {w : SharedValue} {k : ℕ} {p : Private} (asks : AsksEnd w k p) (ended
     side = sides p beside own_notes other_notes low
 
     -- both of them are other tasks
-    apart_by : (u : ℕ) (b : Bool) → (u ≡ (left_of b (own_child p own_notes) (other_child s' beside other_notes)).side.task → ⊥) → (u ≡ (right_of b (own_child p own_notes) (other_child s' beside other_notes)).side.task → ⊥) → (u ≡ p.task → ⊥) × (u ≡ s' → ⊥)
+    apart_by : (u : ℕ) (b : Bool) → (u ≡ (left_child_of b (own_child p own_notes) (other_child s' beside other_notes)).side.task → ⊥) → (u ≡ (right_of b (own_child p own_notes) (other_child s' beside other_notes)).side.task → ⊥) → (u ≡ p.task → ⊥) × (u ≡ s' → ⊥)
     apart_by u true nl nr = (nl, nr)
     apart_by u false nl nr = (nr, nl)
 

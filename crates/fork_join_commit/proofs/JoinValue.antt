@@ -1,5 +1,5 @@
 -- What the code takes and puts for a join, and the resulting shared value.
-use Rattle.fork_join_commit.proofs.Common.{◌≡◌, ℕ, ◌+◌, ◌<◌, ◌++◌, false, Some, None, [], ◌∷◌, length, slice_get, slice_set, refl, ap, ap₂, sym, subst, ◌∙◌, IfSome, ReservedVecValue, EntryValue, PoolValue, FramesValue, Ended, parent_of as parent_in_tree, state_of as state_in_tree, with_state, is_left, sibling, RememberedValue, SetOf, content_at, content_of, EndedChild, AreRelabelled, JoinsSides, joined_nodes, with_results, Private, TaskSlot, ParkedTask, Calls, TaskSlotsValue, SharedValue, marks_at, rest_at, IsSharedValue, IsAtWork, alone_entry, EndsChild, CanJoin, HasPlaces, RestsJoin, IsRestOf, SetsJoin, left_of, other_child, own_child, parent_side, right_of, sources_at}
+use Rattle.fork_join_commit.proofs.Common.{◌≡◌, ℕ, ◌+◌, ◌<◌, ◌++◌, false, Some, None, [], ◌∷◌, length, slice_get, slice_set, refl, ap, ap₂, sym, subst, ◌∙◌, IfSome, ReservedVecValue, EntryValue, PoolValue, FramesValue, Ended, parent_of as parent_in_tree, state_of as state_in_tree, with_state, is_left, sibling, RememberedValue, SetOf, content_at, content_of, EndedChild, AreRelabelled, JoinsSides, joined_nodes, with_results, Private, TaskSlot, ParkedTask, Calls, TaskSlotsValue, SharedValue, marks_at, rest_at, IsSharedValue, IsAtWork, alone_entry, EndsChild, CanJoin, HasPlaces, RestsJoin, IsRestOf, SetsJoin, left_child_of, other_child, own_child, parent_side, right_of, sources_at}
 use Rattle.fork_join_commit.proofs.JoinEntries as entry
 use Rattle.fork_join_commit.proofs.ChildReturns.{AsksEnd, own_made}
 use Rattle.fork_join_commit.proofs.JoinPlaces.{set_sources}
@@ -15,7 +15,7 @@ pub record Taken (w : SharedValue) (p : Private) (parent other : ℕ) (h h1 h2 h
   pub notes_are : notes ≡ set.remembered
   pub own_is : own ≡ own_child p slot.set.remembered
   pub other_is : (r : ParkedTask) × IsRestOf beside.rest r × (oth ≡ other_child other r beside.set.remembered)
-  pub left_is : left ≡ left_of (is_left own.side.task) own oth
+  pub left_is : left ≡ left_child_of (is_left own.side.task) own oth
   pub right_is : right ≡ right_of (is_left own.side.task) own oth
 
 -- and what is put: the parked state of the parent, and what its set remembers
@@ -65,13 +65,13 @@ module _ {w : SharedValue} {k : ℕ} {p : Private} (asks : AsksEnd w k p) (ended
     above_of = subst (λ o. IsRestOf o above) above_there refl
 
     abbrev L : EndedChild
-    L = left_of (is_left p.task) (own_child p own_notes) (other_child s beside other_notes)
+    L = left_child_of (is_left p.task) (own_child p own_notes) (other_child s beside other_notes)
 
     abbrev R : EndedChild
     R = right_of (is_left p.task) (own_child p own_notes) (other_child s beside other_notes)
 
     left_so : left ≡ L
-    left_so = K.left_is ∙ ap₂ (λ a b. left_of (is_left a.side.task) a b) K.own_is K.other_is.2
+    left_so = K.left_is ∙ ap₂ (λ a b. left_child_of (is_left a.side.task) a b) K.own_is K.other_is.2
 
     right_so : right ≡ R
     right_so = K.right_is ∙ ap₂ (λ a b. right_of (is_left a.side.task) a b) K.own_is K.other_is.2

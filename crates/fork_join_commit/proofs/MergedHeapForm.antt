@@ -1,14 +1,14 @@
 -- The heap of a task that took over its children's has the form of a heap.
-use Rattle.fork_join_commit.proofs.Common.{◌≡◌, ◌⊎◌, ℕ, ◌+◌, ◌-◌, ◌*◌, ◌/◌, ◌<◌, ◌≤◌, ◌^◌, ◌++◌, arith, Option, Some, None, List, [], length, length-append, option_map, inl, inr, refl, ap, sym, subst, ◌∙◌, cases_lt, get_or_append_left, get_or-append-add, All-append, in_append_cases, in_map, map_in, none_some, HaveDistinctNumbers, chunk_at, no_chunk, ChunkValue, words_in, Located, LeafHeapValue, IsCurrent, IsReserved, IsTidy, counted, merged, with_places, behind, Chunk, In, objects_in, in_chunk, in_objects, AreReserved, IsLastLarge, IsLastSmall, chunk_of, chunks_of, HeapForm}
+use Rattle.fork_join_commit.proofs.Common.{◌≡◌, ◌⊎◌, ℕ, ◌+◌, ◌-◌, ◌*◌, ◌/◌, ◌<◌, ◌≤◌, ◌^◌, ◌++◌, arith, Option, Some, None, List, [], length, length-append, option_map, inl, inr, refl, ap, sym, subst, ◌∙◌, cases_lt, get_or_append_left, get_or-append-add, All-append, in_append_cases, in_map, map_in, none_some, HaveDistinctNumbers, chunk_at, no_chunk, ChunkValue, words_in, Located, LeafHeapValue, IsCurrent, IsReserved, IsTidy, saturating_words, merged, with_places, behind, Chunk, In, objects_of_chunks, in_chunk, in_objects, AreReserved, IsLastLarge, IsLastSmall, chunk_of, chunks_of, HeapForm}
 
 -- the content that an object lies in
-pub object_content : (ks : List ChunkValue) (o : Located) → In (objects_in (chunks_of ks)) o → (c : ChunkValue) × In ks c × In (chunk_of c).objects o
+pub object_content : (ks : List ChunkValue) (o : Located) → In (objects_of_chunks (chunks_of ks)) o → (c : ChunkValue) × In ks c × In (chunk_of c).objects o
 object_content ks o i =
     let k = in_chunk (chunks_of ks) o i in
     let c = map_in chunk_of ks k.0 k.1 in
     (c.0, c.1, subst (λ (z : Chunk). In z.objects o) (sym c.2) k.2)
 
-pub content_object : (ks : List ChunkValue) (c : ChunkValue) (o : Located) → In ks c → In (chunk_of c).objects o → In (objects_in (chunks_of ks)) o
+pub content_object : (ks : List ChunkValue) (c : ChunkValue) (o : Located) → In ks c → In (chunk_of c).objects o → In (objects_of_chunks (chunks_of ks)) o
 content_object ks c o i j = in_objects (chunks_of ks) (chunk_of c) o (in_map chunk_of ks c i) j
 
 module _ (ls rs ks : List ChunkValue) where
@@ -70,7 +70,7 @@ module _ (h a b : LeafHeapValue) (H : HeapForm h) (A : HeapForm a) (B : HeapForm
   abbrev m : ℕ
   m = length ls + length rs
 
-  near_by : (o : Located) → In (objects_in (chunks_of all)) o → o.at.offset < 1024
+  near_by : (o : Located) → In (objects_of_chunks (chunks_of all)) o → o.at.offset < 1024
   near_by o i =
       let c = object_content all o i in
       elim (content_cases ls rs ks c.0 c.1) [
@@ -103,7 +103,7 @@ module _ (h a b : LeafHeapValue) (H : HeapForm h) (A : HeapForm a) (B : HeapForm
     ]
   ]
 
-  since_small : counted (h.since + (a.since + b.since)) < 2 ^ 64
+  since_small : saturating_words (h.since + (a.since + b.since)) < 2 ^ 64
   since_small = omega arith
 
   pub merged_form : HeapForm (with_places (merged h a b) slots spare)

@@ -1,5 +1,5 @@
 -- The two children of a fork, the left one and the right one, and how many chunks are taken from a task's slot.
-use Rattle.fork_join_commit.proofs.Common.{◌≡◌, ℕ, ◌+◌, ◌-◌, ◌%◌, ◌<◌, arith, Bool, true, false, Option, Some, None, length, option_map, inl, inr, refl, ap, sym, ◌∙◌, eq-eqb, cond-false, cond-true, eqb-false, same_Some, none_some, Waiting as WaitingOf, Task, TaskNode, is_left, sibling, RememberedValue, EndedChild, Private, ParkedTask, as_node, AreSides, IsRestOf, chunk_count, left_of, other_child, own_child, right_of}
+use Rattle.fork_join_commit.proofs.Common.{◌≡◌, ℕ, ◌+◌, ◌-◌, ◌%◌, ◌<◌, arith, Bool, true, false, Option, Some, None, length, option_map, inl, inr, refl, ap, sym, ◌∙◌, eq-eqb, cond-false, cond-true, eqb-false, same_Some, none_some, Waiting as WaitingOf, Task, TaskNode, is_left, sibling, RememberedValue, EndedChild, Private, ParkedTask, as_node, AreSides, IsRestOf, chunk_count, left_child_of, other_child, own_child, right_of}
 use Rattle.step_commit.specs.below.heap_tree.{Waiting}
 
 -- ---- A TASK THAT WAITS, in the tree
@@ -25,7 +25,7 @@ module _ (p : Private) (beside : ParkedTask) (own_notes other_notes : Remembered
   oth = other_child s beside other_notes
 
   abbrev Sided : Bool → Type 0
-  Sided b = AreSides p s beside (left_of b own oth).side.task (left_of b own oth).side.heap (right_of b own oth).side.heap (left_of b own oth).result (right_of b own oth).result
+  Sided b = AreSides p s beside (left_child_of b own oth).side.task (left_child_of b own oth).side.heap (right_of b own oth).side.heap (left_child_of b own oth).result (right_of b own oth).result
 
   sided : (b : Bool) → is_left t ≡ b → Sided b
   sided true e = let f : s ≡ t + 1 = cond-true (is_left t) (t + 1) (t - 1) e in inl (refl, f, refl, refl, refl, refl)
@@ -37,15 +37,15 @@ module _ (p : Private) (beside : ParkedTask) (own_notes other_notes : Remembered
   pub sides : Sided (is_left t)
   sides = sided (is_left t) refl
 
-  next_by : (b : Bool) → is_left t ≡ b → (right_of b own oth).side.task ≡ (left_of b own oth).side.task + 1
+  next_by : (b : Bool) → is_left t ≡ b → (right_of b own oth).side.task ≡ (left_child_of b own oth).side.task + 1
   next_by true e = cond-true (is_left t) (t + 1) (t - 1) e
   next_by false e = let f : s ≡ t - 1 = cond-false (is_left t) (t + 1) (t - 1) e in let g : t ≡ s + 1 = omega (arith, f, low) in g
 
-  pub right_next : (right_of (is_left t) own oth).side.task ≡ (left_of (is_left t) own oth).side.task + 1
+  pub right_next : (right_of (is_left t) own oth).side.task ≡ (left_child_of (is_left t) own oth).side.task + 1
   right_next = next_by (is_left t) refl
 
   -- the left child's number is odd, and the right one is its sibling
-  odd_by : (b : Bool) → is_left t ≡ b → (is_left (left_of b own oth).side.task ≡ true) × ((right_of b own oth).side.task ≡ sibling (left_of b own oth).side.task)
+  odd_by : (b : Bool) → is_left t ≡ b → (is_left (left_child_of b own oth).side.task ≡ true) × ((right_of b own oth).side.task ≡ sibling (left_child_of b own oth).side.task)
   odd_by true e = (e, refl)
   odd_by false e =
       let f : s ≡ t - 1 = cond-false (is_left t) (t + 1) (t - 1) e in
@@ -55,23 +55,23 @@ module _ (p : Private) (beside : ParkedTask) (own_notes other_notes : Remembered
       let g : t ≡ s + 1 = omega (arith, f, low) in
       (left, g ∙ sym (cond-true (is_left s) (s + 1) (s - 1) left))
 
-  pub in_pairs : (is_left (left_of (is_left t) own oth).side.task ≡ true) × ((right_of (is_left t) own oth).side.task ≡ sibling (left_of (is_left t) own oth).side.task)
+  pub in_pairs : (is_left (left_child_of (is_left t) own oth).side.task ≡ true) × ((right_of (is_left t) own oth).side.task ≡ sibling (left_child_of (is_left t) own oth).side.task)
   in_pairs = odd_by (is_left t) refl
 
   -- what holds for both holds for each
-  pub each : (P : EndedChild → Type 0) → P own → P oth → P (left_of (is_left t) own oth) × P (right_of (is_left t) own oth)
+  pub each : (P : EndedChild → Type 0) → P own → P oth → P (left_child_of (is_left t) own oth) × P (right_of (is_left t) own oth)
   each P a b = each_by_cases (is_left t)
     where
-      each_by_cases : (b : Bool) → P (left_of b own oth) × P (right_of b own oth)
+      each_by_cases : (b : Bool) → P (left_child_of b own oth) × P (right_of b own oth)
       each_by_cases true = (a, b)
       each_by_cases false = (b, a)
 
   -- counts of both together
-  both_by : (f : EndedChild → ℕ) (b : Bool) → f (left_of b own oth) + f (right_of b own oth) ≡ f own + f oth
+  both_by : (f : EndedChild → ℕ) (b : Bool) → f (left_child_of b own oth) + f (right_of b own oth) ≡ f own + f oth
   both_by f true = refl
   both_by f false = omega arith
 
-  pub both : (f : EndedChild → ℕ) → f (left_of (is_left t) own oth) + f (right_of (is_left t) own oth) ≡ f own + f oth
+  pub both : (f : EndedChild → ℕ) → f (left_child_of (is_left t) own oth) + f (right_of (is_left t) own oth) ≡ f own + f oth
   both f = both_by f (is_left t)
 
 pub count_of : (o : Option ParkedTask) (r : ParkedTask) → IsRestOf o r → length r.heap.chunks ≡ chunk_count o

@@ -4,13 +4,13 @@ use Rattle.fork_join_commit.specs.Common.{Instr, Ret, Line, ProgramText, Task, f
 
 -- ---- WHEN IT COMES
 
-abbrev pub is_last : Task → Instr → Bool
-is_last x Ret = has_no_caller x.below && is_some x.parent
-is_last x _ = false
+abbrev pub is_last_return : Task → Instr → Bool
+is_last_return x Ret = has_no_caller x.below && is_some x.parent
+is_last_return x _ = false
 
 abbrev pub is_last_line : Task → Option Line → Bool
 is_last_line x None = false
-is_last_line x (Some line) = is_last x line.instr
+is_last_line x (Some line) = is_last_return x line.instr
 
 abbrev pub is_last_by : ProgramText → Option Task → Bool
 is_last_by p None = false

@@ -84,8 +84,8 @@ abbrev pub other_child : ℕ → ParkedTask → RememberedValue → EndedChild
 other_child t r notes = record { side = record { task = t; heap = r.heap; remembered = notes }; result = work_result r.work }
 
 -- the left one and the right one
-abbrev pub left_of : Bool → EndedChild → EndedChild → EndedChild
-left_of left own other = if left then own else other
+abbrev pub left_child_of : Bool → EndedChild → EndedChild → EndedChild
+left_child_of left own other = if left then own else other
 
 abbrev pub right_of : Bool → EndedChild → EndedChild → EndedChild
 right_of left own other = if left then other else own

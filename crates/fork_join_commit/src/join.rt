@@ -8,7 +8,7 @@ ghost use Rattle.step_commit.specs.below.write_barrier.{content_at};
 ghost use Rattle.step_commit.specs.below.fork_join.{joined_nodes, with_results, AreRelabelled, JoinsSides};
 ghost use Rattle.step_commit.specs.below.task_slots.{ParkedTask as RestOf};
 ghost use Rattle.step_commit.specs.below.core_invariant.{IsAtWork, rest_at};
-ghost use Rattle.fork_join_commit.specs.Joins.{chunk_count, left_of, other_child, own_child, parent_side, right_of, sources_at, work_result, CanJoin, IsRestOf, IsSameRest};
+ghost use Rattle.fork_join_commit.specs.Joins.{chunk_count, left_child_of, other_child, own_child, parent_side, right_of, sources_at, work_result, CanJoin, IsRestOf, IsSameRest};
 
 use std::alloc::{AllocError, Global};
 use step_commit::{
@@ -89,7 +89,7 @@ pub fn make_places(
 
 /// The left child and the right one.
 pub fn in_order(own: EndedChild, other: EndedChild) -> (EndedChild, EndedChild)
-    ensures left { result.0 ≡ left_of (is_left own.side.task) own other }
+    ensures left { result.0 ≡ left_child_of (is_left own.side.task) own other }
     ensures right { result.1 ≡ right_of (is_left own.side.task) own other }
 {
     if own.side.task % 2 == 1 {

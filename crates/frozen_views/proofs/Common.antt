@@ -1,6 +1,6 @@
 -- The names of lower crates and of the specifications that these proofs use. Declares nothing.
 pub use Rattle.frozen_views.specs.Level.{Level, nearest, piece_in, place_on, level_of}
-pub use Rattle.frozen_views.specs.PiecesValue.{is_among, needed, numbers_of, written, NotesChanges, PiecesValue, ShowsChunks}
+pub use Rattle.frozen_views.specs.PiecesValue.{is_among, needed, numbers_of, written_chunk, NotesChanges, PiecesValue, ShowsChunks}
 pub use Rattle.object_layout.specs.Cell.{Born, Cell, Hole, Mark, Moved, size_of}
 pub use Rattle.object_layout.specs.ChunkValue.{ChunkValue}
 pub use Rattle.object_layout.specs.Chunks.{chunk_at, no_chunk, with_cell}

@@ -1,5 +1,5 @@
 -- Pieces of chunks by their numbers, as chunks are changed, added and joined.
-use Rattle.frozen_views.proofs.Common.{◌≡◌, ℕ, zero, suc, ◌+◌, ◌-◌, ◌<◌, ◌≤◌, Bool, true, false, cond, List, [], ◌∷◌, ◌++◌, length, get_or, set, refl, sym, ap, ◌∙◌, subst, arith, inl, inr, ⊎_elim, eqb, Option, Some, None, length-append, ◌||◌, option_or, map-append, cases_Bool, cases_lt, eqb-true, le-leb, lt-leb, Born, Cell, Hole, Mark, Moved, size_of, ChunkValue, chunk_at, no_chunk, with_cell, cell_at, put_cell, PieceValue, frozen_from, frozen_of, is_frozen, lasts, Level, level_of, nearest, piece_in, is_among, needed, numbers_of, written, NotesChanges, PiecesValue, ShowsChunks}
+use Rattle.frozen_views.proofs.Common.{◌≡◌, ℕ, zero, suc, ◌+◌, ◌-◌, ◌<◌, ◌≤◌, Bool, true, false, cond, List, [], ◌∷◌, ◌++◌, length, get_or, set, refl, sym, ap, ◌∙◌, subst, arith, inl, inr, ⊎_elim, eqb, Option, Some, None, length-append, ◌||◌, option_or, map-append, cases_Bool, cases_lt, eqb-true, le-leb, lt-leb, Born, Cell, Hole, Mark, Moved, size_of, ChunkValue, chunk_at, no_chunk, with_cell, cell_at, put_cell, PieceValue, frozen_from, frozen_of, is_frozen, lasts, Level, level_of, nearest, piece_in, is_among, needed, numbers_of, written_chunk, NotesChanges, PiecesValue, ShowsChunks}
 use Rattle.frozen_views.proofs.Levels as levels
 
 -- ---- numbers
@@ -204,7 +204,7 @@ same_level (k ∷ ks) zero new d e = ap (λ (f : PieceValue). f ∷ level_of ks)
 same_level (k ∷ ks) (suc i) new d e = ap (λ (l : Level). frozen_of k ∷ l) (same_level ks i new d e)
 
 -- the pieces of the chunks after a write to an object of the chunk at a position that keeps its mutability
-pub written_shown : (p q : PiecesValue) (ks : List ChunkValue) → ShowsChunks p ks → (i : ℕ) (k : ChunkValue) → k ≡ chunk_at ks i → (at : ℕ) (d : Cell) (mutable : Bool) → NotesChanges p q (written mutable k.number) → (cell_at k.cells at).mutable ≡ mutable → d.mutable ≡ (cell_at k.cells at).mutable →
+pub written_shown : (p q : PiecesValue) (ks : List ChunkValue) → ShowsChunks p ks → (i : ℕ) (k : ChunkValue) → k ≡ chunk_at ks i → (at : ℕ) (d : Cell) (mutable : Bool) → NotesChanges p q (written_chunk mutable k.number) → (cell_at k.cells at).mutable ≡ mutable → d.mutable ≡ (cell_at k.cells at).mutable →
     size_of d ≡ size_of (cell_at k.cells at) → ShowsChunks q (set ks i (with_cell k at d))
 written_shown p q ks h i k read at d false f was is s = changed p q ks i k.number (with_cell k at d) no_chunk (ap (λ (x : ChunkValue). x.number) read) refl f h
 written_shown p q ks h i k read at d true f was is s =
@@ -220,7 +220,7 @@ frozen_push [] n d hidden = rw hidden refl
 frozen_push (c ∷ cs) n d hidden = rw (frozen_push cs (n + size_of c) d hidden) refl
 
 -- the pieces of the chunks after an object is placed in the chunk at a position
-pub placed_shown : (p q : PiecesValue) (ks : List ChunkValue) → ShowsChunks p ks → (i : ℕ) (k : ChunkValue) → k ≡ get_or ks i k → (d : Cell) (number : ℕ) → number ≡ k.number → (mutable : Bool) → NotesChanges p q (written mutable number) → d.mutable ≡ mutable →
+pub placed_shown : (p q : PiecesValue) (ks : List ChunkValue) → ShowsChunks p ks → (i : ℕ) (k : ChunkValue) → k ≡ get_or ks i k → (d : Cell) (number : ℕ) → number ≡ k.number → (mutable : Bool) → NotesChanges p q (written_chunk mutable number) → d.mutable ≡ mutable →
     ShowsChunks q (set ks i (record k { cells = k.cells ++ d ∷ [] }))
 placed_shown p q ks h i k read d number same false f is = changed p q ks i number (record k { cells = k.cells ++ d ∷ [] }) k (ap (λ (x : ChunkValue). x.number) read) same f h
 placed_shown p q ks h i k read d number same true f is =

@@ -53,5 +53,5 @@ pub record NotesChanges (old new : PiecesValue) (numbers : List ℕ) : Type 0 wh
   pub places : new.lost ≡ false → old.places ≤ new.places + length numbers
 
 -- the number of a chunk in which an object is written or placed; none if the object is mutable, since no piece shows it
-abbrev pub written : Bool → ℕ → List ℕ
-written mutable number = if mutable then [] else number ∷ []
+abbrev pub written_chunk : Bool → ℕ → List ℕ
+written_chunk mutable number = if mutable then [] else number ∷ []

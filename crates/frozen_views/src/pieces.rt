@@ -4,7 +4,7 @@ ghost use Rattle.std.specs.Prelude.{◌≡◌, ℕ, ◌+◌, ◌-◌, ◌≤◌,
 ghost use Rattle.std.specs.Arc.{arc_value};
 ghost use Rattle.std.specs.Option.{option_or};
 ghost use Rattle.frozen_views.specs.Level.{nearest, piece_in};
-ghost use Rattle.frozen_views.specs.PiecesValue.{is_among, is_settled, numbers_of, written, NotesChanges};
+ghost use Rattle.frozen_views.specs.PiecesValue.{is_among, is_settled, numbers_of, written_chunk, NotesChanges};
 
 use super::layer::Layer;
 use boxed::BoxedSlot;
@@ -142,7 +142,7 @@ impl Pieces {
     /// object is mutable.
     #[inline(always)]
     pub fn note_write(&mut self, number: u32, mutable: bool)
-        ensures { NotesChanges self.old self.new (written mutable number) }
+        ensures { NotesChanges self.old self.new (written_chunk mutable number) }
     {
         if !mutable {
             self.note_change(number);

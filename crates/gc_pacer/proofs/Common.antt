@@ -11,7 +11,7 @@ pub use Rattle.run_statistics.proofs.below.ledger_step_laws.{heap_then, with_at}
 pub use Rattle.run_statistics.proofs.below.plain_vec.{got_within, got_some, got_other, some_map}
 pub use Rattle.run_statistics.proofs.below.run_ledger.{entry_tells, legal_sound, wait_tells, heap_end, heap_machine}
 pub use Rattle.run_statistics.proofs.below.shared_tree.{handed_on}
-pub use Rattle.run_statistics.specs.below.core_invariant.{NotEntered, NoMemory, Refuses, SharedValue, accounts, refused, Enters, IsSharedValue, cause_of, Fits, IsCaused, marks_at}
+pub use Rattle.run_statistics.specs.below.core_invariant.{NotEntered, NoMemory, Refuses, SharedValue, accounts, refused, Enters, IsSharedValue, refusal_of_result, Fits, IsCaused, marks_at}
 pub use Rattle.run_statistics.specs.below.fork_join_commit.{IsUnchanged}
 pub use Rattle.run_statistics.specs.below.heap_marking.{Pace, Other, KeepsPace, KeepsPrevious, Fork, IsForkOf, previous_of, IsForkIn, waiting_cause, waiting_cause_in, is_state_joined, is_going, Forked, marking_cause, marking_cause_in, IsLastGoing}
 pub use Rattle.run_statistics.specs.below.heap_tree.{TaskNode, state_of}
@@ -19,7 +19,7 @@ pub use Rattle.run_statistics.specs.below.hh_lang.{ProgramText}
 pub use Rattle.run_statistics.specs.below.hh_model.{MachineState, Task, is_waiting, joined}
 pub use Rattle.run_statistics.specs.below.leaf_collections.{end_entry}
 pub use Rattle.run_statistics.specs.below.mark_sweep_gc.{MarkingValue}
-pub use Rattle.run_statistics.specs.below.run_ledger.{ledger_of, idle, is_paced, pace_at_end, pace_of, Ledger, Heap, heap_of, or_fresh, with_heap, SoundLedger, WorkerPace, after, is_fuel, after_all, opening, noted, or_idle, pace_after, pace_after_all, pace_opening, Refused, owed_to_marks}
+pub use Rattle.run_statistics.specs.below.run_ledger.{ledger_of, idle, is_paced, pace_at_end, pace_of, Ledger, Heap, heap_of, or_fresh, with_heap, SoundLedger, WorkerPace, after, is_fuel, after_all, opening, pace_noted, or_idle, pace_after, pace_after_all, pace_opening, Refused, owed_to_marks}
 pub use Rattle.run_statistics.specs.below.run_trace.{SettingsValue, Mark, Kind, Fuel, Ran, EntryValue, Chunk, Begin, More, PutOff, Sweep, Took}
 pub use Rattle.run_statistics.specs.below.step_commit.{alone_entry, IsShared}
 pub use Rattle.run_statistics.specs.below.task_machine.{Private}

@@ -1,5 +1,5 @@
 -- An entry that pays keeps the invariant of a paced value.
-use Rattle.gc_pacer.proofs.Common.{◌≡◌, ◌≢◌, ◌⊎◌, ℕ, zero, suc, ◌<◌, ◌≤◌, true, Option, Some, None, List, [], ◌∷◌, ◌++◌, length, slice_get, slice_set, inl, inr, refl, ap, sym, subst, ◌∙◌, arith, length-set, is_some, cases_eq, OnErr, OnOk, Result, Ok, Err, got_other, got_within, ProgramText, Kind, Fuel, Mark, Ran, EntryValue, SettingsValue, Ledger, WorkerPace, after, is_fuel, heap_of, after_all, opening, is_paced, noted, or_idle, pace_after, pace_after_all, pace_at_end, pace_of, pace_opening, Refused, pace_goes_on, length_opening, pace_same, cause_of, refused, Enters, IsSharedValue, SharedValue, accounts, entry_on, Pace, Other, Fork, IsForkOf, KeepsPace, previous_of, mark_kept, steps_kept, entered_accounts, paces_stay, Pays, worker_pace, KeepsNoted, KeepsPaces, NotesAt, NotesOther}
+use Rattle.gc_pacer.proofs.Common.{◌≡◌, ◌≢◌, ◌⊎◌, ℕ, zero, suc, ◌<◌, ◌≤◌, true, Option, Some, None, List, [], ◌∷◌, ◌++◌, length, slice_get, slice_set, inl, inr, refl, ap, sym, subst, ◌∙◌, arith, length-set, is_some, cases_eq, OnErr, OnOk, Result, Ok, Err, got_other, got_within, ProgramText, Kind, Fuel, Mark, Ran, EntryValue, SettingsValue, Ledger, WorkerPace, after, is_fuel, heap_of, after_all, opening, is_paced, pace_noted, or_idle, pace_after, pace_after_all, pace_at_end, pace_of, pace_opening, Refused, pace_goes_on, length_opening, pace_same, refusal_of_result, refused, Enters, IsSharedValue, SharedValue, accounts, entry_on, Pace, Other, Fork, IsForkOf, KeepsPace, previous_of, mark_kept, steps_kept, entered_accounts, paces_stay, Pays, worker_pace, KeepsNoted, KeepsPaces, NotesAt, NotesOther}
 use Rattle.run_statistics.specs.below.run_ledger.{Other as OtherEntry}
 
 -- WHAT IS RECORDED after one more entry
@@ -24,14 +24,14 @@ module _ (w w' : SharedValue) (e : EntryValue) (E : Enters w w' e) where
       ∙ (all_then w.program w.settings w.journal.items (opening w.program w.settings) (pace_opening w.settings) e
       ∙ ap (λ l. pace_after l (pace_at_end w.program w.settings w.journal.items) e) (sym (entered_accounts w w' e E)))))
 
-  noted_own : e.worker < w.settings.workers → worker_pace w' e.worker ≡ noted (accounts w') (worker_pace w e.worker) e.kind
+  noted_own : e.worker < w.settings.workers → worker_pace w' e.worker ≡ pace_noted (accounts w') (worker_pace w e.worker) e.kind
   noted_own lt =
       ap (λ paces. pace_of paces e.worker) paces_then
-      ∙ pace_same (pace_at_end w.program w.settings w.journal.items) e.worker (noted (accounts w') (worker_pace w e.worker) e.kind) (let n : length (pace_at_end w.program w.settings w.journal.items) ≡ w.settings.workers = paces_many w in omega arith)
+      ∙ pace_same (pace_at_end w.program w.settings w.journal.items) e.worker (pace_noted (accounts w') (worker_pace w e.worker) e.kind) (let n : length (pace_at_end w.program w.settings w.journal.items) ≡ w.settings.workers = paces_many w in omega arith)
 
   noted_other : (k : ℕ) → k ≢ e.worker → worker_pace w' k ≡ worker_pace w k
   noted_other k ne =
-      ap (λ paces. pace_of paces k) paces_then ∙ ap or_idle (got_other (pace_at_end w.program w.settings w.journal.items) e.worker k (noted (accounts w') (worker_pace w e.worker) e.kind) ne)
+      ap (λ paces. pace_of paces k) paces_then ∙ ap or_idle (got_other (pace_at_end w.program w.settings w.journal.items) e.worker k (pace_noted (accounts w') (worker_pace w e.worker) e.kind) ne)
 
 -- KEPT
 pub paced_then : (w w' : SharedValue) (e : EntryValue) (old new : List Pace) → IsSharedValue w → KeepsPaces w old → Enters w w' e → refused w e ≡ None → (is_fuel e.kind ≡ true) ⊎ Pays w e → length new ≡ length old
@@ -60,14 +60,14 @@ paced_then w w' e old new I K E free pays many notes = record {
     ]
 
 -- an entry that is neither steps nor the beginning of a marking
-pub other_noted : (l : Ledger) (kind : Kind) (old new : List Pace) (k : ℕ) → ((x : WorkerPace) → noted l x kind ≡ record x { previous = OtherEntry }) → NotesAt old new k NotesOther → NotesAt old new k (KeepsNoted l kind)
+pub other_noted : (l : Ledger) (kind : Kind) (old new : List Pace) (k : ℕ) → ((x : WorkerPace) → pace_noted l x kind ≡ record x { previous = OtherEntry }) → NotesAt old new k NotesOther → NotesAt old new k (KeepsNoted l kind)
 other_noted l kind old new k plain N = record {
   many = N.many;
   others = N.others;
   own = λ q at. let o = N.own q at in (o.0, o.1, λ x K. subst (λ y. KeepsPace l q y) (sym (plain x)) (subst (λ (z : Pace). KeepsPace l z (record x { previous = OtherEntry })) (sym o.2) (record { previous = tt; marks = K.marks })));
 }
 
-pub other_then : (w w' : SharedValue) (e : EntryValue) (old new : List Pace) → IsSharedValue w → KeepsPaces w old → Enters w w' e → refused w e ≡ None → Pays w e → ((x : WorkerPace) → noted (accounts w') x e.kind ≡ record x { previous = OtherEntry })
+pub other_then : (w w' : SharedValue) (e : EntryValue) (old new : List Pace) → IsSharedValue w → KeepsPaces w old → Enters w w' e → refused w e ≡ None → Pays w e → ((x : WorkerPace) → pace_noted (accounts w') x e.kind ≡ record x { previous = OtherEntry })
     → NotesAt old new e.worker NotesOther → KeepsPaces w' new
 other_then w w' e old new I K E free pays plain N = paced_then w w' e old new I K E free (inr pays) N.many (λ on. other_noted (accounts w') e.kind old new e.worker plain N)
 
@@ -79,21 +79,21 @@ fuel_then w w' k paces I K E free =
     ended : {A : Type 0} {x : A} → Some x ≡ None → ⊥
     ended e = cc
 
-pub fuel_kept : {A : Type 0} (w w' : SharedValue) (k : ℕ) (paces : List Pace) (r : Result A Refused) → IsSharedValue w → KeepsPaces w paces → cause_of r ≡ refused w (record { worker = k; kind = Fuel }) → OnErr r (w' ≡ w) → OnOk r (Enters w w' (record { worker = k; kind = Fuel }))
+pub fuel_kept : {A : Type 0} (w w' : SharedValue) (k : ℕ) (paces : List Pace) (r : Result A Refused) → IsSharedValue w → KeepsPaces w paces → refusal_of_result r ≡ refused w (record { worker = k; kind = Fuel }) → OnErr r (w' ≡ w) → OnOk r (Enters w w' (record { worker = k; kind = Fuel }))
     → KeepsPaces w' paces
 fuel_kept w w' k paces (Ok x) I K cause same E = fuel_then w w' k paces I K E (sym cause)
 fuel_kept w w' k paces (Err c) I K cause same E = subst (λ z. KeepsPaces z paces) (sym same) K
 
 -- STEPS, for one worker's record
-pub steps_noted : (l : Ledger) (t k : ℕ) (fork : Option Fork) (q q' : Pace) (x : WorkerPace) → IsForkOf l t fork (slice_get l.machine.tasks t) → q' ≡ record q { previous = previous_of fork } → KeepsPace l q x → KeepsPace l q' (noted l x (Ran t k))
+pub steps_noted : (l : Ledger) (t k : ℕ) (fork : Option Fork) (q q' : Pace) (x : WorkerPace) → IsForkOf l t fork (slice_get l.machine.tasks t) → q' ≡ record q { previous = previous_of fork } → KeepsPace l q x → KeepsPace l q' (pace_noted l x (Ran t k))
 steps_noted l t k fork q q' x F e K =
-    subst (λ z. KeepsPace l z (noted l x (Ran t k))) (sym e) (record { previous = steps_kept l t fork (slice_get l.machine.tasks t) F; marks = K.marks })
+    subst (λ z. KeepsPace l z (pace_noted l x (Ran t k))) (sym e) (record { previous = steps_kept l t fork (slice_get l.machine.tasks t) F; marks = K.marks })
 
 -- THE BEGINNING OF A MARKING
 pub mark_noted : (l : Ledger) (t room : ℕ) (f : Fork) (q q' : Pace) (x : WorkerPace) → IsForkOf l t (Some f) (slice_get l.machine.tasks t) → is_some (heap_of l t).marked ≡ true
-    → q' ≡ record { previous = Other; marks = record { items = q.marks.items ++ f ∷ []; room = room } } → KeepsPace l q x → KeepsPace l q' (noted l x (Mark t))
+    → q' ≡ record { previous = Other; marks = record { items = q.marks.items ++ f ∷ []; room = room } } → KeepsPace l q x → KeepsPace l q' (pace_noted l x (Mark t))
 mark_noted l t room f q q' x F m e K =
-    subst (λ z. KeepsPace l z (noted l x (Mark t))) (sym e) (record { previous = tt; marks = mark_kept l t f (slice_get l.machine.tasks t) q.marks.items x.marks F m K.marks })
+    subst (λ z. KeepsPace l z (pace_noted l x (Mark t))) (sym e) (record { previous = tt; marks = mark_kept l t f (slice_get l.machine.tasks t) q.marks.items x.marks F m K.marks })
 
 -- a list without such a worker
 pub out_notes : (old : List Pace) (k : ℕ) (changes : Pace → Pace → Type 0) → length old ≤ k → NotesAt old old k changes

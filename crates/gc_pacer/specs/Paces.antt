@@ -1,7 +1,7 @@
 -- The records of workers' entries, to know what they owe.
 use Rattle.std.specs.Prelude.{◌≡◌, ◌≢◌, ◌<◌, ℕ, true, Some, None, List, [], length, slice_get}
 use Rattle.run_statistics.specs.below.run_trace.{Kind}
-use Rattle.run_statistics.specs.below.run_ledger.{Ledger, WorkerPace, is_paced, noted}
+use Rattle.run_statistics.specs.below.run_ledger.{Ledger, WorkerPace, is_paced, pace_noted}
 use Rattle.run_statistics.specs.below.core_invariant.{SharedValue, accounts}
 use Rattle.run_statistics.specs.below.heap_marking.{Pace, Other, KeepsPace}
 use Rattle.entry_calls.specs.Owed.{worker_pace}
@@ -34,7 +34,7 @@ NotesOther old new = new ≡ record old { previous = Other }
 
 -- a record of the worker's entries is right with one more, by the accounts after it
 abbrev pub KeepsNoted : Ledger → Kind → Pace → Pace → Type 0
-KeepsNoted l kind old new = (x : WorkerPace) → KeepsPace l old x → KeepsPace l new (noted l x kind)
+KeepsNoted l kind old new = (x : WorkerPace) → KeepsPace l old x → KeepsPace l new (pace_noted l x kind)
 
 -- the worker's list has capacity for one more marking
 abbrev pub HasCapacityForMarking : List Pace → ℕ → Type 0

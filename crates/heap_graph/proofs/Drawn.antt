@@ -1,5 +1,5 @@
 -- How the text of a graph is put together.
-use Rattle.heap_graph.proofs.Common.{◌≡◌, ℕ, zero, suc, List, [], ◌∷◌, ◌++◌, refl, ap, sym, ◌∙◌, append_assoc, append-nil, ◌≢◌, codes, Some, None, flat_map, Statement, Attributes, Node, Edge, attribute, node_begin, edge_begin, statement_end, setting, cluster_begin, braces_end, dot, all_dot, Tasks, parent_of, path, path_above, boxed, point, titled, statements, opened}
+use Rattle.heap_graph.proofs.Common.{◌≡◌, ℕ, zero, suc, List, [], ◌∷◌, ◌++◌, refl, ap, sym, ◌∙◌, append_assoc, append-nil, ◌≢◌, codes, Some, None, flat_map, Statement, Attributes, Node, Edge, attribute, node_begin, edge_begin, statement_end, setting, cluster_begin, braces_end, dot, all_dot, Tasks, image_parent, path, path_above, boxed, point, titled_box, statements, opened}
 
 -- BOXES
 
@@ -34,7 +34,7 @@ statements_text (s ∷ ss) = ap (λ x. dot s ++ x) (statements_text ss)
 
 -- a box begins, its title, its point and its contents follow, and it ends
 pub titled_made : (cluster name title : List ℕ) (ss : List Statement) (w before a b c d e : List ℕ) → w ≡ flat_map dot ss → a ≡ before ++ cluster_begin cluster → b ≡ a ++ setting (codes "label") title → c ≡ b ++ dot (point name) → d ≡ c ++ w → e ≡ d ++ braces_end
-    → e ≡ before ++ dot (titled cluster name title ss)
+    → e ≡ before ++ dot (titled_box cluster name title ss)
 titled_made cluster name title ss w before a b c d e ew ea eb ec ed ee =
     ee ∙ ap (λ x. x ++ braces_end) (ed ∙ ap (λ x. x ++ w) (ec ∙ ap (λ x. x ++ dot (point name)) (eb ∙ ap (λ x. x ++ setting (codes "label") title) ea)))
     ∙ six before (cluster_begin cluster) (setting (codes "label") title) (dot (point name)) w braces_end
@@ -44,11 +44,11 @@ titled_made cluster name title ss w before a b c d e ew ea eb ec ed ee =
     six a b c d e f = simp append_assoc
 
 -- the same box, by equal names
-pub titled_along : (ss : List Statement) (c d n m t u before after : List ℕ) → c ≡ d → n ≡ m → t ≡ u → after ≡ before ++ dot (titled c n t ss) → after ≡ before ++ dot (titled d m u ss)
+pub titled_along : (ss : List Statement) (c d n m t u before after : List ℕ) → c ≡ d → n ≡ m → t ≡ u → after ≡ before ++ dot (titled_box c n t ss) → after ≡ before ++ dot (titled_box d m u ss)
 titled_along ss c d n m t u before after ec en et e =
-    e ∙ ap (λ x. before ++ dot (titled x n t ss)) ec
-    ∙ ap (λ x. before ++ dot (titled d x t ss)) en
-    ∙ ap (λ x. before ++ dot (titled d m x ss)) et
+    e ∙ ap (λ x. before ++ dot (titled_box x n t ss)) ec
+    ∙ ap (λ x. before ++ dot (titled_box d x t ss)) en
+    ∙ ap (λ x. before ++ dot (titled_box d m x ss)) et
 
 -- the same, for tasks in slices of one vector
 pub boxed_along : (ts : List ℕ) (s : Statement) (way xs ys before a b c : List ℕ) → way ≡ ts → xs ≡ way → ys ≡ way → a ≡ before ++ flat_map opened xs → b ≡ a ++ dot s → c ≡ b ++ flat_map (λ _. braces_end) ys
@@ -80,11 +80,11 @@ edge_made s p q attrs before a b c e f g =
 
 -- PATHS
 
-pub path_alone : (n : ℕ) (tasks : Tasks) (t : ℕ) → n ≢ 0 → parent_of tasks t ≡ None → path n tasks t ≡ t ∷ []
+pub path_alone : (n : ℕ) (tasks : Tasks) (t : ℕ) → n ≢ 0 → image_parent tasks t ≡ None → path n tasks t ≡ t ∷ []
 path_alone zero tasks t ne e = absurd (ne refl)
 path_alone (suc n) tasks t ne e = ap (λ o. path_above (path n tasks) o ++ t ∷ []) e
 
-pub path_below : (m n : ℕ) (tasks : Tasks) (t p : ℕ) (before now later : List ℕ) → suc m ≡ n → parent_of tasks t ≡ Some p → now ≡ before ++ path m tasks p → later ≡ now ++ t ∷ []
+pub path_below : (m n : ℕ) (tasks : Tasks) (t p : ℕ) (before now later : List ℕ) → suc m ≡ n → image_parent tasks t ≡ Some p → now ≡ before ++ path m tasks p → later ≡ now ++ t ∷ []
     → later ≡ before ++ path n tasks t
 path_below m n tasks t p before now later q e f g =
     g ∙ ap (λ x. x ++ t ∷ []) f ∙ append_assoc before (path m tasks p) (t ∷ [])

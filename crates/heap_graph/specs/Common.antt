@@ -1,11 +1,11 @@
 -- The names of lower crates that these specifications use. Declares nothing.
 pub use Rattle.dot_text.specs.Dot.{Statement, Statements, Setting, Node, Cluster, NoStatement, Statement_, alone, graph, Attributes, Edge, cluster_begin}
 pub use Rattle.image_check.specs.ImageTable.{found, with_entry}
-pub use Rattle.image_check.specs.Line.{said_by, state_word}
+pub use Rattle.image_check.specs.Line.{line_meaning, state_word}
 pub use Rattle.image_check.specs.Place.{chunk_number}
 pub use Rattle.image_check.specs.Sets.{same_birth}
 pub use Rattle.image_check.specs.Sound.{all_read, ReferenceIs}
-pub use Rattle.image_check.specs.Tasks.{Tasks, parent_of, owner_at, relation_of, is_running}
+pub use Rattle.image_check.specs.Tasks.{Tasks, image_parent, owner_at, relation_of, is_running}
 pub use Rattle.image_check.specs.declared.line.ImageBirth.{ImageBirth}
 pub use Rattle.image_check.specs.declared.line.ImageChunk.{ImageChunk}
 pub use Rattle.image_check.specs.declared.line.ImageLine.{ImageLine}

@@ -2,7 +2,7 @@
 use Rattle.std.specs.Prelude.{ℕ, zero, suc, ◌+◌, ◌==◌, not, Bool, false, Option, Some, None, List, [], ◌∷◌, ◌++◌, codes, drop, length, nat_lt, if◌then◌else◌}
 use Rattle.std.specs.List.{flat_map}
 use Rattle.std.specs.Fmt.{decimal}
-use Rattle.heap_graph.specs.Common.{words_of, ImageBirth, ImageTask, ImageChunk, ImageObject, ImageLine, OfTask, OfChunk, OfObject, Read, said_by, chunk_number, Tasks, parent_of, owner_at, task_name, Statement, Statements, Setting, Node, Cluster, NoStatement, Statement_, alone}
+use Rattle.heap_graph.specs.Common.{words_of, ImageBirth, ImageTask, ImageChunk, ImageObject, ImageLine, OfTask, OfChunk, OfObject, Read, line_meaning, chunk_number, Tasks, image_parent, owner_at, task_name, Statement, Statements, Setting, Node, Cluster, NoStatement, Statement_, alone}
 use Rattle.heap_graph.specs.declared.held.HeapTotals.{HeapTotals}
 use Rattle.heap_graph.specs.Names.{task_cluster, chunk_name, chunk_cluster, object_name, task_title, chunk_title}
 use Rattle.heap_graph.specs.Kinds.{field_limit, is_long, edges_of}
@@ -17,7 +17,7 @@ path_above walk (Some p) = walk p
 -- the tasks from the root to t, but at most the last n
 abbrev pub path : ℕ → Tasks → ℕ → List ℕ
 path zero tasks t = []
-path (suc n) tasks t = path_above (path n tasks) (parent_of tasks t) ++ t ∷ []
+path (suc n) tasks t = path_above (path n tasks) (image_parent tasks t) ++ t ∷ []
 
 abbrev pub path_to : Tasks → ℕ → List ℕ
 path_to tasks t = path (length tasks) tasks t
@@ -62,13 +62,13 @@ references_title o = if is_long o then count_title (length o.references) else po
 abbrev pub word_field : List ℕ → List ℕ
 word_field w = 124 ∷ w
 
-abbrev pub first_of : List (List ℕ) → List ℕ
-first_of [] = []
-first_of (w ∷ ws) = w
+abbrev pub first_point : List (List ℕ) → List ℕ
+first_point [] = []
+first_point (w ∷ ws) = w
 
 -- in an object's line four words come before the one for its kind, and two more before its references
 abbrev pub kind_title : List ℕ → List ℕ
-kind_title line = word_field (first_of (drop 4 (words_of line)))
+kind_title line = word_field (first_point (drop 4 (words_of line)))
 
 -- as in the line, or only their number
 abbrev pub numbers_title : List ℕ → ImageObject → List ℕ
@@ -97,12 +97,12 @@ lies_elsewhere c _ = false
 -- of the chunk before
 abbrev pub nodes_in : ℕ → List (List ℕ) → List Statement
 nodes_in c [] = []
-nodes_in c (l ∷ ls) = if lies_elsewhere c (said_by l) then [] else node_by l (said_by l) ++ nodes_in c ls
+nodes_in c (l ∷ ls) = if lies_elsewhere c (line_meaning l) then [] else node_by l (line_meaning l) ++ nodes_in c ls
 
 -- the lines from that one on
 abbrev pub lines_behind : ℕ → List (List ℕ) → List (List ℕ)
 lines_behind c [] = []
-lines_behind c (l ∷ ls) = if lies_elsewhere c (said_by l) then l ∷ ls else lines_behind c ls
+lines_behind c (l ∷ ls) = if lies_elsewhere c (line_meaning l) then l ∷ ls else lines_behind c ls
 
 -- LINES
 
@@ -110,17 +110,17 @@ abbrev pub point : List ℕ → Statement
 point name = Node name ((codes "shape", codes "point") ∷ (codes "style", codes "invis") ∷ [])
 
 -- a box with a title, a point and its contents
-abbrev pub titled : List ℕ → List ℕ → List ℕ → List Statement → Statement
-titled cluster name title within = Cluster cluster (Statement_ (Setting (codes "label") title) (Statement_ (point name) (statements within)))
+abbrev pub titled_box : List ℕ → List ℕ → List ℕ → List Statement → Statement
+titled_box cluster name title within = Cluster cluster (Statement_ (Setting (codes "label") title) (Statement_ (point name) (statements within)))
 
 abbrev pub task_box : ImageTask → HeapTotals → Statement
-task_box t h = titled (task_cluster t.number) (task_name t.number) (task_title t h) []
+task_box t h = titled_box (task_cluster t.number) (task_name t.number) (task_title t h) []
 
 abbrev pub task_drawn : Read → Heaps → ImageTask → Statement
 task_drawn r m t = boxed (path_above (path_to r.tasks) t.parent) (task_box t (held_of m t.number))
 
 abbrev pub chunk_box : ImageChunk → List Statement → Statement
-chunk_box c within = titled (chunk_cluster c.number) (chunk_name c.number) (chunk_title c) within
+chunk_box c within = titled_box (chunk_cluster c.number) (chunk_name c.number) (chunk_title c) within
 
 abbrev pub chunk_drawn : Read → ImageChunk → List (List ℕ) → Statement
 chunk_drawn r c objects = inside r.tasks c.owner (chunk_box c (nodes_in c.number objects))
@@ -151,4 +151,4 @@ undrawn_after _ objects = objects
 -- what lines add
 abbrev pub all_drawn : Read → Heaps → Option ℕ → List (List ℕ) → List (List ℕ) → List Statement
 all_drawn r m p objects [] = []
-all_drawn r m p objects (l ∷ ls) = drawn r m p objects (said_by l) ++ all_drawn r m p (undrawn_after (said_by l) objects) ls
+all_drawn r m p objects (l ∷ ls) = drawn r m p objects (line_meaning l) ++ all_drawn r m p (undrawn_after (line_meaning l) objects) ls

@@ -1,6 +1,6 @@
 -- What heaps hold, in saturating 64-bit counts; and which heaps are drawn.
 use Rattle.std.specs.Prelude.{ℕ, ◌+◌, Bool, true, false, Option, Some, None, List, [], ◌∷◌, length}
-use Rattle.heap_graph.specs.Common.{ImageObject, ImageLine, OfChunk, OfObject, Read, Relation, Own, Above, said_by, found, with_entry, relation_of, owner_at, raised_by}
+use Rattle.heap_graph.specs.Common.{ImageObject, ImageLine, OfChunk, OfObject, Read, Relation, Own, Above, line_meaning, found, with_entry, relation_of, owner_at, raised_by}
 use Rattle.heap_graph.specs.declared.held.HeapTotals.{HeapTotals}
 
 -- WHICH HEAPS ARE DRAWN
@@ -52,4 +52,4 @@ held_with r m _ = m
 -- adds what lines say
 abbrev pub held_by : Read → Heaps → List (List ℕ) → Heaps
 held_by r m [] = m
-held_by r m (l ∷ ls) = held_by r (held_with r m (said_by l)) ls
+held_by r m (l ∷ ls) = held_by r (held_with r m (line_meaning l)) ls

@@ -3,7 +3,7 @@ use Rattle.std.specs.Prelude.{ℕ, Bool, Option, Some, None, List, [], ◌∷◌
 use Rattle.std.specs.List.{flat_map}
 use Rattle.std.specs.Map.{lookup}
 use Rattle.std.specs.Fmt.{decimal}
-use Rattle.heap_graph.specs.Common.{insert_entry, ImageTask, ImageObject, ImageLine, OfTask, OfObject, Read, Relation, said_by, relation_of, owner_at, is_running, same_birth, Attributes, Statement, Node, Edge, raised_by, task_name}
+use Rattle.heap_graph.specs.Common.{insert_entry, ImageTask, ImageObject, ImageLine, OfTask, OfObject, Read, Relation, line_meaning, relation_of, owner_at, is_running, same_birth, Attributes, Statement, Node, Edge, raised_by, task_name}
 use Rattle.heap_graph.specs.Names.{port_name, heap_title}
 use Rattle.heap_graph.specs.Kinds.{kind_attributes}
 use Rattle.heap_graph.specs.HeapTotals.{Heaps, held_of, is_drawn}
@@ -29,7 +29,7 @@ heap_by r m p (OfTask t) = if is_drawn r p t.number then heap_drawn m t else []
 heap_by r m p _ = []
 
 abbrev pub heaps_drawn : Read → Heaps → Option ℕ → List (List ℕ) → List Statement
-heaps_drawn r m p lines = flat_map (λ l. heap_by r m p (said_by l)) lines
+heaps_drawn r m p lines = flat_map (λ l. heap_by r m p (line_meaning l)) lines
 
 -- THE NUMBERS OF REFERENCES FROM HEAP TO HEAP
 
@@ -68,7 +68,7 @@ links_with r p m _ = m
 
 abbrev pub links_by : Read → Option ℕ → Links → List (List ℕ) → Links
 links_by r p m [] = m
-links_by r p m (l ∷ ls) = links_by r p (links_with r p m (said_by l)) ls
+links_by r p m (l ∷ ls) = links_by r p (links_with r p m (line_meaning l)) ls
 
 -- AS EDGES
 

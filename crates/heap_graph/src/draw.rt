@@ -6,7 +6,7 @@ ghost use Rattle.image_check.specs.Read.{IsSized};
 ghost use Rattle.image_check.specs.Place.{chunk_number};
 ghost use Rattle.image_check.specs.Tasks.{owner_at};
 ghost use Rattle.text_lines.specs.Lines.{lines_of};
-ghost use Rattle.heap_graph.specs.Drawn.{path, path_above, path_to, inside, point, titled, task_box, task_drawn, chunk_box, node_by, lies_elsewhere, nodes_in, lines_behind, edges_drawn, drawn_task, drawn_chunk, drawn, undrawn_after, all_drawn};
+ghost use Rattle.heap_graph.specs.Drawn.{path, path_above, path_to, inside, point, titled_box, task_box, task_drawn, chunk_box, node_by, lies_elsewhere, nodes_in, lines_behind, edges_drawn, drawn_task, drawn_chunk, drawn, undrawn_after, all_drawn};
 ghost use Rattle.heap_graph.specs.Pieces.{opened, optional_lines};
 ghost use Rattle.dot_text.specs.Dot.{Statement, braces_end, dot};
 
@@ -113,7 +113,7 @@ fn add_titled(
     title: &[u8],
     within: &[u8],
 ) -> Result<(), AllocError>
-    ensures { (ss : List Statement) → within.now ≡ flat_map dot ss → OnOk result (text.new.items ≡ text.old.items ++ dot (titled cluster.now name.now title.now ss)) }
+    ensures { (ss : List Statement) → within.now ≡ flat_map dot ss → OnOk result (text.new.items ≡ text.old.items ++ dot (titled_box cluster.now name.now title.now ss)) }
 {
     begin_cluster(text, cluster)?;
     set_attribute(text, b"label", title)?;

@@ -3,7 +3,7 @@
 ghost use Rattle.std.specs.Prelude.{◌≡◌, ◌++◌, drop, OnOk};
 ghost use Rattle.std.specs.List.{flat_map};
 ghost use Rattle.text_lines.specs.Lines.{words_of};
-ghost use Rattle.heap_graph.specs.Drawn.{word_field, first_of, kind_title};
+ghost use Rattle.heap_graph.specs.Drawn.{word_field, first_point, kind_title};
 
 use std::alloc::AllocError;
 use text_lines::next_word;
@@ -23,8 +23,8 @@ pub(crate) fn words_behind(line: &[u8], count: usize) -> &[u8]
 }
 
 // The first word, if there is one.
-fn first_of(line: &[u8]) -> &[u8]
-    ensures { result.now ≡ first_of (words_of line.now) }
+fn first_point(line: &[u8]) -> &[u8]
+    ensures { result.now ≡ first_point (words_of line.now) }
 {
     match next_word(line) {
         None => &[],
@@ -44,7 +44,7 @@ fn add_field(title: &mut Vec<u8>, word: &[u8]) -> Result<(), AllocError>
 pub(crate) fn add_kind_title(title: &mut Vec<u8>, line: &[u8]) -> Result<(), AllocError>
     ensures { OnOk result (title.new.items ≡ title.old.items ++ kind_title line.now) }
 {
-    add_field(title, first_of(words_behind(line, 4)))
+    add_field(title, first_point(words_behind(line, 4)))
 }
 
 /// Adds a field for each word of a line.

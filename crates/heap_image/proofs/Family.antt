@@ -1,5 +1,5 @@
 -- The tasks of a sound picture, as the verifier keeps them.
-use Rattle.heap_image.proofs.Common.{◌≡◌, ◌<◌, ℕ, zero, suc, Bool, true, false, List, refl, ap, sym, ◌∙◌, inl, inr, arith, Option, Some, None, slice_get, is_some, In, got_in, in_got, map_got, got_map, ImageState, Running, Waiting, Ended, ImageTask, Own, Above, Below, found, has, Tasks, parent_in, parent_of, is_above, relation_of, runs, is_running, is_running_state, LinksLead, IsAncestor, StandsAt, AreOrdered, met_ancestor, related, ImageData, TaskBefore, IsParent, ParentsLead, IsAbove, HasTask, IsRunning, KeepsToPath, IsSoundPicture}
+use Rattle.heap_image.proofs.Common.{◌≡◌, ◌<◌, ℕ, zero, suc, Bool, true, false, List, refl, ap, sym, ◌∙◌, inl, inr, arith, Option, Some, None, slice_get, is_some, In, got_in, in_got, map_got, got_map, ImageState, Running, Waiting, Ended, ImageTask, Own, Above, Below, found, has, Tasks, parent_of_row, image_parent, is_ancestor_of, relation_of, runs, is_running, is_running_state, LinksLead, IsAncestor, StandsAt, AreOrdered, met_ancestor, related, ImageData, TaskBefore, IsParent, ParentsLead, IsAbove, HasTask, IsRunning, KeepsToPath, IsSoundPicture}
 use Rattle.heap_image.proofs.Splits.{comes_first, one_place, same_item}
 use Rattle.heap_image.proofs.Tables.{table, found_in, found_from}
 
@@ -48,8 +48,8 @@ module _ (p : ImageData) (s : IsSoundPicture p) where
         parent_stands i q x.0 up.0.0 x.1 up.0.1 up.0.2 up.1;
   }
 
-  parent_found : (t q : ℕ) → IsParent p.tasks t q → parent_of es t ≡ Some q
-  parent_found t q h = ap parent_in (ap (found es) (sym h.2) ∙ task_found h.0 h.1) ∙ h.3
+  parent_found : (t q : ℕ) → IsParent p.tasks t q → image_parent es t ≡ Some q
+  parent_found t q h = ap parent_of_row (ap (found es) (sym h.2) ∙ task_found h.0 h.1) ∙ h.3
 
   leads_up : (n t a : ℕ) → ParentsLead n p.tasks t a → LinksLead n es t a
   leads_up zero t a h = parent_found t a h
@@ -58,7 +58,7 @@ module _ (p : ImageData) (s : IsSoundPicture p) where
   in_table : (a t : ℕ) → IsAbove p.tasks a t → IsAncestor es a t
   in_table a t h = (h.0, leads_up h.0 t a h.1)
 
-  pub ancestor_met : (a t : ℕ) → IsAbove p.tasks a t → is_above es a t ≡ true
+  pub ancestor_met : (a t : ℕ) → IsAbove p.tasks a t → is_ancestor_of es a t ≡ true
   ancestor_met a t h = met_ancestor es ordered a t (in_table a t h)
 
   first_task : (n t a : ℕ) → ParentsLead n p.tasks t a → HasTask p t

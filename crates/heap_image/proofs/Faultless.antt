@@ -1,5 +1,5 @@
 -- The verifier finds no fault in the text of a sound picture.
-use Rattle.heap_image.proofs.Common.{◌≡◌, ◌<◌, ◌≤◌, ◌+◌, ◌-◌, ◌^◌, ℕ, suc, true, false, List, [], ◌∷◌, ◌++◌, length, map, refl, ap, ◌∙◌, inl, inr, arith, None, nat_le, length-map, In, lines_of, most_bytes, ImageLine, Nothing, Title, OfTask, OfChunk, OfRemembered, OfEnd, Read, Whole, said_by, nothing_read, nothing_had, after_line, whole_of, cause_on, or_later, lines_fault, objects_in, Picked, ImageData, Rises, ObjectBefore, IsSoundPicture, text_of, object_said, SoundIsFaultless}
+use Rattle.heap_image.proofs.Common.{◌≡◌, ◌<◌, ◌≤◌, ◌+◌, ◌-◌, ◌^◌, ℕ, suc, true, false, List, [], ◌∷◌, ◌++◌, length, map, refl, ap, ◌∙◌, inl, inr, arith, None, nat_le, length-map, In, lines_of, most_bytes, ImageLine, Nothing, Title, OfTask, OfChunk, OfRemembered, OfEnd, Read, Whole, line_meaning, nothing_read, nothing_had, after_line, whole_of, cause_on, or_later_line, lines_fault, objects_in, Picked, ImageData, Rises, ObjectBefore, IsSoundPicture, text_of, object_said, SoundIsFaultless}
 use Rattle.heap_image.proofs.Splits.{behind_first, rises_from}
 use Rattle.heap_image.proofs.Told.{pictures_are_read, six_behind}
 use Rattle.heap_image.proofs.Passes.{none_left, fault_of, after_said, with_said, fault_said, lines_said, whole_said, more_left, faultless_items, read_items}
@@ -56,7 +56,7 @@ module _ (p : ImageData) (s : IsSoundPicture p) where
   more_tasks = more_left (map OfTask p.tasks) from_chunks more_chunks
 
   end_faultless : (n : ℕ) → fault_of w (fields_read p p.fields) n last_two ≡ None
-  end_faultless n = ap (λ c. or_later c n (fault_of w (after_line (fields_read p p.fields) (OfEnd (length p.objects))) (n + 1) (Nothing ∷ []))) (end_clear p s w (has_all p))
+  end_faultless n = ap (λ c. or_later_line c n (fault_of w (after_line (fields_read p p.fields) (OfEnd (length p.objects))) (n + 1) (Nothing ∷ []))) (end_clear p s w (has_all p))
 
   fields_faultless : (n : ℕ) → fault_of w (fields_read p []) n from_fields ≡ None
   fields_faultless n = faultless_items w OfRemembered (fields_read p) p.fields n last_two refl (field_step p s w (has_all p)) end_faultless
@@ -69,7 +69,7 @@ module _ (p : ImageData) (s : IsSoundPicture p) where
 
   all_faultless : fault_of w nothing_read 1 (Title ∷ behind_title p) ≡ None
   all_faultless =
-      ap (λ b. or_later (cause_on w nothing_read b Title) 1 (fault_of w (tasks_read []) 2 (behind_title p))) more_tasks
+      ap (λ b. or_later_line (cause_on w nothing_read b Title) 1 (fault_of w (tasks_read []) 2 (behind_title p))) more_tasks
       ∙ faultless_items w OfTask tasks_read p.tasks 2 from_chunks more_chunks (task_step p s w (has_all p)) chunks_faultless
 
   all_read : (after_said nothing_read (Title ∷ behind_title p)).objects ≡ object_table p.objects
@@ -82,7 +82,7 @@ module _ (p : ImageData) (s : IsSoundPicture p) where
 
   -- THE TEXT
 
-  said : map said_by (lines_of (text_of p)) ≡ Title ∷ behind_title p
+  said : map line_meaning (lines_of (text_of p)) ≡ Title ∷ behind_title p
   said =
       pictures_are_read p s.form (few p s)
       ∙ six_behind (Title ∷ []) (map OfTask p.tasks) (map OfChunk p.chunks) (map object_said p.objects) (map OfRemembered p.fields) (OfEnd (length p.objects) ∷ []) (Nothing ∷ [])

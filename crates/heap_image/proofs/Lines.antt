@@ -1,5 +1,5 @@
 -- Each line says what it was written for.
-use Rattle.heap_image.proofs.Common.{◌≡◌, ◌≤◌, ◌+◌, ◌-◌, ◌%◌, ℕ, suc, Bool, true, false, List, [], ◌∷◌, ◌++◌, length, map, arith, refl, ap, ◌∙◌, inl, inr, ℤ, Option, Some, None, nat_le, ◌==◌, decimal, signed_decimal, In, above_zero, fits_i64, spaced, IsProper, AreProper, words_spaced, spaced_utf8, ImageState, Running, Waiting, Ended, ImageTask, ImageChunk, ImageRemembered, ImageLine, Title, OfTask, OfChunk, OfRemembered, OfEnd, said_by, said_by_words, state_named, state_word, parent_named, is_rooted, most_chunk_words, is_chunk_size, is_kind, is_field_count, references_in, Picked, IsLong, HasFitParent, IsTaskForm, IsChunkForm, IsObjectForm, IsFieldForm, parent_word, kind_word, title_words, task_words, chunk_words, head_words, object_words, field_words, end_words, object_said}
+use Rattle.heap_image.proofs.Common.{◌≡◌, ◌≤◌, ◌+◌, ◌-◌, ◌%◌, ℕ, suc, Bool, true, false, List, [], ◌∷◌, ◌++◌, length, map, arith, refl, ap, ◌∙◌, inl, inr, ℤ, Option, Some, None, nat_le, ◌==◌, decimal, signed_decimal, In, above_zero, fits_i64, spaced, IsProper, AreProper, words_spaced, spaced_utf8, ImageState, Running, Waiting, Ended, ImageTask, ImageChunk, ImageRemembered, ImageLine, Title, OfTask, OfChunk, OfRemembered, OfEnd, line_meaning, said_by_words, state_named, state_word, parent_named, is_rooted, most_chunk_words, is_chunk_size, is_kind, is_field_count, references_in, Picked, IsLong, HasFitParent, IsTaskForm, IsChunkForm, IsObjectForm, IsFieldForm, parent_word, reference_kind_word, title_words, task_words, chunk_words, head_words, object_words, field_words, end_words, object_said}
 use Rattle.heap_image.proofs.Words.{proper_decimal, proper_signed, short_is_long, short_again, long_again, signed_again, decimal_no_hyphen}
 
 -- words written with single spaces between them say this
@@ -7,7 +7,7 @@ pub record Tells (ws : List (List ℕ)) (s : ImageLine) : Type 0 where
   pub proper : AreProper ws
   pub says : said_by_words ws ≡ s
 
-pub line_tells : (ws : List (List ℕ)) (s : ImageLine) → Tells ws s → said_by (spaced ws) ≡ s
+pub line_tells : (ws : List (List ℕ)) (s : ImageLine) → Tells ws s → line_meaning (spaced ws) ≡ s
 line_tells ws s t = rw (spaced_utf8 ws t.proper) (ap said_by_words (words_spaced ws t.proper) ∙ t.says)
 
 one : (n : ℕ) → IsLong n → AreProper (decimal n ∷ [])
@@ -91,11 +91,11 @@ numbers_proper : (ns : List ℤ) → ((n : ℤ) → In ns n → fits_i64 n ≡ t
 numbers_proper [] h = tt
 numbers_proper (n ∷ ns) h = (proper_signed n (h n (inl refl)), numbers_proper ns (λ v i. h v (inr i)))
 
-kind_proper : (m : Bool) → IsProper (kind_word m)
+kind_proper : (m : Bool) → IsProper (reference_kind_word m)
 kind_proper true = grind arith
 kind_proper false = grind arith
 
-kind_again : (m : Bool) → is_kind (kind_word m) ≡ true
+kind_again : (m : Bool) → is_kind (reference_kind_word m) ≡ true
 kind_again true = refl
 kind_again false = refl
 

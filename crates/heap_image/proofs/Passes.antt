@@ -1,5 +1,5 @@
 -- How the verifier passes lines of one kind.
-use Rattle.heap_image.proofs.Common.{◌≡◌, ◌<◌, ◌+◌, ℕ, Bool, true, false, List, [], ◌∷◌, ◌++◌, map, arith, refl, ap, sym, subst, ◌∙◌, inl, inr, append_assoc, append-nil, Option, Some, None, not, ◌||◌, In, is_last, ImageLine, ImagePosition, Read, Whole, ImageFault, said_by, rises, position_of, after_line, with_line, with_lines, cause_on, cause_by, is_misplaced, has_wrong_place, breaks_form, or_later, fault_from, after_lines}
+use Rattle.heap_image.proofs.Common.{◌≡◌, ◌<◌, ◌+◌, ℕ, Bool, true, false, List, [], ◌∷◌, ◌++◌, map, arith, refl, ap, sym, subst, ◌∙◌, inl, inr, append_assoc, append-nil, Option, Some, None, not, ◌||◌, In, is_last, ImageLine, ImagePosition, Read, Whole, ImageFault, line_meaning, rises, position_of, after_line, with_line, with_lines, cause_on, cause_by, is_misplaced, has_wrong_place, breaks_form, or_later_line, fault_from_line, after_lines}
 use Rattle.heap_image.proofs.Splits.{IsCut}
 
 -- STATEMENTS INSTEAD OF LINES
@@ -10,7 +10,7 @@ none_left (s ∷ ss) = false
 
 abbrev pub fault_of : Whole → Read → ℕ → List ImageLine → Option ImageFault
 fault_of w r n [] = None
-fault_of w r n (s ∷ ss) = or_later (cause_on w r (none_left ss) s) n (fault_of w (after_line r s) (n + 1) ss)
+fault_of w r n (s ∷ ss) = or_later_line (cause_on w r (none_left ss) s) n (fault_of w (after_line r s) (n + 1) ss)
 
 abbrev pub after_said : Read → List ImageLine → Read
 after_said r [] = r
@@ -20,23 +20,23 @@ abbrev pub with_said : Whole → List ImageLine → Whole
 with_said w [] = w
 with_said w (s ∷ ss) = with_said (with_line w s) ss
 
-last_said : (ls : List (List ℕ)) → is_last ls ≡ none_left (map said_by ls)
+last_said : (ls : List (List ℕ)) → is_last ls ≡ none_left (map line_meaning ls)
 last_said [] = refl
 last_said (l ∷ ls) = refl
 
-pub fault_said : (w : Whole) (r : Read) (n : ℕ) (ls : List (List ℕ)) → fault_from w r n ls ≡ fault_of w r n (map said_by ls)
+pub fault_said : (w : Whole) (r : Read) (n : ℕ) (ls : List (List ℕ)) → fault_from_line w r n ls ≡ fault_of w r n (map line_meaning ls)
 fault_said w r n [] = refl
 fault_said w r n (l ∷ ls) =
-    ap (λ b. or_later (cause_on w r b (said_by l)) n (fault_from w (after_line r (said_by l)) (n + 1) ls)) (last_said ls)
-    ∙ ap (or_later (cause_on w r (none_left (map said_by ls)) (said_by l)) n) (fault_said w (after_line r (said_by l)) (n + 1) ls)
+    ap (λ b. or_later_line (cause_on w r b (line_meaning l)) n (fault_from_line w (after_line r (line_meaning l)) (n + 1) ls)) (last_said ls)
+    ∙ ap (or_later_line (cause_on w r (none_left (map line_meaning ls)) (line_meaning l)) n) (fault_said w (after_line r (line_meaning l)) (n + 1) ls)
 
-pub lines_said : (r : Read) (ls : List (List ℕ)) → after_lines r ls ≡ after_said r (map said_by ls)
+pub lines_said : (r : Read) (ls : List (List ℕ)) → after_lines r ls ≡ after_said r (map line_meaning ls)
 lines_said r [] = refl
-lines_said r (l ∷ ls) = lines_said (after_line r (said_by l)) ls
+lines_said r (l ∷ ls) = lines_said (after_line r (line_meaning l)) ls
 
-pub whole_said : (w : Whole) (ls : List (List ℕ)) → with_lines w ls ≡ with_said w (map said_by ls)
+pub whole_said : (w : Whole) (ls : List (List ℕ)) → with_lines w ls ≡ with_said w (map line_meaning ls)
 whole_said w [] = refl
-whole_said w (l ∷ ls) = whole_said (with_line w (said_by l)) ls
+whole_said w (l ∷ ls) = whole_said (with_line w (line_meaning l)) ls
 
 -- LINES OF ONE KIND
 
@@ -59,8 +59,8 @@ module _ {X : Type 0} (w : Whole) (say : X → ImageLine) (state : List X → Re
   faultless_on front [] n rest more steps behind = subst (λ f. fault_of w (state f) n rest ≡ None) (append-nil front) (behind n)
   faultless_on front (x ∷ left) n rest more steps behind =
       let step = steps front x left (record { cut = refl }) in
-      ap (λ b. or_later (cause_on w (state front) b (say x)) n (fault_of w (after_line (state front) (say x)) (n + 1) (map say left ++ rest))) (more_left (map say left) rest more)
-      ∙ ap (λ c. or_later c n (fault_of w (after_line (state front) (say x)) (n + 1) (map say left ++ rest))) step.clear
+      ap (λ b. or_later_line (cause_on w (state front) b (say x)) n (fault_of w (after_line (state front) (say x)) (n + 1) (map say left ++ rest))) (more_left (map say left) rest more)
+      ∙ ap (λ c. or_later_line c n (fault_of w (after_line (state front) (say x)) (n + 1) (map say left ++ rest))) step.clear
       ∙ ap (λ r. fault_of w r (n + 1) (map say left ++ rest)) step.reads
       ∙ faultless_on (front ++ x ∷ []) left (n + 1) rest more
       (λ a y b c. steps a y b (record { cut = shifted front x left ∙ c.cut }))

@@ -1,5 +1,5 @@
 -- An object of a sound picture has a unique birth, and doesn't overlap the previous object.
-use Rattle.heap_image.proofs.Common.{◌≡◌, ◌<◌, ◌≤◌, Bool, true, false, List, refl, sym, arith, Option, None, ◌==◌, nat_lt, and_parts, eqb-true, le-ltb, In, ImageBirth, ImageChunk, ImageExtent, chunk_number, offset, is_among, same_birth, overlaps, is_crowded, Picked, ImageData, ObjectBefore, end_of, PickedDontOverlap, IsSoundPicture, as_read}
+use Rattle.heap_image.proofs.Common.{◌≡◌, ◌<◌, ◌≤◌, Bool, true, false, List, refl, sym, arith, Option, None, ◌==◌, nat_lt, and_parts, eqb-true, le-ltb, In, ImageBirth, ImageChunk, ImageExtent, chunk_number, offset, is_among, same_birth, overlaps, is_crowded, Picked, ImageData, ObjectBefore, picked_end, PickedDontOverlap, IsSoundPicture, as_read}
 use Rattle.heap_image.proofs.Splits.{IsCut, in_front, in_middle, before_it}
 use Rattle.heap_image.proofs.Tables.{none_among}
 use Rattle.heap_image.proofs.Passes.{last_from}
@@ -20,7 +20,7 @@ other_birth x y ne = other_birth_by_cases (same_birth (x.task, x.count) (y.task,
 -- POSITIONS
 
 apart_by : (o q : Picked) (b : Bool) → (chunk_number o.address == chunk_number q.address) ≡ b → o.address < q.address → PickedDontOverlap o q → overlaps (ends_at o) (as_read q) ≡ false
-apart_by o q true e lt h = let g : nat_lt (offset q.address) (end_of o) ≡ false = le-ltb (offset q.address) (end_of o) (h lt (eqb-true (chunk_number o.address) (chunk_number q.address) e)) in rw (e, g) refl
+apart_by o q true e lt h = let g : nat_lt (offset q.address) (picked_end o) ≡ false = le-ltb (offset q.address) (picked_end o) (h lt (eqb-true (chunk_number o.address) (chunk_number q.address) e)) in rw (e, g) refl
 apart_by o q false e lt h = rw e refl
 
 module _ (p : ImageData) (s : IsSoundPicture p) (a : List Picked) (o : Picked) (b : List Picked) (c : IsCut p.objects a o b) where
@@ -40,5 +40,5 @@ module _ (p : ImageData) (s : IsSoundPicture p) (a : List Picked) (o : Picked) (
       last_from ends_at (λ (e : Option ImageExtent). overlaps e (as_read o) ≡ false) None a refl (λ y i.
       apart_by y o (chunk_number y.address == chunk_number o.address) refl (earlier y i) (s.apart y o (in_front p.objects a o b c y i) (in_middle p.objects a o b c)))
 
-  pub uncrowded : (k : ImageChunk) → end_of o ≤ k.words → is_crowded (objects_read p a) k (as_read o) ≡ false
-  uncrowded k h = let e : nat_lt k.words (end_of o) ≡ false = le-ltb k.words (end_of o) h in rw e overlaps_none
+  pub uncrowded : (k : ImageChunk) → picked_end o ≤ k.words → is_crowded (objects_read p a) k (as_read o) ≡ false
+  uncrowded k h = let e : nat_lt k.words (picked_end o) ≡ false = le-ltb k.words (picked_end o) h in rw e overlaps_none

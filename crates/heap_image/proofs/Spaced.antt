@@ -1,5 +1,5 @@
 -- How lines are put together.
-use Rattle.heap_image.proofs.Common.{◌≡◌, ℕ, ℤ, List, [], ◌∷◌, ◌++◌, length, map, ap, sym, ◌∙◌, append_assoc, append-nil, codes, Result, Ok, Err, OnOk, if◌then◌else◌, Option, Some, None, is_ok, flat_map, decimal, signed_decimal, flat_map-append, flat_map-map, spaced, ImageTask, ImageState, state_word, Picked, line, kind_word, parent_word, task_line, object_line, head_words, object_words, reference_text, number_text}
+use Rattle.heap_image.proofs.Common.{◌≡◌, ℕ, ℤ, List, [], ◌∷◌, ◌++◌, length, map, ap, sym, ◌∙◌, append_assoc, append-nil, codes, Result, Ok, Err, OnOk, if◌then◌else◌, Option, Some, None, is_ok, flat_map, decimal, signed_decimal, flat_map-append, flat_map-map, spaced, ImageTask, ImageState, state_word, Picked, line, reference_kind_word, parent_word, task_line, object_line, head_words, object_words, reference_text, number_text}
 
 -- a word after a space
 abbrev behind_space : List ℕ → List ℕ
@@ -22,7 +22,7 @@ fields_spaced rs ns =
 
 -- an object's words after the first, before its fields
 abbrev more_head : Picked → List (List ℕ)
-more_head o = decimal o.address ∷ decimal o.birth.task ∷ decimal o.birth.count ∷ kind_word o.mutable ∷ decimal (length o.references) ∷ decimal (length o.numbers) ∷ []
+more_head o = decimal o.address ∷ decimal o.birth.task ∷ decimal o.birth.count ∷ reference_kind_word o.mutable ∷ decimal (length o.references) ∷ decimal (length o.numbers) ∷ []
 
 pub object_spaced : (o : Picked) → spaced (object_words o) ≡ spaced (head_words o) ++ (flat_map reference_text o.references ++ flat_map number_text o.numbers)
 object_spaced o =

@@ -1,16 +1,16 @@
 -- The lines of a picture's text say all of it.
-use Rattle.heap_image.proofs.Common.{◌≡◌, ℕ, List, [], ◌∷◌, ◌++◌, length, map, refl, ap, sym, ◌∙◌, inl, inr, append_assoc, append-nil, flat_map, is_utf8-from_IsUtf8, IsUtf8-nil, In, lines_of, line_first, ImageLine, Nothing, Title, OfTask, OfChunk, OfRemembered, OfEnd, said_by, IsLong, line, title_words, task_words, chunk_words, object_words, field_words, end_words, task_line, chunk_line, object_line, field_line, object_said, PicturesAreRead}
+use Rattle.heap_image.proofs.Common.{◌≡◌, ℕ, List, [], ◌∷◌, ◌++◌, length, map, refl, ap, sym, ◌∙◌, inl, inr, append_assoc, append-nil, flat_map, is_utf8-from_IsUtf8, IsUtf8-nil, In, lines_of, line_first, ImageLine, Nothing, Title, OfTask, OfChunk, OfRemembered, OfEnd, line_meaning, IsLong, line, title_words, task_words, chunk_words, object_words, field_words, end_words, task_line, chunk_line, object_line, field_line, object_said, PicturesAreRead}
 use Rattle.heap_image.proofs.Lines.{Tells, line_tells, title_tells, task_tells, chunk_tells, object_tells, field_tells, end_tells}
 
 -- all that the lines of a text say
 abbrev pub said_in : List ℕ → List ImageLine
-said_in text = map said_by (lines_of text)
+said_in text = map line_meaning (lines_of text)
 
 nothing_behind : said_in [] ≡ Nothing ∷ []
 nothing_behind = ap (λ s. s ∷ []) (rw (is_utf8-from_IsUtf8 [] IsUtf8-nil) refl)
 
 first_said : (ws : List (List ℕ)) (s : ImageLine) (rest : List ℕ) → Tells ws s → said_in (line ws ++ rest) ≡ s ∷ said_in rest
-first_said ws s rest t = ap (map said_by) (line_first ws rest t.proper) ∙ ap (λ x. x ∷ said_in rest) (line_tells ws s t)
+first_said ws s rest t = ap (map line_meaning) (line_first ws rest t.proper) ∙ ap (λ x. x ∷ said_in rest) (line_tells ws s t)
 
 -- a line for each item
 items_said : {X : Type 0} (words : X → List (List ℕ)) (say : X → ImageLine) (xs : List X) (rest : List ℕ) → ((x : X) → In xs x → Tells (words x) (say x))

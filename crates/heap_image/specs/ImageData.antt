@@ -64,19 +64,19 @@ abbrev pub IsOwned : ImageData → ℕ → ℕ → Type 0
 IsOwned p a t = (c : ImageChunk) × LiesIn p a c × (c.owner ≡ t)
 
 -- where an object ends in its chunk, after its header, its birth and its fields
-abbrev pub end_of : Picked → ℕ
-end_of o = offset o.address + 2 + length o.references + length o.numbers
+abbrev pub picked_end : Picked → ℕ
+picked_end o = offset o.address + 2 + length o.references + length o.numbers
 
 -- an object lies inside a chunk, and the chunk's owner isn't running
 pub record IsPlaced (p : ImageData) (o : Picked) : Type 0 where
   pub chunk : ImageChunk
   pub lies : LiesIn p o.address chunk
-  pub inside : end_of o ≤ chunk.words
+  pub inside : picked_end o ≤ chunk.words
   pub rests : IsRunning p chunk.owner → ⊥
 
 -- two objects in one chunk don't overlap
 abbrev pub PickedDontOverlap : Picked → Picked → Type 0
-PickedDontOverlap o q = o.address < q.address → chunk_number o.address ≡ chunk_number q.address → end_of o ≤ offset q.address
+PickedDontOverlap o q = o.address < q.address → chunk_number o.address ≡ chunk_number q.address → picked_end o ≤ offset q.address
 
 -- REFERENCES
 

@@ -17,9 +17,9 @@ abbrev pub parent_word : Option ℕ → List ℕ
 parent_word None = codes "-"
 parent_word (Some p) = decimal p
 
-abbrev pub kind_word : Bool → List ℕ
-kind_word true = codes "mut"
-kind_word false = codes "imm"
+abbrev pub reference_kind_word : Bool → List ℕ
+reference_kind_word true = codes "mut"
+reference_kind_word false = codes "imm"
 
 -- THE WORDS OF A LINE
 
@@ -35,7 +35,7 @@ chunk_words c = codes "chunk" ∷ decimal c.number ∷ decimal c.owner ∷ decim
 -- an object's words before its fields
 abbrev pub head_words : Picked → List (List ℕ)
 head_words o =
-    codes "object" ∷ decimal o.address ∷ decimal o.birth.task ∷ decimal o.birth.count ∷ kind_word o.mutable
+    codes "object" ∷ decimal o.address ∷ decimal o.birth.task ∷ decimal o.birth.count ∷ reference_kind_word o.mutable
     ∷ decimal (length o.references) ∷ decimal (length o.numbers) ∷ []
 
 abbrev pub object_words : Picked → List (List ℕ)

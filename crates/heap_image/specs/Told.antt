@@ -4,8 +4,8 @@ use Rattle.text_lines.specs.Lines.{lines_of, most_bytes}
 use Rattle.image_check.specs.declared.line.ImageObject.{ImageObject}
 use Rattle.image_check.specs.declared.line.ImageLine.{ImageLine}
 use Rattle.image_check.specs.declared.line.ImageLine.TheVariants.{Nothing, Title, OfTask, OfChunk, OfObject, OfRemembered, OfEnd}
-use Rattle.image_check.specs.Line.{said_by}
-use Rattle.image_check.specs.ImageFault.{image_fault, too_long, objects_in}
+use Rattle.image_check.specs.Line.{line_meaning}
+use Rattle.image_check.specs.ImageFault.{image_fault, image_too_long, objects_in}
 use Rattle.heap_image.specs.declared.picture.Picked.{Picked}
 use Rattle.heap_image.specs.declared.picture.ImageData.{ImageData}
 use Rattle.heap_image.specs.Form.{IsLong, IsInForm}
@@ -31,12 +31,12 @@ all_said p =
 
 -- the lines of its text say all of a picture, in order, and nothing else; nothing follows the last line feed
 abbrev pub PicturesAreRead : Type 0
-PicturesAreRead = (p : ImageData) → IsInForm p → IsLong (length p.objects) → map said_by (lines_of (text_of p)) ≡ all_said p ++ Nothing ∷ []
+PicturesAreRead = (p : ImageData) → IsInForm p → IsLong (length p.objects) → map line_meaning (lines_of (text_of p)) ≡ all_said p ++ Nothing ∷ []
 
 -- the verifier finds no fault in the text of a picture unless it is too long, and counts its objects
 pub record IsFaultless (p : ImageData) : Type 0 where
   pub fits : length (text_of p) ≤ most_bytes → image_fault (text_of p) ≡ None
-  pub long : most_bytes < length (text_of p) → image_fault (text_of p) ≡ Some too_long
+  pub long : most_bytes < length (text_of p) → image_fault (text_of p) ≡ Some image_too_long
   pub counted : objects_in (text_of p) ≡ length p.objects
 
 abbrev pub SoundIsFaultless : Type 0

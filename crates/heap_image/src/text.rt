@@ -4,7 +4,7 @@ ghost use Rattle.std.specs.Prelude.{◌≡◌, ◌++◌, IfOk, OnOk};
 ghost use Rattle.std.specs.List.{flat_map};
 ghost use Rattle.std.specs.String.{string_bytes};
 ghost use Rattle.run_trace.specs.Line.{spaced};
-ghost use Rattle.heap_image.specs.Text.{kind_word, head_words, end_words, reference_text, number_text, line, task_line, chunk_line, object_line, field_line, text_of};
+ghost use Rattle.heap_image.specs.Text.{reference_kind_word, head_words, end_words, reference_text, number_text, line, task_line, chunk_line, object_line, field_line, text_of};
 
 use crate::picture::{ImageData, Picked};
 use image_check::{ImageChunk, ImageRemembered, ImageTask};
@@ -12,7 +12,7 @@ use std::alloc::{AllocError, Global};
 
 // The word for whether an object is mutable.
 fn kind_text(mutable: bool) -> &'static str
-    ensures { result.now ≡ kind_word mutable }
+    ensures { result.now ≡ reference_kind_word mutable }
 {
     if mutable { "mut" } else { "imm" }
 }

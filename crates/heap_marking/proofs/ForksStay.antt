@@ -1,5 +1,5 @@
 -- What an accepted entry keeps of forks and of the heaps of waiting tasks.
-use Rattle.heap_marking.proofs.Common.{◌≡◌, ℕ, zero, suc, ◌+◌, ◌<◌, ◌≤◌, Bool, true, false, cond, Option, Some, None, List, [], ◌∷◌, ◌++◌, slice_get, slice_set, inl, inr, refl, ap, sym, subst, ◌∙◌, arith, is_none, nat_lt, cases_eq, got_other, got_same, ProgramText, Task, MachineState, asked, can_step, is_waiting, step, waits, Kind, Took, Ran, Chunk, Begin, End, PutOff, Mark, More, Sweep, Fuel, EntryValue, SettingsValue, Heap, Ledger, Pool, chunk_words, collected, heap_of, in_use, is_small, or_fresh, swept_heap, with_heap, allocated_in, on_asked, stepped_to, task_step, task_steps, after, after_kind, chunk_units, kind_refusal, refusal, with_chunk, SoundAt, SoundLedger, entry_tells, out_tells, stepped_machine, can_tells, step_leaves, task_step_sound, with_heap_any, wait_run, Touched, joins_grow}
+use Rattle.heap_marking.proofs.Common.{◌≡◌, ℕ, zero, suc, ◌+◌, ◌<◌, ◌≤◌, Bool, true, false, cond, Option, Some, None, List, [], ◌∷◌, ◌++◌, slice_get, slice_set, inl, inr, refl, ap, sym, subst, ◌∙◌, arith, is_none, nat_lt, cases_eq, got_other, got_same, ProgramText, Task, MachineState, asked, can_step, is_waiting, step, waits, Kind, Took, Ran, Chunk, Begin, End, PutOff, Mark, More, Sweep, Fuel, EntryValue, SettingsValue, Heap, Ledger, Pool, chunk_words, collected, heap_of, in_use, is_small_size, or_fresh, swept_heap, with_heap, allocated_in, on_asked, stepped_to, task_step, task_steps, after, after_kind, chunk_units, kind_refusal, refusal, with_chunk, SoundAt, SoundLedger, entry_tells, out_tells, stepped_machine, can_tells, step_leaves, task_step_sound, with_heap_any, wait_run, Touched, joins_grow}
 use Rattle.heap_marking.proofs.StepsKeepForks.{TreeMoves, step_moves, tree_same}
 
 -- a heap that is marked or swept stays so
@@ -109,7 +109,7 @@ chunk_touch h n false = (λ z. z, λ z. z)
 
 chunk_moves : (l : Ledger) (t : ℕ) (next : Option ℕ) (full : Bool) → Moves l (cond full (record l { end = Some (Pool (in_use l)) }) (with_heap l t (with_chunk next)))
 chunk_moves l t next true = record { tree = tree_same l.machine.tasks; grows = λ u x at. (x, at, omega arith); heaps = λ u x at w at'. (λ h. h, λ h. h) }
-chunk_moves l t next false = heap_moves l t (with_chunk next) (λ h. chunk_touch h (chunk_units next) (on_asked next is_small))
+chunk_moves l t next false = heap_moves l t (with_chunk next) (λ h. chunk_touch h (chunk_units next) (on_asked next is_small_size))
 
 kind_moves : (p : ProgramText) (s : SettingsValue) (l : Ledger) (w : ℕ) (kind : Kind) → SoundLedger l → is_none (kind_refusal p s l w kind) ≡ true → Moves l (after_kind p s l w kind)
 kind_moves p s l w (Took t) S h = heap_moves l t _ (λ g. (λ z. z, λ z. z))

@@ -1,5 +1,5 @@
 -- What the shared value says of forks and markings, before the run's end.
-use Rattle.heap_marking.proofs.Common.{◌≡◌, ℕ, ◌<◌, ◌&&◌, not, Bool, true, false, Option, Some, None, option_map, slice_get, inl, inr, refl, ap, sym, subst, ◌∙◌, ◌-◌, ◌^◌, arith, is_some, is_none, nat_le, ap₂, false≢true, both_ways, and_parts, cases_lt, le-leb, false_from_ne_true, none_is, TaskStatus, Running, Waiting, Ended, Joined, MachineState, is_joined, is_over, is_waiting, joined, parents, waiting, field_limit, EntryValue, Ledger, NotMarking, NotWaiting, Swept, after, refused_unless, heap_of, words_in, ledger_of, tasks_of, machine_is_run, legal_sound, counted, TaskNode, state_of as state_in, StandsFor, state_by, or_else, Enters, IsSharedValue, SharedValue, accounts, marks_at, noted_in, tree_counts_of, value_of, accounts_then, node_now, stands_now, parent_is, option_is, marking_cause, waiting_cause, IsForkIn, IsForkOf, KeepsPace, PacesStay, is_going, is_live_child, is_state_joined, is_to_begin}
+use Rattle.heap_marking.proofs.Common.{◌≡◌, ℕ, ◌<◌, ◌&&◌, not, Bool, true, false, Option, Some, None, option_map, slice_get, inl, inr, refl, ap, sym, subst, ◌∙◌, ◌-◌, ◌^◌, arith, is_some, is_none, nat_le, ap₂, false≢true, both_ways, and_parts, cases_lt, le-leb, false_from_ne_true, none_is, TaskStatus, Running, Waiting, Ended, Joined, MachineState, is_joined, is_over, is_waiting, joined, parents, waiting, field_limit, EntryValue, Ledger, NotMarking, NotWaiting, Swept, after, refused_unless, heap_of, words_in, ledger_of, tasks_of, machine_is_run, legal_sound, saturating_words, TaskNode, state_of as state_in, StandsFor, state_by, or_else, Enters, IsSharedValue, SharedValue, accounts, marks_at, noted_in, tree_counts_of, value_of, accounts_then, node_now, stands_now, parent_is, option_is, marking_cause, waiting_cause, IsForkIn, IsForkOf, KeepsPace, PacesStay, is_going, is_live_child, is_state_joined, is_to_begin}
 use Rattle.heap_marking.specs.declared.pace.Fork.{Fork}
 use Rattle.heap_marking.proofs.ForksStay.{entry_moves}
 use Rattle.heap_marking.proofs.MarkCauses.{marked_by, waits_told}
@@ -22,10 +22,10 @@ free_by true k s e = is_free k ∙ e
     is_free true = refl
     is_free false = refl
 
-counted_le : (a n : ℕ) → a < 2 ^ 32 → nat_le a (counted n) ≡ nat_le a n
+counted_le : (a n : ℕ) → a < 2 ^ 32 → nat_le a (saturating_words n) ≡ nat_le a n
 counted_le a n few = elim (cases_lt n (2 ^ 64 - 1)) [
-  | inl lt ↦ ap (nat_le a) (let q : counted n ≡ n = omega (arith, lt) in q)
-  | inr ge ↦ le-leb a (counted n) (omega (arith, ge, few)) ∙ sym (le-leb a n (omega (arith, few, ge)))
+  | inl lt ↦ ap (nat_le a) (let q : saturating_words n ≡ n = omega (arith, lt) in q)
+  | inr ge ↦ le-leb a (saturating_words n) (omega (arith, ge, few)) ∙ sym (le-leb a n (omega (arith, few, ge)))
 ]
 
 module _ (w : SharedValue) (I : IsSharedValue w) (on : (accounts w).end ≡ None) where
@@ -105,7 +105,7 @@ module _ (w : SharedValue) (I : IsSharedValue w) (on : (accounts w).end ≡ None
   begin_words f on m = begins_with f on ∙ ap (λ b. not b && nat_le w.settings.inner (words_in l.machine (heap_of l f.task))) m
 
   -- the words saturate at 64 bits
-  pub begin_counted : (f : Fork) → is_going l f ≡ true → is_some (marks_at w.marks f.task) ≡ false → is_to_begin w.settings l f ≡ nat_le w.settings.inner (counted (words_in l.machine (heap_of l f.task)))
+  pub begin_counted : (f : Fork) → is_going l f ≡ true → is_some (marks_at w.marks f.task) ≡ false → is_to_begin w.settings l f ≡ nat_le w.settings.inner (saturating_words (words_in l.machine (heap_of l f.task)))
   begin_counted f on m = begin_words f on m ∙ sym (counted_le w.settings.inner (words_in l.machine (heap_of l f.task)) (let h = I.settings.inner.1 in omega (arith, h)))
 
   -- THE FORK on which a task waits

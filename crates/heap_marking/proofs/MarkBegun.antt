@@ -1,6 +1,6 @@
 -- A marking of a waiting heap begins, from the registers and the roots as they are now: it can go on to the whole
 -- snapshot.
-use Rattle.heap_marking.proofs.Common.{◌≡◌, ◌⊎◌, ◌↔◌, ℕ, suc, ◌+◌, ◌<◌, ◌≤◌, ◌++◌, true, Some, None, List, [], ◌∷◌, length, slice_get, inl, inr, refl, ap, sym, subst, ◌∙◌, contains_from_in, in_append_cases, in_append_left, in_append_right, in_from_contains, reached_more, reached_start, reached_within, is_waiting, wait_there, waiting_stops, Ledger, heap_of, legal_sound, Addr, cell_of, object_count, ChunkValue, HasObjectAt, RefersTo, Located, CallFrame, IsMarking, IsOf, MarkingValue, Fork, IsInSnapshot, Starts, Rests, legal_idle, In, Memory, object_name, objects, objects_in, HoldsAt, IsRoot, LeadsAt, CanGoOnMarking, kept, IsReachedNow, StartsNow, snapshot_now, ParkedTask, chunks_of, SharedValue, accounts, belongings_in, rest_at, value_of, HeapForm, IsSharedValue, stands_now, objects_counted, belongings_chunks, MarksBegin}
+use Rattle.heap_marking.proofs.Common.{◌≡◌, ◌⊎◌, ◌↔◌, ℕ, suc, ◌+◌, ◌<◌, ◌≤◌, ◌++◌, true, Some, None, List, [], ◌∷◌, length, slice_get, inl, inr, refl, ap, sym, subst, ◌∙◌, contains_from_in, in_append_cases, in_append_left, in_append_right, in_from_contains, reached_more, reached_start, reached_within, is_waiting, wait_there, waiting_stops, Ledger, heap_of, legal_sound, Addr, cell_of, object_count, ChunkValue, HasObjectAt, RefersTo, Located, CallFrame, IsMarking, IsOf, MarkingValue, Fork, IsInSnapshot, Starts, Rests, legal_idle, In, Memory, object_name, objects, objects_of_chunks, HoldsAt, IsRoot, LeadsAt, CanGoOnMarking, kept, IsReachedNow, StartsNow, snapshot_now, ParkedTask, chunks_of, SharedValue, accounts, belongings_in, rest_at, value_of, HeapForm, IsSharedValue, stands_now, objects_counted, belongings_chunks, MarksBegin}
 use Rattle.heap_marking.proofs.HeapClosed.{held_seen, seen_held}
 
 pub length_chunks : (cs : List ChunkValue) → length (chunks_of cs) ≡ length cs
@@ -31,11 +31,11 @@ module _ (w : SharedValue) (I : IsSharedValue w) (on : (accounts w).end ≡ None
   abbrev chunks_are : (v.belongings t).chunks ≡ chunks_of ks
   chunks_are = chunks_at_rest w t r there
 
-  pub to_belongings : (o : Located) → In (objects_in (chunks_of ks)) o → In (objects v t) o
-  to_belongings o i = subst (λ cs. In (objects_in cs) o) (sym chunks_are) i
+  pub to_belongings : (o : Located) → In (objects_of_chunks (chunks_of ks)) o → In (objects v t) o
+  to_belongings o i = subst (λ cs. In (objects_of_chunks cs) o) (sym chunks_are) i
 
-  pub from_belongings : (o : Located) → In (objects v t) o → In (objects_in (chunks_of ks)) o
-  from_belongings o i = subst (λ cs. In (objects_in cs) o) chunks_are i
+  pub from_belongings : (o : Located) → In (objects v t) o → In (objects_of_chunks (chunks_of ks)) o
+  from_belongings o i = subst (λ cs. In (objects_of_chunks cs) o) chunks_are i
 
   pub is_held : (o : Located) → In (objects v t) o → HasObjectAt ks o.at
   is_held o i = (seen_held ks form.shaped.apart o (from_belongings o i)).0
@@ -109,7 +109,7 @@ module _ (w : SharedValue) (I : IsSharedValue w) (on : (accounts w).end ≡ None
     -- what the marking has found at that point
     pub begun_goes_on : (m : MarkingValue) → IsOf ks (kept v t) m → IsMarking f (kept v t) m → CanGoOnMarking v t (heap_of l t).snapshot m
     begun_goes_on m own marks =
-        let count : object_count ks ≡ length (objects v t) = objects_counted ks form.tidy ∙ ap (λ cs. length (objects_in cs)) (sym chunks_are) in
+        let count : object_count ks ≡ length (objects v t) = objects_counted ks form.tidy ∙ ap (λ cs. length (objects_of_chunks cs)) (sym chunks_are) in
         let chunks : length ks ≡ length (v.belongings t).chunks = sym (length_chunks ks) ∙ ap (λ cs. length cs) (sym chunks_are) in
         record {
           fork = f;

@@ -1,6 +1,5 @@
 -- Entries that mark and sweep are refused as the shared value says.
-use Rattle.heap_marking.proofs.Common.{◌≡◌, ℕ, ◌==◌, ◌&&◌, not, Bool, true, false, Option, Some, None, is_some, nat_le, option_map, slice_get, refl, ap, sym, ◌∙◌, TaskStatus, Running, Waiting, Ended, Joined, is_waiting, waits, Ledger, Refused, Left, Marked, Marking, NotDue, NotMarking, NotWaiting, Swept, refused_if, refused_unless, heap_of, left_in, marked_in, sweep_number, words_in, TaskNode, state_of, MarkingValue, MarkedBy, Memory, StandsFor, state_by, or_else, SharedValue, accounts, marks_at, noted_in, tree_counts_of, value_of, IsSharedValue, node_now, stands_now, MarksRefuse, is_state_waiting}
-use Rattle.core_invariant.specs.below.run_ledger.{counted}
+use Rattle.heap_marking.proofs.Common.{◌≡◌, ℕ, ◌==◌, ◌&&◌, not, Bool, true, false, Option, Some, None, is_some, nat_le, option_map, slice_get, refl, ap, sym, ◌∙◌, TaskStatus, Running, Waiting, Ended, Joined, is_waiting, waits, Ledger, Refused, Left, Marked, Marking, NotDue, NotMarking, NotWaiting, Swept, refused_if, refused_unless, heap_of, left_in, marked_in, sweep_number, words_in, TaskNode, state_of, MarkingValue, MarkedBy, Memory, StandsFor, state_by, or_else, SharedValue, accounts, marks_at, noted_in, tree_counts_of, value_of, IsSharedValue, node_now, stands_now, MarksRefuse, is_state_waiting, unless_wrong_number}
 
 -- WAITING TASKS
 
@@ -58,7 +57,7 @@ marks_refuse w k t I on =
           ∙ ap (λ b. or_else (or_else (refused_unless b NotWaiting (refused_unless (noted_in (slice_get w.sets t)).keeps Swept None)) (refused_unless (is_some (marks_at w.marks t)) NotMarking None)) (refused_if (left_in (heap_of l t) == 0) Marked None)) (sym waits);
       sweep = λ given.
           marking_is (is_waiting (slice_get l.machine.tasks t)) (heap_of l t).swept (noted_in (slice_get w.sets t)).keeps (is_some (heap_of l t).marked) (is_some (marks_at w.marks t))
-          (refused_unless (left_in (heap_of l t) == 0) (Left (marked_in (heap_of l t))) (counted given (sweep_number l.machine (heap_of l t)) None)) keeps marked
+          (refused_unless (left_in (heap_of l t) == 0) (Left (marked_in (heap_of l t))) (unless_wrong_number given (sweep_number l.machine (heap_of l t)) None)) keeps marked
           ∙ ap (λ b. or_else (or_else (refused_unless b NotWaiting (refused_unless (noted_in (slice_get w.sets t)).keeps Swept None)) (refused_unless (is_some (marks_at w.marks t)) NotMarking None)) (
-          refused_unless (left_in (heap_of l t) == 0) (Left (marked_in (heap_of l t))) (counted given (sweep_number l.machine (heap_of l t)) None))) (sym waits);
+          refused_unless (left_in (heap_of l t) == 0) (Left (marked_in (heap_of l t))) (unless_wrong_number given (sweep_number l.machine (heap_of l t)) None))) (sym waits);
     }

@@ -1,6 +1,6 @@
 -- Entries that mark a heap: why they are refused, and what they keep.
 use Rattle.std.proofs.Common.{le-leb}
-use Rattle.heap_marking.proofs.Common.{◌≡◌, ◌==◌, ◌↔◌, ℕ, ◌+◌, ◌-◌, ◌^◌, ◌<◌, ◌≤◌, arith, All, Bool, true, false, min, Option, Some, None, List, length, is_none, is_some, slice_get, slice_set, take, inl, inr, refl, ap, sym, subst, ◌∙◌, option_flatten, IfSome, cases_lt, got_other, got_same, got_within, none_of, got_set, Mark, More, EntryValue, SettingsValue, Heap, Ledger, Refused, Marked, Marking, NotDue, after, kind_refusal, refused_if, refused_unless, heap_of, left_in, or_fresh, with_heap, words_in, SoundLedger, entry_tells, legal_sound, heap_there, Addr, held_words, HasObjectAt, counted, AreFields, SetOf, IsAllMarked, IsMarking, IsOf, MarkingValue, marked_of, Fork, IsSince, heap_then, with_at, CanGoOnMarking, kept, kept_of, ParkedTask, refs_in, first_cause, or_else, refused, AllFit, heaps_of, sources_of, SharedValue, accounts, marks_at, noted_in, rest_at, value_of, IsSharedValue, words_are, entry_on, found_first, nothing_first, stands_now, on_is, refused_is, marking_cause, waiting_cause, words_cause, marked_more, MarkingHasBegun, starts_by, starts_in, starts_of}
+use Rattle.heap_marking.proofs.Common.{◌≡◌, ◌==◌, ◌↔◌, ℕ, ◌+◌, ◌-◌, ◌^◌, ◌<◌, ◌≤◌, arith, All, Bool, true, false, min, Option, Some, None, List, length, is_none, is_some, slice_get, slice_set, take, inl, inr, refl, ap, sym, subst, ◌∙◌, option_flatten, IfSome, cases_lt, got_other, got_same, got_within, none_of, got_set, Mark, More, EntryValue, SettingsValue, Heap, Ledger, Refused, Marked, Marking, NotDue, after, kind_refusal, refused_if, refused_unless, heap_of, left_in, or_fresh, with_heap, words_in, SoundLedger, entry_tells, legal_sound, heap_there, Addr, held_words, HasObjectAt, saturating_words, AreFields, SetOf, IsAllMarked, IsMarking, IsOf, MarkingValue, marked_of, Fork, IsSince, heap_then, with_at, CanGoOnMarking, kept, kept_of, ParkedTask, resting_references, first_cause, or_else, refused, AllFit, heaps_of, sources_of, SharedValue, accounts, marks_at, noted_in, rest_at, value_of, IsSharedValue, words_are, entry_on, found_first, nothing_first, stands_now, on_is, refused_is, marking_cause, waiting_cause, words_cause, marked_more, MarkingHasBegun, starts_by, starts_in, starts_of}
 use Rattle.heap_marking.proofs.MarkBegun.{chunks_at_rest, marks_begin, waiting_rests}
 use Rattle.heap_marking.proofs.MarkCauses.{marks_refuse}
 use Rattle.heap_marking.proofs.MarkCounts.{marks_count}
@@ -27,10 +27,10 @@ kind_free w e free = is_none_of (kind_refusal w.program w.settings (accounts w) 
     is_none_of (Some c) h = absurd cc
 
 -- the saturated count of a heap's words suffices to tell whether its marking is due
-due_by : (s : SettingsValue) (n : ℕ) → s.inner < 2 ^ 32 → words_cause s (counted n) ≡ words_cause s n
+due_by : (s : SettingsValue) (n : ℕ) → s.inner < 2 ^ 32 → words_cause s (saturating_words n) ≡ words_cause s n
 due_by s n few = elim (cases_lt n (2 ^ 64 - 1)) [
-  | inl lt ↦ ap (words_cause s) (let q : counted n ≡ n = omega (arith, lt) in q)
-  | inr le ↦ due (counted n) (omega (arith, le, few)) ∙ sym (due n (omega (arith, le, few)))
+  | inl lt ↦ ap (words_cause s) (let q : saturating_words n ≡ n = omega (arith, lt) in q)
+  | inr le ↦ due (saturating_words n) (omega (arith, le, few)) ∙ sym (due n (omega (arith, le, few)))
 ]
   where
     due : (z : ℕ) → s.inner ≤ z → words_cause s z ≡ None
@@ -40,7 +40,7 @@ module _ (w : SharedValue) (I : IsSharedValue w) (k t : ℕ) where
   abbrev l : Ledger
   l = accounts w
 
-  mark_answer : is_some (first_cause w.end w.steps w.settings k false) ≡ false → refused w (record { worker = k; kind = Mark t }) ≡ or_else (waiting_cause w t) (refused_if (is_some (marks_at w.marks t)) Marking (words_cause w.settings (counted (words_in l.machine (heap_of l t)))))
+  mark_answer : is_some (first_cause w.end w.steps w.settings k false) ≡ false → refused w (record { worker = k; kind = Mark t }) ≡ or_else (waiting_cause w t) (refused_if (is_some (marks_at w.marks t)) Marking (words_cause w.settings (saturating_words (words_in l.machine (heap_of l t)))))
   mark_answer h =
       refused_is w I (record { worker = k; kind = Mark t })
       ∙ (ap (λ o. or_else o (kind_refusal w.program w.settings l k (Mark t))) (none_of (first_cause w.end w.steps w.settings k false) h)
@@ -56,13 +56,13 @@ module _ (w : SharedValue) (I : IsSharedValue w) (k t : ℕ) where
 
   pub mark_as_marking : (o : Option Refused) → is_some (first_cause w.end w.steps w.settings k false) ≡ false → o ≡ waiting_cause w t → is_some o ≡ false → is_some (marks_at w.marks t) ≡ true → Some Marking ≡ refused w (record { worker = k; kind = Mark t })
   mark_as_marking o h is none marked =
-      ap (λ b. refused_if b Marking (words_cause w.settings (counted (words_in l.machine (heap_of l t))))) (sym marked)
+      ap (λ b. refused_if b Marking (words_cause w.settings (saturating_words (words_in l.machine (heap_of l t))))) (sym marked)
       ∙ (nothing_first (waiting_cause w t) _ (ap is_some (sym is) ∙ none) ∙ sym (mark_answer h))
 
   pub mark_as_words : (o : Option Refused) → is_some (first_cause w.end w.steps w.settings k false) ≡ false → o ≡ waiting_cause w t → is_some o ≡ false → is_some (marks_at w.marks t) ≡ false
-      → words_cause w.settings (counted (words_in l.machine (heap_of l t))) ≡ refused w (record { worker = k; kind = Mark t })
+      → words_cause w.settings (saturating_words (words_in l.machine (heap_of l t))) ≡ refused w (record { worker = k; kind = Mark t })
   mark_as_words o h is none unmarked =
-      ap (λ b. refused_if b Marking (words_cause w.settings (counted (words_in l.machine (heap_of l t))))) (sym unmarked)
+      ap (λ b. refused_if b Marking (words_cause w.settings (saturating_words (words_in l.machine (heap_of l t))))) (sym unmarked)
       ∙ (nothing_first (waiting_cause w t) _ (ap is_some (sym is) ∙ none) ∙ sym (mark_answer h))
 
   some_answer : (n : ℕ) → is_some (first_cause w.end w.steps w.settings k false) ≡ false → refused w (record { worker = k; kind = More t n }) ≡ or_else (marking_cause w t) (refused_if (left_in (heap_of l t) == 0) Marked None)
@@ -112,7 +112,7 @@ mark_goes w I t on free r there m own marking =
 pub mark_holds : (w : SharedValue) (I : IsSharedValue w) (t : ℕ) (on : (accounts w).end ≡ None) → waiting_cause w t ≡ None → (r : ParkedTask) → rest_at w.rests t ≡ Some r → All (HasObjectAt r.heap.chunks) (starts_of w t)
 mark_holds w I t on free r there = starts_held w I on t r there (task_slots.wait w I on t free) (task_slots.keeps w I on t free)
 
-pub mark_fields : (w : SharedValue) (I : IsSharedValue w) (t : ℕ) (on : (accounts w).end ≡ None) → waiting_cause w t ≡ None → AreFields refs_in (heaps_of w) (sources_of (slice_get w.sets t))
+pub mark_fields : (w : SharedValue) (I : IsSharedValue w) (t : ℕ) (on : (accounts w).end ≡ None) → waiting_cause w t ≡ None → AreFields resting_references (heaps_of w) (sources_of (slice_get w.sets t))
 mark_fields w I t on free = let r = task_slots.rest w I on t free in fields_there w I on t r.0 r.1 (task_slots.wait w I on t free)
 
 -- it begins at objects of the heap

@@ -1,5 +1,5 @@
 -- A marking that can go on marks more: what it requires of the heap, and that it can go on afterwards.
-use Rattle.heap_marking.proofs.Common.{◌≡◌, ◌⊎◌, ◌↔◌, ℕ, ◌+◌, ◌<◌, ◌≤◌, true, Some, None, List, All, Contains, length, slice_get, inl, inr, ap, sym, subst, ◌∙◌, contains_from_in, in_from_contains, all_from, reached_more, reached_within, is_waiting, wait_there, Ledger, heap_of, held_in, left_in, snapshots_are_held, legal_sound, Addr, cell_of, object_count, ChunkValue, IsClosed, HasObjectAt, RefersTo, Located, IsAllMarked, IsMarking, IsOf, MarkingValue, marked_of, Fork, IsInSnapshot, IsSince, Starts, In, Memory, object_name, objects, objects_in, LeadsAt, CanGoOnMarking, MarksStand, kept, StandsFor, marks_are_all, snapshot_now, IsReachedNow, StartsNow, lies_in, ParkedTask, SharedValue, accounts, rest_at, tree_counts_of, value_of, HeapForm, IsSharedValue, objects_counted, stands_now, MarksGoFurther}
+use Rattle.heap_marking.proofs.Common.{◌≡◌, ◌⊎◌, ◌↔◌, ℕ, ◌+◌, ◌<◌, ◌≤◌, true, Some, None, List, All, Contains, length, slice_get, inl, inr, ap, sym, subst, ◌∙◌, contains_from_in, in_from_contains, all_from, reached_more, reached_within, is_waiting, wait_there, Ledger, heap_of, held_in, left_in, snapshots_are_held, legal_sound, Addr, cell_of, object_count, ChunkValue, IsClosed, HasObjectAt, RefersTo, Located, IsAllMarked, IsMarking, IsOf, MarkingValue, marked_of, Fork, IsInSnapshot, IsSince, Starts, In, Memory, object_name, objects, objects_of_chunks, LeadsAt, CanGoOnMarking, MarksStand, kept, StandsFor, marks_are_all, snapshot_now, IsReachedNow, StartsNow, lies_in, ParkedTask, SharedValue, accounts, rest_at, tree_counts_of, value_of, HeapForm, IsSharedValue, objects_counted, stands_now, MarksGoFurther}
 use Rattle.heap_marking.proofs.HeapClosed.{closed as is_closed}
 use Rattle.heap_marking.proofs.MarkBegun as begun
 
@@ -64,7 +64,7 @@ module _ (w : SharedValue) (I : IsSharedValue w) (on : (accounts w).end ≡ None
   -- what was marked further can go on
   pub goes_further : (m' : MarkingValue) → IsOf ks (kept v t) m' → ((f : Fork) → IsSince f (kept v t) ks → IsMarking f (kept v t) m → IsMarking f (kept v t) m') → CanGoOnMarking v t (heap_of l t).snapshot m'
   goes_further m' own marks =
-      let count : object_count ks ≡ length (objects v t) = objects_counted ks form.tidy ∙ ap (λ cs. length (objects_in cs)) (sym (begun.chunks_at_rest w t r there)) in
+      let count : object_count ks ≡ length (objects v t) = objects_counted ks form.tidy ∙ ap (λ cs. length (objects_of_chunks cs)) (sym (begun.chunks_at_rest w t r there)) in
       let chunks : length ks ≡ length (v.belongings t).chunks = sym (begun.length_chunks ks) ∙ ap (λ cs. length cs) (sym (begun.chunks_at_rest w t r there)) in
       record {
         fork = G.fork;
@@ -84,7 +84,7 @@ module _ (w : SharedValue) (I : IsSharedValue w) (on : (accounts w).end ≡ None
   -- WHAT IT REQUIRES: what it has found is in the heap
   pub own : IsOf ks (kept v t) m
   own =
-      let count : object_count ks ≡ length (objects v t) = objects_counted ks form.tidy ∙ ap (λ cs. length (objects_in cs)) (sym (begun.chunks_at_rest w t r there)) in
+      let count : object_count ks ≡ length (objects v t) = objects_counted ks form.tidy ∙ ap (λ cs. length (objects_of_chunks cs)) (sym (begun.chunks_at_rest w t r there)) in
       let chunks : length ks ≡ length (v.belongings t).chunks = sym (begun.length_chunks ks) ∙ ap (λ cs. length cs) (sym (begun.chunks_at_rest w t r there)) in
       record {
         room = record {

@@ -1,5 +1,5 @@
 -- The start of the marking of a waiting heap, computed from its words, is its start by the accounts.
-use Rattle.heap_marking.proofs.Common.{◌≡◌, ◌↔◌, ℕ, true, All, Option, Some, None, List, [], ◌∷◌, slice_get, inl, inr, refl, ap, sym, subst, ◌∙◌, flat_map, in_append_cases, in_append_left, in_append_right, in_flat, all_from, TaskStatus, Running, Waiting, Ended, Joined, Task, Name, is_waiting, waits, wait_there, Ledger, Addr, has_chunk, ChunkValue, HasObjectAt, Located, CallFrame, frames_of, RefField, AreFields, into, targets_of, references_in, Rests, AreRoots, HoldsAt, FramesAreRead, HoldsRead, Place, Stands, Belongings, In, Memory, objects, objects_in, sources, from_flat, lies_in, frame_name, ParkedTask, Work, Calls, Result, refs_in, chunks_of, heaps_of, sources_of, SharedValue, accounts, frames_down, belongings_by, belongings_in, belongings_of, rest_at, value_of, IsSharedValue, stands_now, into_tells, into_there, read_at_rest, noted_sources, IsStart, registers_of, starts_by, starts_in, starts_of}
+use Rattle.heap_marking.proofs.Common.{◌≡◌, ◌↔◌, ℕ, true, All, Option, Some, None, List, [], ◌∷◌, slice_get, inl, inr, refl, ap, sym, subst, ◌∙◌, flat_map, in_append_cases, in_append_left, in_append_right, in_flat, all_from, TaskStatus, Running, Waiting, Ended, Joined, Task, Name, is_waiting, waits, wait_there, Ledger, Addr, has_chunk, ChunkValue, HasObjectAt, Located, CallFrame, frames_of, RefField, AreFields, into, targets_of, references_in, Rests, AreRoots, HoldsAt, FramesAreRead, HoldsRead, Place, Stands, Belongings, In, Memory, objects, objects_of_chunks, sources, from_flat, lies_in, frame_name, ParkedTask, Work, Calls, Result, resting_references, chunks_of, heaps_of, sources_of, SharedValue, accounts, frames_down, belongings_by, belongings_in, belongings_of, rest_at, value_of, IsSharedValue, stands_now, into_tells, into_there, read_at_rest, noted_sources, IsStart, registers_of, starts_by, starts_in, starts_of}
 use Rattle.core_invariant.proofs.RootsHeld as held
 use Rattle.heap_marking.proofs.MarkBegun as begun
 
@@ -64,14 +64,14 @@ module _ (w : SharedValue) (I : IsSharedValue w) (on : (accounts w).end ≡ None
   sources_are : sources v t ≡ ss
   sources_are = noted_sources (slice_get w.sets t)
 
-  read : (u : ℕ) → (u ≡ t → ⊥) → Rests l u → (o : Located) → In (objects v u) o → refs_in (heaps_of w) o.at ≡ o.refs
+  read : (u : ℕ) → (u ≡ t → ⊥) → Rests l u → (o : Located) → In (objects v u) o → resting_references (heaps_of w) o.at ≡ o.refs
   read u ne q o i = read_at_rest w u I o i (lies_in v l W u o q i)
 
   -- its remembered fields are fields
-  pub fields_there : AreFields refs_in (heaps_of w) ss
+  pub fields_there : AreFields resting_references (heaps_of w) ss
   fields_there = held.are_fields v l t W rests ks own_chunks ss sources_are (heaps_of w) read
 
-  roots_are : AreRoots v l t (targets_of refs_in (heaps_of w) ks ss)
+  roots_are : AreRoots v l t (targets_of resting_references (heaps_of w) ks ss)
   roots_are = held.are_roots v l t W rests ks own_chunks ss sources_are (heaps_of w) read
 
   task : (x : Task) × (slice_get l.machine.tasks t ≡ Some x)
@@ -85,7 +85,7 @@ module _ (w : SharedValue) (I : IsSharedValue w) (on : (accounts w).end ≡ None
   at_register f a i j h =
       let n = frame_name (Place v l) (v.belongings t).frames (task.0.top ∷ task.0.below) f a registers_read i j in
       let q = held.lies_here v l t W rests ks own_chunks ss sources_are (heaps_of w) read n.0 a n.2 (held.own_chunk v l t W rests ks own_chunks ss sources_are (heaps_of w) read a.chunk h) in
-      (q.0, (subst (λ cs. In (objects_in cs) q.0) (sym own_chunks) q.1, q.2))
+      (q.0, (subst (λ cs. In (objects_of_chunks cs) q.0) (sym own_chunks) q.1, q.2))
 
   abbrev starts : List Addr
   starts = starts_in (heaps_of w) ss r
@@ -94,7 +94,7 @@ module _ (w : SharedValue) (I : IsSharedValue w) (on : (accounts w).end ≡ None
   own = flat_map (into ks) (registers_of r.work)
 
   abbrev roots : List Addr
-  roots = targets_of refs_in (heaps_of w) ks ss
+  roots = targets_of resting_references (heaps_of w) ks ss
 
   register_to : (a : Addr) → In own a → IsStart v l t a
   register_to a i =
@@ -108,7 +108,7 @@ module _ (w : SharedValue) (I : IsSharedValue w) (on : (accounts w).end ≡ None
   register_from : (a : Addr) (o : Located) → HoldsAt (v.belongings t) a o → (f : CallFrame) → In (v.belongings t).frames f → In f.refs (Some a) → In own a
   register_from a o at f i j =
       let h : has_chunk ks a.chunk ≡ true =
-      ap (λ (z : Addr). has_chunk ks z.chunk) (sym at.1) ∙ held.object_chunk v l t W rests ks own_chunks ss sources_are (heaps_of w) read o (subst (λ cs. In (objects_in cs) o) own_chunks at.0) in
+      ap (λ (z : Addr). has_chunk ks z.chunk) (sym at.1) ∙ held.object_chunk v l t W rests ks own_chunks ss sources_are (heaps_of w) read o (subst (λ cs. In (objects_of_chunks cs) o) own_chunks at.0) in
       in_flat (into ks) (registers_of r.work) (Some a) a (registers_there r.work f (Some a) (subst (λ fs. In fs f) frames_are i) j) (into_there ks (Some a) a refl h)
 
   starts_by_rest : starts_of w t ≡ starts
@@ -136,7 +136,7 @@ module _ (w : SharedValue) (I : IsSharedValue w) (on : (accounts w).end ≡ None
       held_by_start a (inl s) = (s.0, s.1)
       held_by_start a (inr R) =
           let q = held.root_here v l t W rests ks own_chunks ss sources_are (heaps_of w) read a ((roots_are a).1 R) in
-          (q.0, (subst (λ cs. In (objects_in cs) q.0) (sym own_chunks) q.1, q.2))
+          (q.0, (subst (λ cs. In (objects_of_chunks cs) q.0) (sym own_chunks) q.1, q.2))
 
       held_one : (a : Addr) → (o : Located) × HoldsAt (v.belongings t) a o → HasObjectAt ks a
       held_one a q = subst (HasObjectAt ks) q.1.1 (begun.is_held w I on t r there wait keeps q.0 q.1.0)

@@ -1,5 +1,5 @@
 -- A sweep leaves in a heap exactly what its snapshot names.
-use Rattle.heap_marking.proofs.Common.{◌≡◌, ℕ, ◌*◌, ◌/◌, arith, All, true, false, Option, Some, None, List, [], ◌∷◌, filter, length, option_map, slice_get, inl, inr, refl, ap, sym, subst, ◌∙◌, false≢true, not-true, same_Some, in_from_kept, in_kept, all_from, in_map, map_in, MachineState, row_of, is_joined, Heap, Ledger, heap_of, left_in, or_fresh, swept_heap, with_heap, holds_from_in, in_from_holds, Addr, ChunkValue, Located, Slot, PoolValue, slot_at, owner_of, slot_units, LeafHeapValue as HeapOfCode, IsFresh, room_of, with_places, unit_count, Level, marked_of, AreGiven, gone_of, goes, swept, units_in_slots, heap_then, with_at, KeepsJust, AreLaidOut, HasNames, BelongingsStand, Belongings, In, Memory, object_name, objects, objects_in, sources, ParkedTask, Work, Calls, Result, AreMeasured, chunk_of, chunks_of, HeapForm, IsSharedValue, SharedValue, accounts, belongings_by, belongings_of, value_of, places_form, free_at_rest, inside_from, laid_from, same_chunk, belongings_chunks, fresh_by, owned_before, marking_cause}
+use Rattle.heap_marking.proofs.Common.{◌≡◌, ℕ, ◌*◌, ◌/◌, arith, All, true, false, Option, Some, None, List, [], ◌∷◌, filter, length, option_map, slice_get, inl, inr, refl, ap, sym, subst, ◌∙◌, false≢true, not-true, same_Some, in_from_kept, in_kept, all_from, in_map, map_in, MachineState, row_of, is_joined, Heap, Ledger, heap_of, left_in, or_fresh, swept_heap, with_heap, holds_from_in, in_from_holds, Addr, ChunkValue, Located, Slot, PoolValue, slot_at, owner_of, slot_units, LeafHeapValue as HeapOfCode, IsFresh, room_of, with_places, unit_count, Level, marked_of, AreGiven, gone_of, goes, swept, units_in_slots, heap_then, with_at, KeepsJust, AreLaidOut, HasNames, BelongingsStand, Belongings, In, Memory, object_name, objects, objects_of_chunks, sources, ParkedTask, Work, Calls, Result, AreMeasured, chunk_of, chunks_of, HeapForm, IsSharedValue, SharedValue, accounts, belongings_by, belongings_of, value_of, places_form, free_at_rest, inside_from, laid_from, same_chunk, belongings_chunks, fresh_by, owned_before, marking_cause}
 use Rattle.core_invariant.specs.below.refinement.{Chunk}
 use Rattle.heap_marking.proofs.SweptCells.{is_there}
 use Rattle.heap_marking.proofs.SweptChunks.{gone, has, left, objects_left}
@@ -143,15 +143,15 @@ module _ (w : SharedValue) (I : IsSharedValue w) (on : (accounts w).end ≡ None
       chunks_then : (v'.belongings t).chunks ≡ chunks_of now
       chunks_then = ap (λ (h : Belongings). h.chunks) belongings ∙ (belongings_chunks rest' ∙ ap chunks_of chunks_are)
 
-      objects_then : objects v' t ≡ filter (is_there kept) (objects_in (chunks_of ks))
-      objects_then = ap objects_in chunks_then ∙ objects_left kept ks (form.filled kept r.heap F (start.none w I on t free) (start.large w I on t free))
+      objects_then : objects v' t ≡ filter (is_there kept) (objects_of_chunks (chunks_of ks))
+      objects_then = ap objects_of_chunks chunks_then ∙ objects_left kept ks (form.filled kept r.heap F (start.none w I on t free) (start.large w I on t free))
 
-      objects_before : objects v t ≡ objects_in (chunks_of ks)
-      objects_before = ap objects_in (start.chunks_here w I on t free)
+      objects_before : objects v t ≡ objects_of_chunks (chunks_of ks)
+      objects_before = ap objects_of_chunks (start.chunks_here w I on t free)
 
       was : (o : Located) → In (objects v' t) o → In (objects v t) o × (is_there kept o ≡ true)
       was o i =
-          let f = in_from_kept (is_there kept) (objects_in (chunks_of ks)) o (subst (λ os. In os o) objects_then i) in
+          let f = in_from_kept (is_there kept) (objects_of_chunks (chunks_of ks)) o (subst (λ os. In os o) objects_then i) in
           (subst (λ os. In os o) (sym objects_before) f.0, f.1)
 
       chunk_was : (c : Chunk) → In (v'.belongings t).chunks c → (x : ChunkValue) × In ks x × (has kept x ≡ true) × (x.number ≡ c.number)
@@ -183,11 +183,11 @@ module _ (w : SharedValue) (I : IsSharedValue w) (on : (accounts w).end ≡ None
       keeps_just off noted = record {
         belongings = belongings_then;
         stays = λ o i n.
-            let j : In (objects_in (chunks_of ks)) o = subst (λ os. In os o) objects_before i in
-            subst (λ os. In os o) (sym objects_then) (in_kept (is_there kept) (objects_in (chunks_of ks)) o j (start.agree w I on t free none_left o j ∙ holds_from_in a.snapshot (object_name o) n));
+            let j : In (objects_of_chunks (chunks_of ks)) o = subst (λ os. In os o) objects_before i in
+            subst (λ os. In os o) (sym objects_then) (in_kept (is_there kept) (objects_of_chunks (chunks_of ks)) o j (start.agree w I on t free none_left o j ∙ holds_from_in a.snapshot (object_name o) n));
         only = λ o i.
             let x = was o i in
-            let j : In (objects_in (chunks_of ks)) o = subst (λ os. In os o) objects_before x.0 in
+            let j : In (objects_of_chunks (chunks_of ks)) o = subst (λ os. In os o) objects_before x.0 in
             (x.0, in_from_holds a.snapshot (object_name o) (sym (start.agree w I on t free none_left o j) ∙ x.1));
         frames = ap (λ (h : Belongings). h.frames) belongings ∙ (frames_by heap' r.heap r.view r.allocations r.work ∙ ap (λ (h : Belongings). h.frames) (sym (start.own_belongings w I on t free)));
         result = ap (λ (h : Belongings). h.result) belongings ∙ (result_by heap' r.heap r.view r.allocations r.work ∙ ap (λ (h : Belongings). h.result) (sym (start.own_belongings w I on t free)));

@@ -1,6 +1,6 @@
 -- What a sweep leaves of chunks, none of which is reserved: their objects, the objects' names, and the units that are
 -- released.
-use Rattle.heap_marking.proofs.Common.{◌≡◌, ℕ, suc, ◌+◌, ◌*◌, ◌/◌, ◌==◌, ◌++◌, arith, Bool, true, false, cond, not, None, List, [], ◌∷◌, All, filter, length, map, inl, inr, refl, ap, ap₂, sym, subst, ◌∙◌, eqb-true, false≢true, sum_by-append, sum_by-cons, map-append, filter-append, is_empty, in_append_left, in_append_right, Name, MachineState, units_sum, without_empty, words_at, Addr, moved_to, ChunkValue, Located, sifted_are_filtered, units, unit_count, has_address, goes, has_object, stays, swept_chunk, HoldsLarge, words, large_chunks, names_of, small_chunks, In, object_name, objects_in, chunk_of, chunks_of, SameWords}
+use Rattle.heap_marking.proofs.Common.{◌≡◌, ℕ, suc, ◌+◌, ◌*◌, ◌/◌, ◌==◌, ◌++◌, arith, Bool, true, false, cond, not, None, List, [], ◌∷◌, All, filter, length, map, inl, inr, refl, ap, ap₂, sym, subst, ◌∙◌, eqb-true, false≢true, sum_by-append, sum_by-cons, map-append, filter-append, is_empty, in_append_left, in_append_right, Name, MachineState, units_sum, without_empty, words_at, Addr, moved_to, ChunkValue, Located, sifted_are_filtered, units, unit_count, has_address, goes, has_object, stays, swept_chunk, HoldsLarge, words, large_chunks, names_of, small_chunks, In, object_name, objects_of_chunks, chunk_of, chunks_of, SameWords}
 use Rattle.heap_marking.proofs.SweptCells.{is_there, object_left}
 
 -- a chunk of a heap without a reserved one
@@ -39,14 +39,14 @@ module _ (kept : List Addr) where
   swept_is k = sifted_are_filtered (has_address kept) k
 
   -- OBJECTS
-  pub objects_left : (ks : List ChunkValue) → AreFilled ks → objects_in (chunks_of (left ks)) ≡ filter (is_there kept) (objects_in (chunks_of ks))
+  pub objects_left : (ks : List ChunkValue) → AreFilled ks → objects_of_chunks (chunks_of (left ks)) ≡ filter (is_there kept) (objects_of_chunks (chunks_of ks))
   objects_left [] F = refl
-  objects_left (k ∷ ks) F = objects_left_by_cases (has k) refl (objects_left ks (λ j i. F j (inr i))) ∙ sym (filter-append (is_there kept) (chunk_of k).objects (objects_in (chunks_of ks)))
+  objects_left (k ∷ ks) F = objects_left_by_cases (has k) refl (objects_left ks (λ j i. F j (inr i))) ∙ sym (filter-append (is_there kept) (chunk_of k).objects (objects_of_chunks (chunks_of ks)))
     where
-      objects_left_by_cases : (b : Bool) → has k ≡ b → objects_in (chunks_of (left ks)) ≡ filter (is_there kept) (objects_in (chunks_of ks))
-          → objects_in (chunks_of (map (swept_chunk kept) (cond b (k ∷ filter (stays kept None) ks) (filter (stays kept None) ks)))) ≡ kept_in k ++ filter (is_there kept) (objects_in (chunks_of ks))
+      objects_left_by_cases : (b : Bool) → has k ≡ b → objects_of_chunks (chunks_of (left ks)) ≡ filter (is_there kept) (objects_of_chunks (chunks_of ks))
+          → objects_of_chunks (chunks_of (map (swept_chunk kept) (cond b (k ∷ filter (stays kept None) ks) (filter (stays kept None) ks)))) ≡ kept_in k ++ filter (is_there kept) (objects_of_chunks (chunks_of ks))
       objects_left_by_cases true e go = ap₂ (λ a b. a ++ b) (swept_is k) go
-      objects_left_by_cases false e go = go ∙ ap (λ a. a ++ filter (is_there kept) (objects_in (chunks_of ks))) (sym (none_is (kept_in k) (sym e ∙ has_is k (F k (inl refl)))))
+      objects_left_by_cases false e go = go ∙ ap (λ a. a ++ filter (is_there kept) (objects_of_chunks (chunks_of ks))) (sym (none_is (kept_in k) (sym e ∙ has_is k (F k (inl refl)))))
 
   -- NAMES: if an address is kept by its object's name alone
   module _ (keep : Name → Bool) where
@@ -81,17 +81,17 @@ module _ (kept : List Addr) where
         no_names_by_cases [] q = refl
         no_names_by_cases (n ∷ ns) q = absurd (false≢true q)
 
-    first_agrees : (k : ChunkValue) (ks : List ChunkValue) → Agrees (objects_in (chunks_of (k ∷ ks))) → Agrees (chunk_of k).objects
-    first_agrees k ks A o i = A o (in_append_left (chunk_of k).objects (objects_in (chunks_of ks)) o i)
+    first_agrees : (k : ChunkValue) (ks : List ChunkValue) → Agrees (objects_of_chunks (chunks_of (k ∷ ks))) → Agrees (chunk_of k).objects
+    first_agrees k ks A o i = A o (in_append_left (chunk_of k).objects (objects_of_chunks (chunks_of ks)) o i)
 
-    behind : (k : ChunkValue) (ks : List ChunkValue) → Agrees (objects_in (chunks_of (k ∷ ks))) → Agrees (objects_in (chunks_of ks))
-    behind k ks A o i = A o (in_append_right (chunk_of k).objects (objects_in (chunks_of ks)) o i)
+    behind : (k : ChunkValue) (ks : List ChunkValue) → Agrees (objects_of_chunks (chunks_of (k ∷ ks))) → Agrees (objects_of_chunks (chunks_of ks))
+    behind k ks A o i = A o (in_append_right (chunk_of k).objects (objects_of_chunks (chunks_of ks)) o i)
 
     -- of small objects, chunk by chunk
     abbrev lists : List ChunkValue → List (List Name)
     lists ks = without_empty (map (filter keep) (map names_of (small_chunks (chunks_of ks))))
 
-    pub small_left : (ks : List ChunkValue) → AreFilled ks → Agrees (objects_in (chunks_of ks)) → map names_of (small_chunks (chunks_of (left ks))) ≡ without_empty (map (filter keep) (map names_of (small_chunks (chunks_of ks))))
+    pub small_left : (ks : List ChunkValue) → AreFilled ks → Agrees (objects_of_chunks (chunks_of ks)) → map names_of (small_chunks (chunks_of (left ks))) ≡ without_empty (map (filter keep) (map names_of (small_chunks (chunks_of ks))))
     small_left [] F A = refl
     small_left (k ∷ ks) F A = small_left_by_cases (has k) refl (k.size == 1024) refl (small_left ks (λ j i. F j (inr i)) (behind k ks A))
       where
@@ -109,23 +109,23 @@ module _ (kept : List Addr) where
 
     -- and of large ones
     abbrev large : List ChunkValue → List Name
-    large ks = map object_name (objects_in (large_chunks (chunks_of ks)))
+    large ks = map object_name (objects_of_chunks (large_chunks (chunks_of ks)))
 
-    pub large_left : (ks : List ChunkValue) → AreFilled ks → Agrees (objects_in (chunks_of ks)) → map object_name (objects_in (large_chunks (chunks_of (left ks)))) ≡ filter keep (map object_name (objects_in (large_chunks (chunks_of ks))))
+    pub large_left : (ks : List ChunkValue) → AreFilled ks → Agrees (objects_of_chunks (chunks_of ks)) → map object_name (objects_of_chunks (large_chunks (chunks_of (left ks)))) ≡ filter keep (map object_name (objects_of_chunks (large_chunks (chunks_of ks))))
     large_left [] F A = refl
     large_left (k ∷ ks) F A = large_left_by_cases (has k) refl (k.size == 1024) refl (large_left ks (λ j i. F j (inr i)) (behind k ks A))
       where
-        both : filter keep (map object_name ((chunk_of k).objects ++ objects_in (large_chunks (chunks_of ks)))) ≡ names k ++ filter keep (large ks)
-        both = ap (filter keep) (map-append object_name (chunk_of k).objects (objects_in (large_chunks (chunks_of ks)))) ∙ filter-append keep (names_of (chunk_of k)) (large ks)
+        both : filter keep (map object_name ((chunk_of k).objects ++ objects_of_chunks (large_chunks (chunks_of ks)))) ≡ names k ++ filter keep (large ks)
+        both = ap (filter keep) (map-append object_name (chunk_of k).objects (objects_of_chunks (large_chunks (chunks_of ks)))) ∙ filter-append keep (names_of (chunk_of k)) (large ks)
 
         large_left_by_cases : (b : Bool) → has k ≡ b → (s : Bool) → (k.size == 1024) ≡ s → large (left ks) ≡ filter keep (large ks)
-            → map object_name (objects_in (large_chunks (chunks_of (map (swept_chunk kept) (cond b (k ∷ filter (stays kept None) ks) (filter (stays kept None) ks))))))
-            ≡ filter keep (map object_name (objects_in (cond (not s) (chunk_of k ∷ large_chunks (chunks_of ks)) (large_chunks (chunks_of ks)))))
+            → map object_name (objects_of_chunks (large_chunks (chunks_of (map (swept_chunk kept) (cond b (k ∷ filter (stays kept None) ks) (filter (stays kept None) ks))))))
+            ≡ filter keep (map object_name (objects_of_chunks (cond (not s) (chunk_of k ∷ large_chunks (chunks_of ks)) (large_chunks (chunks_of ks)))))
         large_left_by_cases true e true q go =
-            ap (λ z. map object_name (objects_in (cond (not z) (chunk_of (swept_chunk kept k) ∷ large_chunks (chunks_of (left ks))) (large_chunks (chunks_of (left ks)))))) q ∙ go
+            ap (λ z. map object_name (objects_of_chunks (cond (not z) (chunk_of (swept_chunk kept k) ∷ large_chunks (chunks_of (left ks))) (large_chunks (chunks_of (left ks)))))) q ∙ go
         large_left_by_cases true e false q go =
-            ap (λ z. map object_name (objects_in (cond (not z) (chunk_of (swept_chunk kept k) ∷ large_chunks (chunks_of (left ks))) (large_chunks (chunks_of (left ks)))))) q
-            ∙ (map-append object_name (chunk_of (swept_chunk kept k)).objects (objects_in (large_chunks (chunks_of (left ks))))
+            ap (λ z. map object_name (objects_of_chunks (cond (not z) (chunk_of (swept_chunk kept k) ∷ large_chunks (chunks_of (left ks))) (large_chunks (chunks_of (left ks)))))) q
+            ∙ (map-append object_name (chunk_of (swept_chunk kept k)).objects (objects_of_chunks (large_chunks (chunks_of (left ks))))
             ∙ (ap₂ (λ a b. a ++ b) (names_are k (first_agrees k ks A)) go ∙ sym both))
         large_left_by_cases false e true q go = go
         large_left_by_cases false e false q go = go ∙ (ap (λ a. a ++ filter keep (large ks)) (sym (no_names k (F k (inl refl)) (first_agrees k ks A) e)) ∙ sym both)
@@ -135,7 +135,7 @@ module _ (kept : List Addr) where
   many ks = length (small_chunks (chunks_of ks))
 
   abbrev pub large_units : MachineState → List ChunkValue → ℕ
-  large_units m ks = units_sum m (map object_name (objects_in (large_chunks (chunks_of ks))))
+  large_units m ks = units_sum m (map object_name (objects_of_chunks (large_chunks (chunks_of ks))))
 
   -- this many small chunks are released, and this many units of large ones
   pub record Goes (m : MachineState) (ks : List ChunkValue) : Type 0 where
@@ -179,7 +179,7 @@ module _ (kept : List Addr) where
         small : ℕ
         large : ℕ
         smalls : length (cond (not (not s)) (chunk_of k ∷ small_chunks (chunks_of ks)) (small_chunks (chunks_of ks))) ≡ many (ls b) + small
-        larges : units_of (objects_in (cond (not s) (chunk_of k ∷ large_chunks (chunks_of ks)) (large_chunks (chunks_of ks)))) ≡ large_units m (ls b) + large
+        larges : units_of (objects_of_chunks (cond (not s) (chunk_of k ∷ large_chunks (chunks_of ks)) (large_chunks (chunks_of ks)))) ≡ large_units m (ls b) + large
         all : unit_count (cond (not b) (k ∷ gone ks) (gone ks)) ≡ small + large
 
       counts : (b : Bool) → has k ≡ b → (s : Bool) → (k.size == 1024) ≡ s → Goes m ks → Counts b s
@@ -189,7 +189,7 @@ module _ (kept : List Addr) where
         smalls =
             ap suc G.smalls
             ∙ sym (ap (λ z. length (cond (not (not z)) (chunk_of (swept_chunk kept k) ∷ small_chunks (chunks_of (left ks))) (small_chunks (chunks_of (left ks)))) + G.small) q ∙ plus (many (left ks)) G.small);
-        larges = G.larges ∙ sym (ap (λ z. units_of (objects_in (cond (not z) (chunk_of (swept_chunk kept k) ∷ large_chunks (chunks_of (left ks))) (large_chunks (chunks_of (left ks))))) + G.large) q);
+        larges = G.larges ∙ sym (ap (λ z. units_of (objects_of_chunks (cond (not z) (chunk_of (swept_chunk kept k) ∷ large_chunks (chunks_of (left ks))) (large_chunks (chunks_of (left ks))))) + G.large) q);
         all = G.all;
       }
         where
@@ -202,10 +202,10 @@ module _ (kept : List Addr) where
             large = G.large;
             smalls = G.smalls ∙ sym (ap (λ z. length (cond (not (not z)) (chunk_of (swept_chunk kept k) ∷ small_chunks (chunks_of (left ks))) (small_chunks (chunks_of (left ks)))) + G.small) q);
             larges =
-                units_both (chunk_of k).objects (objects_in (large_chunks (chunks_of ks)))
-                ∙ (grown (units_of (chunk_of k).objects) (units_of (objects_in (large_chunks (chunks_of ks)))) (units_of (objects_in (large_chunks (chunks_of (left ks))))) G.large G.larges
-                ∙ (ap (λ n. n + G.large) (ap (λ os. units_of os + units_of (objects_in (large_chunks (chunks_of (left ks))))) (sym stays) ∙ sym (units_both (chunk_of (swept_chunk kept k)).objects (objects_in (large_chunks (chunks_of (left ks))))))
-                ∙ sym (ap (λ z. units_of (objects_in (cond (not z) (chunk_of (swept_chunk kept k) ∷ large_chunks (chunks_of (left ks))) (large_chunks (chunks_of (left ks))))) + G.large) q)));
+                units_both (chunk_of k).objects (objects_of_chunks (large_chunks (chunks_of ks)))
+                ∙ (grown (units_of (chunk_of k).objects) (units_of (objects_of_chunks (large_chunks (chunks_of ks)))) (units_of (objects_of_chunks (large_chunks (chunks_of (left ks))))) G.large G.larges
+                ∙ (ap (λ n. n + G.large) (ap (λ os. units_of os + units_of (objects_of_chunks (large_chunks (chunks_of (left ks))))) (sym stays) ∙ sym (units_both (chunk_of (swept_chunk kept k)).objects (objects_of_chunks (large_chunks (chunks_of (left ks))))))
+                ∙ sym (ap (λ z. units_of (objects_of_chunks (cond (not z) (chunk_of (swept_chunk kept k) ∷ large_chunks (chunks_of (left ks))) (large_chunks (chunks_of (left ks))))) + G.large) q)));
             all = G.all;
           }
         where
@@ -232,26 +232,26 @@ module _ (kept : List Addr) where
       counts false e false q G =
           let o = one_large k F q own in
           let u : units_of (chunk_of k).objects ≡ units k.size = ap units_of o.1 ∙ o.2 in
-          let both = units_both (chunk_of k).objects (objects_in (large_chunks (chunks_of ks))) in
+          let both = units_both (chunk_of k).objects (objects_of_chunks (large_chunks (chunks_of ks))) in
           record {
             small = G.small;
             large = units k.size + G.large;
             smalls = G.smalls;
-            larges = both ∙ grown (units_of (chunk_of k).objects) (units k.size) (units_of (objects_in (large_chunks (chunks_of ks)))) (large_units m (left ks)) G.large u G.larges;
+            larges = both ∙ grown (units_of (chunk_of k).objects) (units k.size) (units_of (objects_of_chunks (large_chunks (chunks_of ks)))) (large_units m (left ks)) G.large u G.larges;
             all = let a = G.all in omega (arith, a);
           }
         where
           grown : (a u b c d : ℕ) → a ≡ u → b ≡ c + d → a + b ≡ c + (u + d)
           grown a u b c d e f = omega (arith, e, f)
 
-    pub units_gone : (ks : List ChunkValue) → AreFilled ks → KnowWords (objects_in (chunks_of ks)) → Goes m ks
+    pub units_gone : (ks : List ChunkValue) → AreFilled ks → KnowWords (objects_of_chunks (chunks_of ks)) → Goes m ks
     units_gone [] F W = record { small = 0; large = 0; smalls = refl; larges = refl; all = refl }
     units_gone (k ∷ ks) F W =
         units_gone_by_cases (has k) refl (k.size == 1024) refl
-        (units_gone ks (λ j i. F j (inr i)) (λ o i. W o (in_append_right (chunk_of k).objects (objects_in (chunks_of ks)) o i)))
+        (units_gone ks (λ j i. F j (inr i)) (λ o i. W o (in_append_right (chunk_of k).objects (objects_of_chunks (chunks_of ks)) o i)))
       where
         own : KnowWords (chunk_of k).objects
-        own o i = W o (in_append_left (chunk_of k).objects (objects_in (chunks_of ks)) o i)
+        own o i = W o (in_append_left (chunk_of k).objects (objects_of_chunks (chunks_of ks)) o i)
 
         units_gone_by_cases : (b : Bool) → has k ≡ b → (s : Bool) → (k.size == 1024) ≡ s → Goes m ks → Goes m (k ∷ ks)
         units_gone_by_cases b e s q G =
@@ -259,6 +259,6 @@ module _ (kept : List Addr) where
               small = C.small;
               large = C.large;
               smalls = ap (λ z. length (cond (not (not z)) (chunk_of k ∷ small_chunks (chunks_of ks)) (small_chunks (chunks_of ks)))) q ∙ (C.smalls ∙ ap (λ z. many (ls k ks (F k (inl refl)) own z) + C.small) (sym e));
-              larges = ap (λ z. units_of (objects_in (cond (not z) (chunk_of k ∷ large_chunks (chunks_of ks)) (large_chunks (chunks_of ks))))) q ∙ (C.larges ∙ ap (λ z. large_units m (ls k ks (F k (inl refl)) own z) + C.large) (sym e));
+              larges = ap (λ z. units_of (objects_of_chunks (cond (not z) (chunk_of k ∷ large_chunks (chunks_of ks)) (large_chunks (chunks_of ks))))) q ∙ (C.larges ∙ ap (λ z. large_units m (ls k ks (F k (inl refl)) own z) + C.large) (sym e));
               all = ap (λ z. unit_count (cond (not z) (k ∷ gone ks) (gone ks))) e ∙ C.all;
             }

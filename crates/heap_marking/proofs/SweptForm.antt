@@ -1,5 +1,5 @@
 -- The heap after a sweep has the form of a heap, and the room that its account says.
-use Rattle.heap_marking.proofs.Common.{◌≡◌, ℕ, ◌-◌, ◌*◌, ◌/◌, ◌≤◌, ◌==◌, arith, Bool, true, false, cond, not, Option, Some, None, List, [], map, refl, ap, sym, subst, ◌∙◌, ne_eqb, false≢true, All-get_or, is_empty, in_from_kept, all_from, in_map, read_in, none_some, Heap, in_snapshot, is_last_empty, swept_heap, holds_name, Addr, chunk_at, no_chunk, place_in, ChunkValue, Located, chunk_there, AreWithin, LeafHeapValue, IsCurrent, IsSettled, IsTidy, room_at, room_of, gone_of, number_at, place_at, swept, HoldsLarge, In, objects_in, in_objects, IsLastSmall, chunk_of, chunks_of, HeapForm, Formed, place_there}
+use Rattle.heap_marking.proofs.Common.{◌≡◌, ℕ, ◌-◌, ◌*◌, ◌/◌, ◌≤◌, ◌==◌, arith, Bool, true, false, cond, not, Option, Some, None, List, [], map, refl, ap, sym, subst, ◌∙◌, ne_eqb, false≢true, All-get_or, is_empty, in_from_kept, all_from, in_map, read_in, none_some, Heap, in_snapshot, is_last_empty, swept_heap, holds_name, Addr, chunk_at, no_chunk, place_in, ChunkValue, Located, chunk_there, AreWithin, LeafHeapValue, IsCurrent, IsSettled, IsTidy, room_at, room_of, gone_of, chunk_number_at, place_at, swept, HoldsLarge, In, objects_of_chunks, in_objects, IsLastSmall, chunk_of, chunks_of, HeapForm, Formed, place_there}
 use Rattle.core_invariant.specs.below.object_layout.{words_in}
 use Rattle.core_invariant.proofs.below.leaf_heap.HeapLemmas as heap
 use Rattle.core_invariant.proofs.below.mark_sweep_gc.Kept as kept_chunks
@@ -17,7 +17,7 @@ module _ (kept : List Addr) (h : LeafHeapValue) (F : HeapForm h) (none : h.reser
 
   -- the heap with exactly what is kept
   abbrev pub plain : LeafHeapValue
-  plain = record h { chunks = left kept h.chunks; current = place_at (left kept h.chunks) (number_at h.chunks h.current); reserved = None }
+  plain = record h { chunks = left kept h.chunks; current = place_at (left kept h.chunks) (chunk_number_at h.chunks h.current); reserved = None }
 
   pub swept_plain : swept h kept ≡ plain
   swept_plain = ap (λ o. let x : LeafHeapValue = record h { reserved = o } in swept x kept) none
@@ -39,8 +39,8 @@ module _ (kept : List Addr) (h : LeafHeapValue) (F : HeapForm h) (none : h.reser
   settled = record { tidy = F.tidy; apart = F.shaped.apart }
 
   -- an object that is left was there
-  was : (o : Located) → In (objects_in (chunks_of (left kept h.chunks))) o → In (objects_in (chunks_of h.chunks)) o
-  was o i = (in_from_kept (is_there kept) (objects_in (chunks_of h.chunks)) o (subst (λ os. In os o) (objects_left kept h.chunks filled) i)).0
+  was : (o : Located) → In (objects_of_chunks (chunks_of (left kept h.chunks))) o → In (objects_of_chunks (chunks_of h.chunks)) o
+  was o i = (in_from_kept (is_there kept) (objects_of_chunks (chunks_of h.chunks)) o (subst (λ os. In os o) (objects_left kept h.chunks filled) i)).0
 
   within_left : AreWithin (left kept h.chunks)
   within_left = all_from (λ (k : ChunkValue). words_in k.cells ≤ k.size) (left kept h.chunks) (λ k i.
@@ -60,7 +60,7 @@ module _ (kept : List Addr) (h : LeafHeapValue) (F : HeapForm h) (none : h.reser
       let empty : kept_in kept x.0 ≡ [] = sym (swept_is kept x.0) ∙ (ap (λ (z : ChunkValue). (chunk_of z).objects) x.3 ∙ e) in
       false≢true (sym (sym x.2 ∙ (has_is kept x.0 (filled x.0 x.1) ∙ ap (λ (os : List Located). not (is_empty os)) empty)))
 
-  last_left : (o : Option ℕ) → IsCurrent h.chunks o → IsLastSmall h.chunks o → IsLastSmall (left kept h.chunks) (place_at (left kept h.chunks) (number_at h.chunks o))
+  last_left : (o : Option ℕ) → IsCurrent h.chunks o → IsLastSmall h.chunks o → IsLastSmall (left kept h.chunks) (place_at (left kept h.chunks) (chunk_number_at h.chunks o))
   last_left None C last = tt
   last_left (Some i) C last = last_left_by_cases (has kept (chunk_at h.chunks i)) refl
     where
@@ -100,7 +100,7 @@ module _ (kept : List Addr) (h : LeafHeapValue) (F : HeapForm h) (none : h.reser
   }
 
   -- ITS ROOM
-  module _ (a : Heap) (lists : small_names_of h.chunks ≡ a.chunks) (room : room_of h ≡ a.room) (agree : Agrees kept (holds_name a.snapshot) (objects_in (chunks_of h.chunks))) where
+  module _ (a : Heap) (lists : small_names_of h.chunks ≡ a.chunks) (room : room_of h ≡ a.room) (agree : Agrees kept (holds_name a.snapshot) (objects_of_chunks (chunks_of h.chunks))) where
     module _ (i : ℕ) (C : IsCurrent h.chunks (Some i)) (last : IsLastSmall h.chunks (Some i)) (here : h.current ≡ Some i) where
       abbrev k : ChunkValue
       k = chunk_at h.chunks i
@@ -146,7 +146,7 @@ module _ (kept : List Addr) (h : LeafHeapValue) (F : HeapForm h) (none : h.reser
     nothing true e = refl
     nothing false e = sym e
 
-    room_by : (o : Option ℕ) → h.current ≡ o → IsCurrent h.chunks o → IsLastSmall h.chunks o → room_at (left kept h.chunks) (place_at (left kept h.chunks) (number_at h.chunks o)) ≡ (swept_heap a).room
+    room_by : (o : Option ℕ) → h.current ≡ o → IsCurrent h.chunks o → IsLastSmall h.chunks o → room_at (left kept h.chunks) (place_at (left kept h.chunks) (chunk_number_at h.chunks o)) ≡ (swept_heap a).room
     room_by None e C last = nothing (is_last_empty (map (in_snapshot a) a.chunks)) (sym room ∙ ap (room_at h.chunks) e)
     room_by (Some i) e C last = room_of_some i C last e (has kept (chunk_at h.chunks i)) refl
 

@@ -1,5 +1,5 @@
 -- What is known of a completely marked heap before it is swept.
-use Rattle.heap_marking.proofs.Common.{◌≡◌, ℕ, zero, suc, arith, not, true, Option, Some, None, slice_get, refl, ap, sym, subst, ◌∙◌, contains_from_in, in_from_contains, in_map, same_truth, TaskStatus, Running, Waiting, Ended, Joined, Task, is_running, is_waiting, runs, waits, Heap, Ledger, heap_of, held_in, left_in, holds_name, snapshots_are_held, holds_from_in, in_from_holds, chunks_are_used, room_of, IsDone, has_address, marked_of, has_in, in_has, all_marked_is_done, Rests, AreLaidOut, MarkedBy, kept as kept_of, HasNames, BelongingsStand, Belongings, In, Memory, object_name, objects, objects_in, StandsFor, Located, marks_are_all, AreReserved, ParkedTask, Work, Calls, Result, chunk_of, chunks_of, SharedValue, accounts, belongings_by, belongings_in, belongings_of, tree_counts_of, value_of, HeapForm, IsSharedValue, counted_from, reserved_none, stands_now, marking_cause, StandsMarked}
+use Rattle.heap_marking.proofs.Common.{◌≡◌, ℕ, zero, suc, arith, not, true, Option, Some, None, slice_get, refl, ap, sym, subst, ◌∙◌, contains_from_in, in_from_contains, in_map, same_truth, TaskStatus, Running, Waiting, Ended, Joined, Task, is_running, is_waiting, runs, waits, Heap, Ledger, heap_of, held_in, left_in, holds_name, snapshots_are_held, holds_from_in, in_from_holds, chunks_are_used, room_of, IsDone, has_address, marked_of, has_in, in_has, all_marked_is_done, Rests, AreLaidOut, MarkedBy, kept as kept_of, HasNames, BelongingsStand, Belongings, In, Memory, object_name, objects, objects_of_chunks, StandsFor, Located, marks_are_all, AreReserved, ParkedTask, Work, Calls, Result, chunk_of, chunks_of, SharedValue, accounts, belongings_by, belongings_in, belongings_of, tree_counts_of, value_of, HeapForm, IsSharedValue, counted_from, reserved_none, stands_now, marking_cause, StandsMarked}
 use Rattle.heap_marking.proofs.MarkBegun as begun
 use Rattle.heap_marking.proofs.MarkedHeap.{marked_heap_stands}
 use Rattle.heap_marking.proofs.SweptChunks.{Agrees}
@@ -91,12 +91,12 @@ module _ (w : SharedValue) (I : IsSharedValue w) (on : (accounts w).end ≡ None
   large k i q = laid.large (chunk_of k) (in_map chunk_of Z.rest.heap.chunks k i) (ap not q)
 
   -- its objects in the value
-  pub object_there : (o : Located) → In (objects_in (chunks_of Z.rest.heap.chunks)) o → In (objects v t) o
-  object_there o i = subst (λ cs. In (objects_in cs) o) (sym chunks_here) i
+  pub object_there : (o : Located) → In (objects_of_chunks (chunks_of Z.rest.heap.chunks)) o → In (objects v t) o
+  object_there o i = subst (λ cs. In (objects_of_chunks cs) o) (sym chunks_here) i
 
   module _ (none_left : left_in a ≡ 0) where
     -- what is marked is exactly what the snapshot names
-    pub agree : Agrees (marked_of Z.marks) (holds_name a.snapshot) (objects_in (chunks_of Z.rest.heap.chunks))
+    pub agree : Agrees (marked_of Z.marks) (holds_name a.snapshot) (objects_of_chunks (chunks_of Z.rest.heap.chunks))
     agree o i = same_truth (has_address (marked_of Z.marks) o.at) (holds_name a.snapshot (object_name o)) named marked
       where
         named : has_address (marked_of Z.marks) o.at ≡ true → holds_name a.snapshot (object_name o) ≡ true

@@ -1,11 +1,11 @@
 -- How many units a sweep releases with its chunks: as the account says.
-use Rattle.heap_marking.proofs.Common.{◌≡◌, ℕ, zero, suc, ◌+◌, ◌-◌, ◌*◌, ◌^◌, ◌<◌, ◌≤◌, ◌==◌, ◌++◌, arith, Bool, true, false, cond, not, Option, Some, None, List, [], ◌∷◌, filter, length, length-append, map, min, sum_by, slice_get, inl, inr, refl, ap, ap₂, sym, subst, ◌∙◌, unwrap_or, flat_map, same_Some, length-map, map-append, length-take-le, sum_by-append, sum_by-cons, in_append_left, in_append_right, MachineState, Heap, Ledger, begun_in, heap_of, held, held_in, in_use, left_in, marked_in, or_fresh, small_in, sweep_number, swept_heap, units_in, units_sum, without_empty, words_at, words_sum, holds_name, heaps_fit, use_is_bounded, Addr, ChunkValue, Located, counted32, unit_count, IsDone, MarkingValue, marked_of, gone_of, found_few, words, MarkedBy, HasNames, large_chunks, names_of, small_chunks, In, object_name, objects_in, ParkedTask, chunk_of, chunks_of, SharedValue, accounts, marks_at, rest_at, value_of, IsSharedValue, words_same, objects_counted, marking_cause}
+use Rattle.heap_marking.proofs.Common.{◌≡◌, ℕ, zero, suc, ◌+◌, ◌-◌, ◌*◌, ◌^◌, ◌<◌, ◌≤◌, ◌==◌, ◌++◌, arith, Bool, true, false, cond, not, Option, Some, None, List, [], ◌∷◌, filter, length, length-append, map, min, sum_by, slice_get, inl, inr, refl, ap, ap₂, sym, subst, ◌∙◌, unwrap_or, flat_map, same_Some, length-map, map-append, length-take-le, sum_by-append, sum_by-cons, in_append_left, in_append_right, MachineState, Heap, Ledger, begun_in, heap_of, held, held_in, in_use, left_in, marked_in, or_fresh, small_in, sweep_number, swept_heap, units_in, units_sum, without_empty, words_at, words_sum, holds_name, heaps_fit, use_is_bounded, Addr, ChunkValue, Located, counted32, unit_count, IsDone, MarkingValue, marked_of, gone_of, found_few, words, MarkedBy, HasNames, large_chunks, names_of, small_chunks, In, object_name, objects_of_chunks, ParkedTask, chunk_of, chunks_of, SharedValue, accounts, marks_at, rest_at, value_of, IsSharedValue, words_same, objects_counted, marking_cause}
 use Rattle.heap_marking.proofs.SweptChunks.{Agrees, AreFilled, Goes, KnowWords, gone, large_left, large_units, left, many, small_left, units_gone}
 use Rattle.heap_marking.proofs.SweptForm.{filled, gone_plain}
 use Rattle.heap_marking.proofs.SweptStart as start
 
 -- THE NUMBER OF A SWEEP, of chunks with these names
-module _ (kept : List Addr) (m : MachineState) (a : Heap) (ks : List ChunkValue) (F : AreFilled ks) (N : HasNames (chunks_of ks) a) (A : Agrees kept (holds_name a.snapshot) (objects_in (chunks_of ks))) (W : KnowWords kept m (objects_in (chunks_of ks))) where
+module _ (kept : List Addr) (m : MachineState) (a : Heap) (ks : List ChunkValue) (F : AreFilled ks) (N : HasNames (chunks_of ks) a) (A : Agrees kept (holds_name a.snapshot) (objects_of_chunks (chunks_of ks))) (W : KnowWords kept m (objects_of_chunks (chunks_of ks))) where
   G : Goes kept m ks
   G = units_gone kept m ks F W
 
@@ -79,34 +79,34 @@ module _ (m : MachineState) where
   small_words ks = words_sum m (flat_map (λ ns. ns) (map names_of (small_chunks (chunks_of ks))))
 
   abbrev large_words : List ChunkValue → ℕ
-  large_words ks = words_sum m (map object_name (objects_in (large_chunks (chunks_of ks))))
+  large_words ks = words_sum m (map object_name (objects_of_chunks (large_chunks (chunks_of ks))))
 
-  chunks_few : (ks : List ChunkValue) → Know (objects_in (chunks_of ks)) → length (objects_in (chunks_of ks)) ≤ small_words ks + large_words ks
+  chunks_few : (ks : List ChunkValue) → Know (objects_of_chunks (chunks_of ks)) → length (objects_of_chunks (chunks_of ks)) ≤ small_words ks + large_words ks
   chunks_few [] W = omega arith
   chunks_few (k ∷ ks) W =
-      chunks_few_by_cases (k.size == 1024) (objects_few (chunk_of k).objects (λ o i. W o (in_append_left (chunk_of k).objects (objects_in (chunks_of ks)) o i)))
-      (chunks_few ks (λ o i. W o (in_append_right (chunk_of k).objects (objects_in (chunks_of ks)) o i)))
+      chunks_few_by_cases (k.size == 1024) (objects_few (chunk_of k).objects (λ o i. W o (in_append_left (chunk_of k).objects (objects_of_chunks (chunks_of ks)) o i)))
+      (chunks_few ks (λ o i. W o (in_append_right (chunk_of k).objects (objects_of_chunks (chunks_of ks)) o i)))
     where
-      long : length ((chunk_of k).objects ++ objects_in (chunks_of ks)) ≡ length (chunk_of k).objects + length (objects_in (chunks_of ks))
-      long = length-append (chunk_of k).objects (objects_in (chunks_of ks))
+      long : length ((chunk_of k).objects ++ objects_of_chunks (chunks_of ks)) ≡ length (chunk_of k).objects + length (objects_of_chunks (chunks_of ks))
+      long = length-append (chunk_of k).objects (objects_of_chunks (chunks_of ks))
 
-      chunks_few_by_cases : (b : Bool) → length (chunk_of k).objects ≤ words_sum m (names_of (chunk_of k)) → length (objects_in (chunks_of ks)) ≤ small_words ks + large_words ks
-          → length (objects_in (chunks_of (k ∷ ks)))
+      chunks_few_by_cases : (b : Bool) → length (chunk_of k).objects ≤ words_sum m (names_of (chunk_of k)) → length (objects_of_chunks (chunks_of ks)) ≤ small_words ks + large_words ks
+          → length (objects_of_chunks (chunks_of (k ∷ ks)))
           ≤ words_sum m (flat_map (λ ns. ns) (map names_of (cond (not (not b)) (chunk_of k ∷ small_chunks (chunks_of ks)) (small_chunks (chunks_of ks)))))
-          + words_sum m (map object_name (objects_in (cond (not b) (chunk_of k ∷ large_chunks (chunks_of ks)) (large_chunks (chunks_of ks)))))
+          + words_sum m (map object_name (objects_of_chunks (cond (not b) (chunk_of k ∷ large_chunks (chunks_of ks)) (large_chunks (chunks_of ks)))))
       chunks_few_by_cases true own go =
           let s = sum_by-append (words_at m) (names_of (chunk_of k)) (flat_map (λ ns. ns) (map names_of (small_chunks (chunks_of ks)))) in
           omega (arith, long, own, go, s)
       chunks_few_by_cases false own go =
-          let s = ap (words_sum m) (map-append object_name (chunk_of k).objects (objects_in (large_chunks (chunks_of ks)))) ∙ sum_by-append (words_at m) (names_of (chunk_of k)) (map object_name (objects_in (large_chunks (chunks_of ks)))) in
+          let s = ap (words_sum m) (map-append object_name (chunk_of k).objects (objects_of_chunks (large_chunks (chunks_of ks)))) ∙ sum_by-append (words_at m) (names_of (chunk_of k)) (map object_name (objects_of_chunks (large_chunks (chunks_of ks)))) in
           omega (arith, long, own, go, s)
 
-  pub held_few : (a : Heap) (ks : List ChunkValue) → HasNames (chunks_of ks) a → Know (objects_in (chunks_of ks)) → length (objects_in (chunks_of ks)) ≤ words_sum m (held_in a)
+  pub held_few : (a : Heap) (ks : List ChunkValue) → HasNames (chunks_of ks) a → Know (objects_of_chunks (chunks_of ks)) → length (objects_of_chunks (chunks_of ks)) ≤ words_sum m (held_in a)
   held_few a ks N W =
       let both = sum_by-append (words_at m) (small_in a) a.large in
       let small = ap (λ ls. words_sum m (flat_map (λ ns. ns) ls)) N.small in
       let large = ap (words_sum m) N.large in
-      let few : length (objects_in (chunks_of ks)) ≤ small_words ks + large_words ks = chunks_few ks W in
+      let few : length (objects_of_chunks (chunks_of ks)) ≤ small_words ks + large_words ks = chunks_few ks W in
       omega (arith, both, small, large, few)
 
 -- OF A HEAP that is marked
@@ -123,7 +123,7 @@ module _ (w : SharedValue) (I : IsSharedValue w) (on : (accounts w).end ≡ None
   abbrev ks : List ChunkValue
   ks = (start.Z w I on t free).rest.heap.chunks
 
-  pub know : (o : Located) → In (objects_in (chunks_of ks)) o → words_at l.machine (object_name o) ≡ words o
+  pub know : (o : Located) → In (objects_of_chunks (chunks_of ks)) o → words_at l.machine (object_name o) ≡ words o
   know o i = words_same (value_of w) l t ks (start.S w I on t free).belongings (start.rests w I on t free) (start.chunks_here w I on t free) o (start.object_there w I on t free o i)
 
   used : in_use l ≤ 65536
@@ -135,9 +135,9 @@ module _ (w : SharedValue) (I : IsSharedValue w) (on : (accounts w).end ≡ None
   -- it fits in 32 bits
   few_marked : marks.marked < 2 ^ 32
   few_marked =
-      let found : length marks.found ≤ length (objects_in (chunks_of ks)) = subst (λ n. length marks.found ≤ n) (objects_counted ks (start.form w I on t free).tidy) (found_few ks marks (start.Z w I on t free).further.own.room) in
+      let found : length marks.found ≤ length (objects_of_chunks (chunks_of ks)) = subst (λ n. length marks.found ≤ n) (objects_counted ks (start.form w I on t free).tidy) (found_few ks marks (start.Z w I on t free).further.own.room) in
       let below : marks.marked ≤ length marks.found = (start.Z w I on t free).further.own.marked in
-      let named : length (objects_in (chunks_of ks)) ≤ words_sum l.machine (held_in a) = held_few l.machine a ks (start.names w I on t free) know in
+      let named : length (objects_of_chunks (chunks_of ks)) ≤ words_sum l.machine (held_in a) = held_few l.machine a ks (start.names w I on t free) know in
       let all : words_sum l.machine (held_in a) ≤ words_sum l.machine (held l) = few_words l t in
       let fits : words_sum l.machine (held l) ≤ 1024 * in_use l = (heaps_fit w.program w.settings w.journal.items I.legal).words in
       let most = used in

@@ -15,8 +15,8 @@ pub use Rattle.core_invariant.specs.below.object_layout.{Addr, IsClosed, HasObje
 pub use Rattle.core_invariant.specs.below.plain_vec.{option_is}
 pub use Rattle.core_invariant.specs.below.refinement.{kept, In, Memory, HoldsAt, IsRoot, CanGoOnMarking, MarksStand, IsMarked}
 pub use Rattle.core_invariant.specs.below.remembered_set.{RefField, into, targets_of}
-pub use Rattle.core_invariant.specs.below.run_ledger.{Refused, Left, Marked, Marking, NotDue, NotMarking, NotWaiting, Swept, counted, kind_refusal, refused_if, refused_unless, heap_of, left_in, marked_in, sweep_number, words_in, Ledger, after, Previous, Other, Ran, Forked, WorkerPace, is_unmarked, waits_on}
+pub use Rattle.core_invariant.specs.below.run_ledger.{Refused, Left, Marked, Marking, NotDue, NotMarking, NotWaiting, Swept, unless_wrong_number, kind_refusal, refused_if, refused_unless, heap_of, left_in, marked_in, sweep_number, words_in, Ledger, after, Previous, Other, Ran, Forked, WorkerPace, is_unmarked, waits_on}
 pub use Rattle.core_invariant.specs.below.run_trace.{Mark, More, Sweep, SettingsValue, Kind, EntryValue}
 pub use Rattle.core_invariant.specs.below.task_frames.{CallFrame, frames_of}
-pub use Rattle.core_invariant.specs.below.task_slots.{ParkedTask, Work, Calls, Result, Resting, refs_in}
+pub use Rattle.core_invariant.specs.below.task_slots.{ParkedTask, Work, Calls, Result, Resting, resting_references}
 pub use Rattle.core_invariant.specs.below.write_barrier.{SetOf}

@@ -1,6 +1,6 @@
 -- Why the heap of a task is neither marked nor swept, in terms of the shared value.
 use Rattle.std.specs.Prelude.{◌≡◌, ◌==◌, ℕ, Bool, true, false, Option, Some, None, List, is_some, nat_le, slice_get}
-use Rattle.heap_marking.specs.Common.{Mark, More, Sweep, SettingsValue, Refused, Left, Marked, Marking, NotDue, NotMarking, NotWaiting, Swept, counted, kind_refusal, refused_if, refused_unless, heap_of, left_in, marked_in, sweep_number, words_in, TaskState, Ready, Out, Waiting, Ended, Joined, TaskNode, state_of, SetOf, MarkingValue, or_else, SharedValue, accounts, marks_at, noted_in, IsSharedValue}
+use Rattle.heap_marking.specs.Common.{Mark, More, Sweep, SettingsValue, Refused, Left, Marked, Marking, NotDue, NotMarking, NotWaiting, Swept, unless_wrong_number, kind_refusal, refused_if, refused_unless, heap_of, left_in, marked_in, sweep_number, words_in, TaskState, Ready, Out, Waiting, Ended, Joined, TaskNode, state_of, SetOf, MarkingValue, or_else, SharedValue, accounts, marks_at, noted_in, IsSharedValue}
 
 abbrev pub is_state_waiting : Option TaskState → Bool
 is_state_waiting None = false
@@ -35,7 +35,7 @@ pub record MarksAreRefused (w : SharedValue) (k t : ℕ) : Type 0 where
   pub more : (n : ℕ) → kind_refusal w.program w.settings (accounts w) k (More t n) ≡ or_else (marking_cause w t) (refused_if (left_in (heap_of (accounts w) t) == 0) Marked None)
   pub sweep : (given : ℕ) → kind_refusal w.program w.settings (accounts w) k (Sweep t given)
       ≡ or_else (marking_cause w t) (
-      refused_unless (left_in (heap_of (accounts w) t) == 0) (Left (marked_in (heap_of (accounts w) t))) (counted given (sweep_number (accounts w).machine (heap_of (accounts w) t)) None))
+      refused_unless (left_in (heap_of (accounts w) t) == 0) (Left (marked_in (heap_of (accounts w) t))) (unless_wrong_number given (sweep_number (accounts w).machine (heap_of (accounts w) t)) None))
 
 abbrev pub MarksRefuse : Type 0
 MarksRefuse = (w : SharedValue) (k t : ℕ) → IsSharedValue w → (accounts w).end ≡ None → MarksAreRefused w k t

@@ -1,7 +1,7 @@
 -- The start of the marking of a heap: what its remembered fields and its task's registers hold of it.
 use Rattle.std.specs.Prelude.{◌≡◌, ◌↔◌, ℕ, Option, Some, None, List, [], ◌++◌, slice_get}
 use Rattle.std.specs.List.{flat_map}
-use Rattle.heap_marking.specs.Common.{Addr, ChunkValue, HasObjectAt, frames_of, RefField, into, targets_of, frame_references, IsMarking, IsOf, MarkingValue, Fork, ParkedTask, Work, Calls, Result, Resting, refs_in, heaps_of, sources_of, SharedValue, rest_at}
+use Rattle.heap_marking.specs.Common.{Addr, ChunkValue, HasObjectAt, frames_of, RefField, into, targets_of, frame_references, IsMarking, IsOf, MarkingValue, Fork, ParkedTask, Work, Calls, Result, Resting, resting_references, heaps_of, sources_of, SharedValue, rest_at}
 
 -- the references of a task's frames
 abbrev pub registers_of : Work → List (Option Addr)
@@ -10,7 +10,7 @@ registers_of (Result k r) = []
 
 -- of a heap at rest, with these remembered fields
 abbrev pub starts_in : Resting → List RefField → ParkedTask → List Addr
-starts_in heaps sources r = targets_of refs_in heaps r.heap.chunks sources ++ flat_map (into r.heap.chunks) (registers_of r.work)
+starts_in heaps sources r = targets_of resting_references heaps r.heap.chunks sources ++ flat_map (into r.heap.chunks) (registers_of r.work)
 
 abbrev pub starts_by : Resting → List RefField → Option ParkedTask → List Addr
 starts_by heaps sources None = []

@@ -6,7 +6,7 @@ ghost use Rattle.core_invariant.specs.below.object_layout.{HasObjectAt};
 ghost use Rattle.core_invariant.specs.below.task_frames.{frames_of};
 ghost use Rattle.core_invariant.specs.below.remembered_set.{into, AreFields};
 ghost use Rattle.core_invariant.specs.below.copying_gc.{frame_references};
-ghost use Rattle.core_invariant.specs.below.task_slots.{refs_in, resting};
+ghost use Rattle.core_invariant.specs.below.task_slots.{resting_references, resting};
 ghost use Rattle.core_invariant.specs.Roots.{sources_of};
 ghost use Rattle.core_invariant.specs.SharedValue.{rest_at};
 ghost use Rattle.heap_marking.specs.Starts.{starts_in, MarkingHasBegun};
@@ -66,7 +66,7 @@ fn starts_in(
     task: u32,
     rest: &ParkedTask,
 ) -> Result<Vec<Addr>, AllocError>
-    requires { AreFields refs_in (resting heaps.now) (sources_of (slice_get heaps.now.task_slots.sets task)) }
+    requires { AreFields resting_references (resting heaps.now) (sources_of (slice_get heaps.now.task_slots.sets task)) }
     ensures { IfOk result (λ v. v.items ≡ starts_in (resting heaps.now) (sources_of (slice_get heaps.now.task_slots.sets task)) rest.now) }
 {
     let mut starts = heaps.targets(alloc, task, rest.heap.chunks())?;
@@ -85,7 +85,7 @@ pub fn begin_marking(
     task: u32,
 ) -> Result<Marking, AllocError>
     requires there { IsSome (rest_at heaps.now.task_slots.rests task) }
-    requires fields { AreFields refs_in (resting heaps.now) (sources_of (slice_get heaps.now.task_slots.sets task)) }
+    requires fields { AreFields resting_references (resting heaps.now) (sources_of (slice_get heaps.now.task_slots.sets task)) }
     requires held { IfSome (rest_at heaps.now.task_slots.rests task) (λ r. All (HasObjectAt r.heap.chunks) (starts_in (resting heaps.now) (sources_of (slice_get heaps.now.task_slots.sets task)) r)) }
     ensures { IfOk result (λ m. IfSome (rest_at heaps.now.task_slots.rests task) (λ r. MarkingHasBegun r.heap.chunks (starts_in (resting heaps.now) (sources_of (slice_get heaps.now.task_slots.sets task)) r) m)) }
 {

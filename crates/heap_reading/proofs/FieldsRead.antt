@@ -1,5 +1,5 @@
 -- The remembered fields of a heap, sorted.
-use Rattle.heap_reading.proofs.Common.{◌≡◌, ℕ, suc, ◌+◌, ◌*◌, ◌<◌, ◌≤◌, ◌==◌, ◌&&◌, ◌⊎◌, arith, Bool, true, false, cond, Option, Some, None, List, [], ◌∷◌, length, map, get_or, nat_lt, nat_eq, slice_get, inl, inr, refl, ap, sym, subst, ◌∙◌, Less, Equal, Greater, AllByRecursion, list_any, IsPermutation, IsSortedWithin, nat_cmp, ordering_then, is_lt, cases_eq, false≢true, or_parts, slice_get_past, Contains-permutation, IsPermutation-sym, IsDistinct-IsPermutation, IsDistinct-head, IsDistinct-tail, any_from_in, contains_from_in, in_from_contains, each_in, in_map, map_in, Addr, word_of_ref, Located, RefField, StandOnce, has_source, same_source, same_self, SetOf, own, objects_in, sources, handed, ParkedTask, IsSharedValue, SharedValue, accounts, belongings_in, noted_in, rest_at, value_of, belongings_chunks, FieldAt, AreAll, FieldBefore, IsNoted, Rises, field_of}
+use Rattle.heap_reading.proofs.Common.{◌≡◌, ℕ, suc, ◌+◌, ◌*◌, ◌<◌, ◌≤◌, ◌==◌, ◌&&◌, ◌⊎◌, arith, Bool, true, false, cond, Option, Some, None, List, [], ◌∷◌, length, map, get_or, nat_lt, nat_eq, slice_get, inl, inr, refl, ap, sym, subst, ◌∙◌, Less, Equal, Greater, AllByRecursion, list_any, IsPermutation, IsSortedWithin, nat_cmp, ordering_then, is_lt, cases_eq, false≢true, or_parts, slice_get_past, Contains-permutation, IsPermutation-sym, IsDistinct-IsPermutation, IsDistinct-head, IsDistinct-tail, any_from_in, contains_from_in, in_from_contains, each_in, in_map, map_in, Addr, word_of_ref, Located, RefField, StandOnce, has_source, same_source, same_self, SetOf, own, objects_of_chunks, sources, handed, ParkedTask, IsSharedValue, SharedValue, accounts, belongings_in, noted_in, rest_at, value_of, belongings_chunks, FieldAt, AreAll, FieldBefore, IsNoted, Rises, field_of}
 use Rattle.std.specs.List.{IsDistinct}
 use Rattle.core_invariant.proofs.below.plain_vec.{In}
 
@@ -91,9 +91,9 @@ rises_from (f ∷ fs) up d =
 
 -- OF A SHARED VALUE
 module _ (w : SharedValue) (I : IsSharedValue w) where
-  near_in : (o : Option ParkedTask) (u : ℕ) → rest_at w.rests u ≡ o → (a : Addr) → (q : Located) → In (objects_in (belongings_in o).chunks) q → q.at ≡ a → a.offset < 1024
+  near_in : (o : Option ParkedTask) (u : ℕ) → rest_at w.rests u ≡ o → (a : Addr) → (q : Located) → In (objects_of_chunks (belongings_in o).chunks) q → q.at ≡ a → a.offset < 1024
   near_in None u e a q i at = absurd i
-  near_in (Some r) u e a q i at = subst (λ (z : Addr). z.offset < 1024) at ((I.heaps u r e).near q (subst (λ ks. In (objects_in ks) q) (belongings_chunks r) i))
+  near_in (Some r) u e a q i at = subst (λ (z : Addr). z.offset < 1024) at ((I.heaps u r e).near q (subst (λ ks. In (objects_of_chunks ks) q) (belongings_chunks r) i))
 
   -- words can hold the addresses of the objects of remembered fields
   pub source_near : (t : ℕ) (s : RefField) → In (sources (value_of w) t) s → s.object.offset < 1024

@@ -1,6 +1,6 @@
 -- The names of lower crates and of the specifications that these proofs use. Declares nothing.
 pub use Rattle.hh_lang.specs.Form.{EndsWithReturn, IsReturn, IsFunction, NamesExist}
-pub use Rattle.hh_lang.specs.Number.{IsNumber, digits_of, number_of, are_digits, is_numeral, fits_i64, signed_number}
+pub use Rattle.hh_lang.specs.Number.{IsNumber, digits_of, decimal_value, are_digits, is_numeral, fits_i64, signed_number}
 pub use Rattle.hh_lang.specs.declared.instr.Instr.{Instr}
 pub use Rattle.hh_lang.specs.declared.program.Fun.{Fun}
 pub use Rattle.hh_lang.specs.declared.program.Line.{Line}

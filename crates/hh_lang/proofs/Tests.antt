@@ -1,5 +1,5 @@
 -- The tests on texts of numbers decide the relations.
-use Rattle.hh_lang.proofs.Common.{◌≡◌, ◌<◌, ◌^◌, ℕ, Bool, true, false, List, [], ◌∷◌, cond, length, arith, refl, ap, ℤ, pos, negsuc, ◌&&◌, ◌==◌, nat_lt, Option, Some, None, SomeIff, FitsSigned, w64, digit_value, IsNumeral, AllDigits, digits_value, starts_with_minus, and_parts, IsNumber, digits_of, number_of, are_digits, is_numeral, fits_i64, signed_number}
+use Rattle.hh_lang.proofs.Common.{◌≡◌, ◌<◌, ◌^◌, ℕ, Bool, true, false, List, [], ◌∷◌, cond, length, arith, refl, ap, ℤ, pos, negsuc, ◌&&◌, ◌==◌, nat_lt, Option, Some, None, SomeIff, FitsSigned, w64, digit_value, IsNumeral, AllDigits, digits_value, starts_with_minus, and_parts, IsNumber, digits_of, decimal_value, are_digits, is_numeral, fits_i64, signed_number}
 
 digits_pass : (ds : List ℕ) → AllDigits 10 ds → are_digits ds ≡ true
 digits_pass [] h = refl
@@ -38,18 +38,18 @@ pub positive : (ds : List ℕ) (n : ℕ) → starts_with_minus ds ≡ false → 
 positive ds n e f g h = rw (e, f, g) rw h refl
 
 abbrev test : List ℕ → Bool
-test bs = is_numeral (digits_of bs) && fits_i64 (number_of bs)
+test bs = is_numeral (digits_of bs) && fits_i64 (decimal_value bs)
 
-passes : (bs : List ℕ) → IsNumber bs × FitsSigned w64 (number_of bs) → test bs ≡ true
-passes bs h = let a = numeral_passes (digits_of bs) h.0 in let b = fits_passes (number_of bs) h.1 in rw (a, b) refl
+passes : (bs : List ℕ) → IsNumber bs × FitsSigned w64 (decimal_value bs) → test bs ≡ true
+passes bs h = let a = numeral_passes (digits_of bs) h.0 in let b = fits_passes (decimal_value bs) h.1 in rw (a, b) refl
 
-passed : (bs : List ℕ) → test bs ≡ true → IsNumber bs × FitsSigned w64 (number_of bs)
-passed bs e = let both = and_parts (is_numeral (digits_of bs)) (fits_i64 (number_of bs)) e in (passed_numeral (digits_of bs) both.0, passed_fits (number_of bs) both.1)
+passed : (bs : List ℕ) → test bs ≡ true → IsNumber bs × FitsSigned w64 (decimal_value bs)
+passed bs e = let both = and_parts (is_numeral (digits_of bs)) (fits_i64 (decimal_value bs)) e in (passed_numeral (digits_of bs) both.0, passed_fits (decimal_value bs) both.1)
 
-none_by : (bs : List ℕ) (b : Bool) → test bs ≡ b → (IsNumber bs × FitsSigned w64 (number_of bs) → ⊥) → None ≡ cond b (Some (number_of bs)) None
+none_by : (bs : List ℕ) (b : Bool) → test bs ≡ b → (IsNumber bs × FitsSigned w64 (decimal_value bs) → ⊥) → None ≡ cond b (Some (decimal_value bs)) None
 none_by bs true e fails = absurd (fails (passed bs e))
 none_by bs false e fails = refl
 
-pub as_option : (bs : List ℕ) (r : Option ℤ) → SomeIff r (IsNumber bs × FitsSigned w64 (number_of bs)) (number_of bs) → r ≡ signed_number bs
+pub as_option : (bs : List ℕ) (r : Option ℤ) → SomeIff r (IsNumber bs × FitsSigned w64 (decimal_value bs)) (decimal_value bs) → r ≡ signed_number bs
 as_option bs None h = none_by bs (test bs) refl h
 as_option bs (Some z) h = rw (passes bs h.0) (ap Some h.1)

@@ -11,8 +11,8 @@ digits_of bs = cond (starts_with_minus bs) (drop 1 bs) bs
 abbrev pub IsNumber : List ℕ → Type 0
 IsNumber bs = IsNumeral 10 (digits_of bs)
 
-abbrev pub number_of : List ℕ → ℤ
-number_of bs = cond (starts_with_minus bs) (neg_ℤ (pos (digits_value 10 (digits_of bs)))) (pos (digits_value 10 (digits_of bs)))
+abbrev pub decimal_value : List ℕ → ℤ
+decimal_value bs = cond (starts_with_minus bs) (neg_ℤ (pos (digits_value 10 (digits_of bs)))) (pos (digits_value 10 (digits_of bs)))
 
 -- THE SAME AS TESTS
 
@@ -30,7 +30,7 @@ fits_i64 (negsuc n) = nat_lt n (2 ^ 63)
 
 -- the number that a text denotes, if it is a number that fits
 abbrev pub signed_number : List ℕ → Option ℤ
-signed_number bs = if is_numeral (digits_of bs) && fits_i64 (number_of bs) then Some (number_of bs) else None
+signed_number bs = if is_numeral (digits_of bs) && fits_i64 (decimal_value bs) then Some (decimal_value bs) else None
 
 -- a number in front of others, if all of them exist
 abbrev pub onto_number : Option ℕ → Option (List ℕ) → Option (List ℕ)

@@ -3,7 +3,7 @@
 ghost use Rattle.std.specs.Prelude.{◌≡◌, ◌<◌, ◌^◌, SomeIff, FitsSigned};
 ghost use Rattle.std.specs.Int.{w64};
 ghost use Rattle.std.specs.Str.Parse.{IsNumeral, digits_value};
-ghost use Rattle.hh_lang.specs.Number.{IsNumber, number_of, signed_number};
+ghost use Rattle.hh_lang.specs.Number.{IsNumber, decimal_value, signed_number};
 
 /// Reads decimal digits without a sign; None if the text has another form or the number doesn't fit.
 pub fn read_u32(bytes: &[u8]) -> Option<u32>
@@ -20,7 +20,7 @@ pub fn read_u32(bytes: &[u8]) -> Option<u32>
 
 // The number that a text denotes.
 fn parse_i64(bytes: &[u8]) -> Option<i64>
-    ensures { SomeIff result (IsNumber bytes.now × FitsSigned w64 (number_of bytes.now)) (number_of bytes.now) }
+    ensures { SomeIff result (IsNumber bytes.now × FitsSigned w64 (decimal_value bytes.now)) (decimal_value bytes.now) }
 {
     if bytes.first() == Some(&b'+') {
         return None;
@@ -33,7 +33,7 @@ fn parse_i64(bytes: &[u8]) -> Option<i64>
 
 /// Reads an optional minus and decimal digits; None if the text has another form or the number doesn't fit.
 pub fn read_i64(bytes: &[u8]) -> Option<i64>
-    ensures exact { SomeIff result (IsNumber bytes.now × FitsSigned w64 (number_of bytes.now)) (number_of bytes.now) }
+    ensures exact { SomeIff result (IsNumber bytes.now × FitsSigned w64 (decimal_value bytes.now)) (decimal_value bytes.now) }
     ensures value { result ≡ signed_number bytes.now }
 {
     parse_i64(bytes)

@@ -1,16 +1,16 @@
 -- Where the names come from that an instruction leaves in registers and fields.
-use Rattle.hh_model.proofs.Common.{◌≡◌, ℕ, pos, zero, suc, ◌+◌, ◌==◌, Bool, true, false, cond, Option, Some, None, List, [], ◌∷◌, ◌++◌, length, set, slice_get, slice_set, ◌⊎◌, inl, inr, refl, ap, sym, subst, ◌∙◌, replicate, is_some, option_flatten, In, got_in, in_take, Instr, Set, Mov, Movr, Nil as NilOf, Calc, Same, Jmp, Jz, Newm, Pack, Getr, Geti, Putr, Puti, Cntr, Cnti, Freeze, Cas, Call, Par, Ret, Out, Name, Object, Frame, Trap, Range, Frozen, Div as DivTrap, Size, Effect, Goes, Prints, Calls, Forks, Returns, Traps, Stops, StepContext, effect, object_at, put_object, row_of, or_trap, with_object, made, read_effect, int_in, ref_in, with_ref, onward, same_name, calculated, counts_in, place_in, int_eq, precedes, named, refs_of, refs_at, words_asked, words_for}
+use Rattle.hh_model.proofs.Common.{◌≡◌, ℕ, pos, zero, suc, ◌+◌, ◌==◌, Bool, true, false, cond, Option, Some, None, List, [], ◌∷◌, ◌++◌, length, set, slice_get, slice_set, ◌⊎◌, inl, inr, refl, ap, sym, subst, ◌∙◌, replicate, is_some, option_flatten, In, got_in, in_take, Instr, Set, Mov, Movr, Nil as NilOf, Calc, Same, Jmp, Jz, Newm, Pack, Getr, Geti, Putr, Puti, Cntr, Cnti, Freeze, Cas, Call, Par, Ret, Out, Name, Object, Frame, Trap, Range, Frozen, Div as DivTrap, Size, Effect, Goes, Prints, Calls, Forks, Returns, Traps, Stops, StepContext, effect, object_at, put_object, row_of, or_trap, with_object, made, read_effect, int_in, ref_in, with_ref, onward, same_name, calculated, counts_in, place_in, int_eq, precedes, names_of_references, refs_of, refs_at, words_asked, words_for}
 use Rattle.hh_model.specs.declared.data.Trap.TheVariants.{Nil}
 use Rattle.hh_model.proofs.Stores.{put_cases, made_cases}
 pub use Rattle.hh_model.specs.Names.{next_name}
 
-pub in_from_named : (refs : List (Option Name)) (n : Name) → In (named refs) n → In refs (Some n)
+pub in_from_named : (refs : List (Option Name)) (n : Name) → In (names_of_references refs) n → In refs (Some n)
 in_from_named [] n h = absurd h
 in_from_named (None ∷ refs) n h = inr (in_from_named refs n h)
 in_from_named (Some m ∷ refs) n (inl e) = inl (ap (λ x. Some x) e)
 in_from_named (Some m ∷ refs) n (inr h) = inr (in_from_named refs n h)
 
-pub named_from_in : (refs : List (Option Name)) (n : Name) → In refs (Some n) → In (named refs) n
+pub named_from_in : (refs : List (Option Name)) (n : Name) → In refs (Some n) → In (names_of_references refs) n
 named_from_in [] n h = absurd h
 named_from_in (None ∷ refs) n (inl e) = absurd cc
 named_from_in (None ∷ refs) n (inr h) = named_from_in refs n h
@@ -93,12 +93,12 @@ module _ (s : StepContext) (f : Frame) (store : List (List Object)) (alloc : Opt
       → (n r : Name) → In (refs_at (put_object store m o) n) r → Field (put_object store m o) n r
   put_fields m x o reg is fields n r h = put_fields_by_cases (object_at (put_object store m o) n) refl h
     where
-      old : (q : Object) → object_at store n ≡ Some q → In (named q.refs) r → Field (put_object store m o) n r
+      old : (q : Object) → object_at store n ≡ Some q → In (names_of_references q.refs) r → Field (put_object store m o) n r
       old q e i = inl (subst (λ w. In (refs_of w) r) (sym e) i)
 
-      put_fields_here : (q : Object) → (n ≡ m) × (q ≡ o) → In (named q.refs) r → Field (put_object store m o) n r
+      put_fields_here : (q : Object) → (n ≡ m) × (q ≡ o) → In (names_of_references q.refs) r → Field (put_object store m o) n r
       put_fields_here q p i =
-          elim (fields r (in_from_named o.refs r (subst (λ (w : Object). In (named w.refs) r) p.1 i))) [
+          elim (fields r (in_from_named o.refs r (subst (λ (w : Object). In (names_of_references w.refs) r) p.1 i))) [
             | inl was ↦ inl (subst (λ w. In (refs_of w) r) (sym (ap (object_at store) p.0 ∙ is)) (named_from_in x.refs r was))
             | inr reg' ↦ inr (inl (subst (λ w. In f.refs (Some w)) (sym p.0) reg), reg')
           ]
@@ -121,10 +121,10 @@ module _ (s : StepContext) (f : Frame) (store : List (List Object)) (alloc : Opt
       same_name' : (n : Name) → n.task ≡ s.task → n.count ≡ length (row_of (slice_get store s.task)) → n ≡ next_name s.task store
       same_name' n a b = λ i. record { task = a i; count = b i }
 
-      made_carries_here : (n r : Name) (q : Object) → (n.task ≡ s.task) × (n.count ≡ length (row_of (slice_get store s.task))) × (q ≡ o) → In (named q.refs) r → Field store n r
-      made_carries_here n r q p i = inr (inr (same_name' n p.0 p.1, some), fields r (in_from_named o.refs r (subst (λ (w : Object). In (named w.refs) r) p.2 i)))
+      made_carries_here : (n r : Name) (q : Object) → (n.task ≡ s.task) × (n.count ≡ length (row_of (slice_get store s.task))) × (q ≡ o) → In (names_of_references q.refs) r → Field store n r
+      made_carries_here n r q p i = inr (inr (same_name' n p.0 p.1, some), fields r (in_from_named o.refs r (subst (λ (w : Object). In (names_of_references w.refs) r) p.2 i)))
 
-      old : (n r : Name) (q : Object) → object_at store n ≡ Some q → In (named q.refs) r → Field store n r
+      old : (n r : Name) (q : Object) → object_at store n ≡ Some q → In (names_of_references q.refs) r → Field store n r
       old n r q e i = inl (subst (λ w. In (refs_of w) r) (sym e) i)
 
       made_carries_by_cases : (n r : Name) (w : Option Object) → object_at (slice_set store s.task (row_of (slice_get store s.task) ++ o ∷ [])) n ≡ w → In (refs_of w) r → Field store n r

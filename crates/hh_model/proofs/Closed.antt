@@ -1,6 +1,6 @@
 -- A set of names that contains what the tasks hold and is closed under references stays so: what is unreachable stays
 -- unreachable.
-use Rattle.hh_model.proofs.Common.{◌≡◌, ℕ, ℤ, zero, suc, ◌+◌, true, false, cond, Option, Some, None, List, [], ◌∷◌, ◌++◌, length, set, slice_get, slice_set, ◌⊎◌, inl, inr, refl, ap, sym, subst, ◌∙◌, arith, is_some, false≢true, In, got_cases, got_past, in_append_right, in_append_left, ProgramText, Name, Object, TaskStatus, Running, Waiting, Ended, Joined, Task, MachineState, row_of, onward, ref_in, named, refs_of, refs_at, registers, names_from, task_names, waits, is_running, is_waiting, is_joined, parent_of, joined_task, resumed, child, step, asked, asked_by, asked_line, fetched}
+use Rattle.hh_model.proofs.Common.{◌≡◌, ℕ, ℤ, zero, suc, ◌+◌, true, false, cond, Option, Some, None, List, [], ◌∷◌, ◌++◌, length, set, slice_get, slice_set, ◌⊎◌, inl, inr, refl, ap, sym, subst, ◌∙◌, arith, is_some, false≢true, In, got_cases, got_past, in_append_right, in_append_left, ProgramText, Name, Object, TaskStatus, Running, Waiting, Ended, Joined, Task, MachineState, row_of, onward, ref_in, names_of_references, refs_of, refs_at, registers, names_from, task_names, waits, is_running, is_waiting, is_joined, parent_of, joined_task, resumed, child, step, asked, asked_by, asked_line, fetched}
 use Rattle.hh_model.proofs.Carried.{in_from_named, named_from_in, in_set_cases, next_name}
 use Rattle.hh_model.proofs.Runs.{waiting}
 use Rattle.hh_model.proofs.ForkJoinStates.{IsForkJoinState}
@@ -62,10 +62,10 @@ resumed_names xp rl rr r w h =
         | inl e ↦ inr (inr e)
         | inr j ↦ elim (in_set_cases xp.top.refs 0 rl.1 (Some r) j) [
           | inl e ↦ inr (inl e)
-          | inr k ↦ inl (subst (λ s. In (names_from s (xp.top ∷ xp.below)) r) (sym w) (in_append_left (named xp.top.refs) (registers xp.below) r (named_from_in xp.top.refs r k)))
+          | inr k ↦ inl (subst (λ s. In (names_from s (xp.top ∷ xp.below)) r) (sym w) (in_append_left (names_of_references xp.top.refs) (registers xp.below) r (named_from_in xp.top.refs r k)))
         ]
       ]
-      | inr i ↦ inl (subst (λ s. In (names_from s (xp.top ∷ xp.below)) r) (sym w) (in_append_right (named xp.top.refs) (registers xp.below) r i))
+      | inr i ↦ inl (subst (λ s. In (names_from s (xp.top ∷ xp.below)) r) (sym w) (in_append_right (names_of_references xp.top.refs) (registers xp.below) r i))
     ]
 
 -- whether a stepping task allocates

@@ -9,7 +9,7 @@ pub use Rattle.hh_model.specs.Counts.{RunsAreCounted, StepsCount, IsWide, HasFew
 pub use Rattle.hh_model.specs.Effect.{Effect, effect, Goes, calculated, int_in, onward, or_trap, with_int, Prints, Calls, Forks, Returns, Traps, Stops, StepContext, object_at, put_object, row_of, with_object, made, read_effect, ref_in, with_ref, same_name, counts_in, place_in, int_eq, flag}
 pub use Rattle.hh_model.specs.Ends.{EndsDone, IsEnded, unended}
 pub use Rattle.hh_model.specs.Machine.{IsOfRun, MachineValue, advanced, IsSoundState}
-pub use Rattle.hh_model.specs.Names.{named, refs_of, refs_at, words_asked, words_for, registers, names_from, task_names}
+pub use Rattle.hh_model.specs.Names.{names_of_references, refs_of, refs_at, words_asked, words_for, registers, names_from, task_names}
 pub use Rattle.hh_model.specs.NextLaw.{HasNext, AlwaysNext, PacksAreFew}
 pub use Rattle.hh_model.specs.PathLaw.{PathIsPrecedence, PathIsPrecedenceIn}
 pub use Rattle.hh_model.specs.Precedence.{precedes, Precedes, same_strand, IsWalk, holds_strand, with_target, found_from}

@@ -1,5 +1,5 @@
 -- A step by cases: the tasks and the store after it.
-use Rattle.hh_model.proofs.Common.{◌≡◌, ℕ, ℤ, ◌+◌, ◌-◌, ◌%◌, ◌<◌, Bool, true, false, cond, Option, Some, None, List, [], ◌∷◌, ◌++◌, length, slice_get, slice_set, nat_lt, ◌⊎◌, inl, inr, refl, ap, sym, subst, ◌∙◌, arith, eq-eqb, is_some, cond-true, cond-false, false≢true, eqb-false, In, in_append_left, in_append_right, in_append_cases, Par, Line, ProgramText, Name, Object, Frame, TaskStatus, Running, Waiting, Ended, Joined, Task, End, Done, Trapped, Entangled, Trap, Depth, MachineState, Effect, Goes, Prints, Calls, Forks, Returns, Traps, Stops, effect, object_at, onward, ref_in, precedes, named, refs_at, registers, names_from, task_names, words_asked, runs, waits, is_over, result_in, is_running, parent_of, parents, owner_of, strand, strand_of, edge, sibling, is_left, setting, follow, child, child_ended_by, last_return, returned_to, goes_on, join_of, result_at, or_same, last_of, front_of, back_in, result_of, ended_by, depth_limit, stepped, step, can_step, fetched, entry_frame, asked_line, ended_task, frame_limit}
+use Rattle.hh_model.proofs.Common.{◌≡◌, ℕ, ℤ, ◌+◌, ◌-◌, ◌%◌, ◌<◌, Bool, true, false, cond, Option, Some, None, List, [], ◌∷◌, ◌++◌, length, slice_get, slice_set, nat_lt, ◌⊎◌, inl, inr, refl, ap, sym, subst, ◌∙◌, arith, eq-eqb, is_some, cond-true, cond-false, false≢true, eqb-false, In, in_append_left, in_append_right, in_append_cases, Par, Line, ProgramText, Name, Object, Frame, TaskStatus, Running, Waiting, Ended, Joined, Task, End, Done, Trapped, Entangled, Trap, Depth, MachineState, Effect, Goes, Prints, Calls, Forks, Returns, Traps, Stops, effect, object_at, onward, ref_in, precedes, names_of_references, refs_at, registers, names_from, task_names, words_asked, runs, waits, is_over, result_in, is_running, parent_of, parents, owner_of, strand, strand_of, edge, sibling, is_left, setting, follow, child, child_ended_by, last_return, returned_to, goes_on, join_of, result_at, or_same, last_of, front_of, back_in, result_of, ended_by, depth_limit, stepped, step, can_step, fetched, entry_frame, asked_line, ended_task, frame_limit}
 use Rattle.hh_model.proofs.Changes.{Change, Changes, StopsAt, effect_changes}
 use Rattle.hh_model.proofs.Carried.{in_from_named, named_from_in, in_set_cases, at_in, next_name, Carries, effect_carries}
 use Rattle.hh_model.proofs.Runs.{running_tells, ended_tells}
@@ -26,18 +26,18 @@ ended_stops s r e = ap runs (ended_is s r e)
 -- names in registers
 pub in_registers : (fs : List Frame) (f : Frame) (r : Name) → In fs f → In f.refs (Some r) → In (registers fs) r
 in_registers [] f r h i = absurd h
-in_registers (g ∷ fs) f r (inl e) i = in_append_left (named g.refs) (registers fs) r (named_from_in g.refs r (subst (λ (x : Frame). In x.refs (Some r)) (sym e) i))
-in_registers (g ∷ fs) f r (inr h) i = in_append_right (named g.refs) (registers fs) r (in_registers fs f r h i)
+in_registers (g ∷ fs) f r (inl e) i = in_append_left (names_of_references g.refs) (registers fs) r (named_from_in g.refs r (subst (λ (x : Frame). In x.refs (Some r)) (sym e) i))
+in_registers (g ∷ fs) f r (inr h) i = in_append_right (names_of_references g.refs) (registers fs) r (in_registers fs f r h i)
 
 pub register_cases : (f : Frame) (fs : List Frame) (r : Name) → In (registers (f ∷ fs)) r → In f.refs (Some r) ⊎ In (registers fs) r
-register_cases f fs r h = elim (in_append_cases (named f.refs) (registers fs) r h) [ inl i ↦ inl (in_from_named f.refs r i) | inr i ↦ inr i ]
+register_cases f fs r h = elim (in_append_cases (names_of_references f.refs) (registers fs) r h) [ inl i ↦ inl (in_from_named f.refs r i) | inr i ↦ inr i ]
 
 registers_more : (fs : List Frame) (f : Frame) (r : Name) → In (registers (fs ++ f ∷ [])) r → In (registers fs) r ⊎ In f.refs (Some r)
 registers_more [] f r h = elim (register_cases f [] r h) [ inl i ↦ inr i | inr i ↦ absurd i ]
 registers_more (g ∷ fs) f r h =
-    elim (in_append_cases (named g.refs) (registers (fs ++ f ∷ [])) r h) [
-      | inl i ↦ inl (in_append_left (named g.refs) (registers fs) r i)
-      | inr i ↦ elim (registers_more fs f r i) [ inl j ↦ inl (in_append_right (named g.refs) (registers fs) r j) | inr j ↦ inr j ]
+    elim (in_append_cases (names_of_references g.refs) (registers (fs ++ f ∷ [])) r h) [
+      | inl i ↦ inl (in_append_left (names_of_references g.refs) (registers fs) r i)
+      | inr i ↦ elim (registers_more fs f r i) [ inl j ↦ inl (in_append_right (names_of_references g.refs) (registers fs) r j) | inr j ↦ inr j ]
     ]
 
 pub last_in : (fs : List Frame) (f : Frame) → last_of fs ≡ Some f → In fs f
@@ -49,9 +49,9 @@ front_registers : (fs : List Frame) (r : Name) → In (registers (front_of fs)) 
 front_registers [] r h = h
 front_registers (g ∷ []) r h = absurd h
 front_registers (g ∷ k ∷ fs) r h =
-    elim (in_append_cases (named g.refs) (registers (front_of (k ∷ fs))) r h) [
-      | inl i ↦ in_append_left (named g.refs) (registers (k ∷ fs)) r i
-      | inr i ↦ in_append_right (named g.refs) (registers (k ∷ fs)) r (front_registers (k ∷ fs) r i)
+    elim (in_append_cases (names_of_references g.refs) (registers (front_of (k ∷ fs))) r h) [
+      | inl i ↦ in_append_left (names_of_references g.refs) (registers (k ∷ fs)) r i
+      | inr i ↦ in_append_right (names_of_references g.refs) (registers (k ∷ fs)) r (front_registers (k ∷ fs) r i)
     ]
 
 pub names_run : (x : Task) (r : Name) → x.status ≡ Running → In (registers (x.top ∷ x.below)) r → In (task_names x) r
@@ -130,7 +130,7 @@ module _ (p : ProgramText) (m : MachineState) (t : ℕ) (K : IsForkJoinState m) 
     top_names r h = names_run x r running (in_registers (x.top ∷ x.below) x.top r (inl refl) h)
 
     below_names : (r : Name) → In (registers x.below) r → In (task_names x) r
-    below_names r h = names_run x r running (in_append_right (named x.top.refs) (registers x.below) r h)
+    below_names r h = names_run x r running (in_append_right (names_of_references x.top.refs) (registers x.below) r h)
 
     result_names : (r : Name) → ref_in x.top 0 ≡ Some r → In (task_names x) r
     result_names r e = top_names r (at_in x.top.refs 0 r e)

@@ -10,14 +10,14 @@ use Rattle.hh_model.specs.declared.data.Task.{Task}
 use Rattle.hh_model.specs.Effect.{object_at, counts_in, int_in, row_of}
 
 -- the names in a list of references
-abbrev pub named : List (Option Name) → List Name
-named [] = []
-named (None ∷ refs) = named refs
-named (Some n ∷ refs) = n ∷ named refs
+abbrev pub names_of_references : List (Option Name) → List Name
+names_of_references [] = []
+names_of_references (None ∷ refs) = names_of_references refs
+names_of_references (Some n ∷ refs) = n ∷ names_of_references refs
 
 abbrev pub refs_of : Option Object → List Name
 refs_of None = []
-refs_of (Some o) = named o.refs
+refs_of (Some o) = names_of_references o.refs
 
 -- the names in the reference fields of the object of a name
 abbrev pub refs_at : List (List Object) → Name → List Name
@@ -26,14 +26,14 @@ refs_at store n = refs_of (object_at store n)
 -- the names in the registers of frames
 abbrev pub registers : List Frame → List Name
 registers [] = []
-registers (f ∷ fs) = named f.refs ++ registers fs
+registers (f ∷ fs) = names_of_references f.refs ++ registers fs
 
 -- what a task holds: its frames' registers while it runs or waits, its result once it has ended, nothing once it has
 -- joined
 abbrev pub names_from : TaskStatus → List Frame → List Name
 names_from Running frames = registers frames
 names_from Waiting frames = registers frames
-names_from (Ended k r) frames = named (r ∷ [])
+names_from (Ended k r) frames = names_of_references (r ∷ [])
 names_from Joined frames = []
 
 abbrev pub task_names : Task → List Name

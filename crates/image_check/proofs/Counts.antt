@@ -1,5 +1,5 @@
 -- The number of objects read is the number of object lines.
-use Rattle.image_check.proofs.Common.{◌≡◌, ◌<◌, ◌≤◌, ◌+◌, ℕ, suc, true, false, List, [], ◌∷◌, length, refl, ap, sym, ◌∙◌, arith, inl, inr, ◌⊎◌, Option, Some, None, nat_eq, not-false, is_last, lines_of, ImageLine, Nothing, Wrong, Title, OfTask, OfChunk, OfObject, OfRemembered, OfEnd, ImagePosition, Read, Whole, said_by, with_entry, rises, after_line, nothing_read, whole_of, has_wrong_place, is_misplaced, fault_from, after_lines, onto_count, object_count, ObjectsAreCounted}
+use Rattle.image_check.proofs.Common.{◌≡◌, ◌<◌, ◌≤◌, ◌+◌, ℕ, suc, true, false, List, [], ◌∷◌, length, refl, ap, sym, ◌∙◌, arith, inl, inr, ◌⊎◌, Option, Some, None, nat_eq, not-false, is_last, lines_of, ImageLine, Nothing, Wrong, Title, OfTask, OfChunk, OfObject, OfRemembered, OfEnd, ImagePosition, Read, Whole, line_meaning, with_entry, rises, after_line, nothing_read, whole_of, has_wrong_place, is_misplaced, fault_from_line, after_lines, onto_count, object_count, ObjectsAreCounted}
 use Rattle.image_check.specs.Read.{position}
 use Rattle.image_check.proofs.Steps.{clear, faultless, formed}
 
@@ -83,14 +83,14 @@ onto_sum (OfChunk c) m n = refl
 onto_sum (OfRemembered f) m n = refl
 onto_sum (OfEnd k) m n = refl
 
-all_counted : (w : Whole) (r : Read) (n : ℕ) (ls : List (List ℕ)) → fault_from w r n ls ≡ None → Before r.objects r.last → length (after_lines r ls).objects ≡ length r.objects + object_count ls
+all_counted : (w : Whole) (r : Read) (n : ℕ) (ls : List (List ℕ)) → fault_from_line w r n ls ≡ None → Before r.objects r.last → length (after_lines r ls).objects ≡ length r.objects + object_count ls
 all_counted w r n [] none h = let e : length r.objects ≡ length r.objects + 0 = omega arith in e
 all_counted w r n (l ∷ ls) none h =
     let c = clear w r n l ls none in
-    let k = counted r (said_by l) (formed w r (is_last ls) (said_by l) c.0).0 h in
-    all_counted w (after_line r (said_by l)) (n + 1) ls c.1 k.before
+    let k = counted r (line_meaning l) (formed w r (is_last ls) (line_meaning l) c.0).0 h in
+    all_counted w (after_line r (line_meaning l)) (n + 1) ls c.1 k.before
     ∙ ap (λ x. x + object_count ls) k.count
-    ∙ onto_sum (said_by l) (length r.objects) (object_count ls)
+    ∙ onto_sum (line_meaning l) (length r.objects) (object_count ls)
 
 pub objects_are_counted : ObjectsAreCounted
 objects_are_counted text none = all_counted (whole_of text) nothing_read 1 (lines_of text) (faultless text none) refl ∙ (let e : 0 + object_count (lines_of text) ≡ object_count (lines_of text) = omega arith in e)

@@ -1,6 +1,5 @@
 -- Ancestors by links are ancestors by numbers.
-use Rattle.image_check.proofs.Common.{◌≡◌, ◌<◌, ◌≤◌, ◌+◌, ◌-◌, ◌==◌, ℕ, zero, suc, Bool, true, false, cond, List, [], ◌∷◌, ◌++◌, length, get_or, refl, ap, sym, ◌∙◌, arith, subst, length-append, Option, Some, None, slice_get, nat_eq, is_some, position, MatchOption, option_map, keys_of, insert_entry, eqb-true, position-Some, same_Some, slice_get-get_or, slice_get-map, got_front, got_back, got_within, none_of, got_some, Link, depth_at, parent_in as parent_in_link, up_from, IsUp, new_link, up_same, up_depth, link_more, IsWithin, ancestor_parent, first_link as link_up, link_first, ImageTask, found, has, with_new, Tasks, parent_of, is_above, LinksLead, IsAncestor, StandsAt, IsParentAt, AreLinksOf}
-use Rattle.image_check.specs.Tasks.{parent_in}
+use Rattle.image_check.proofs.Common.{◌≡◌, ◌<◌, ◌≤◌, ◌+◌, ◌-◌, ◌==◌, ℕ, zero, suc, Bool, true, false, cond, List, [], ◌∷◌, ◌++◌, length, get_or, refl, ap, sym, ◌∙◌, arith, subst, length-append, Option, Some, None, slice_get, nat_eq, is_some, position, MatchOption, option_map, keys_of, insert_entry, eqb-true, position-Some, same_Some, slice_get-get_or, slice_get-map, got_front, got_back, got_within, none_of, got_some, Link, depth_at, parent_of_link as parent_in_link, up_from, IsUp, new_link, up_same, up_depth, link_more, IsWithin, ancestor_parent, first_link as link_up, link_first, ImageTask, found, has, with_new, Tasks, image_parent, is_ancestor_of, LinksLead, IsAncestor, StandsAt, IsParentAt, AreLinksOf, parent_of_row}
 use Rattle.image_check.proofs.Paths.{Entry, AreOrdered, found_at, lead_up, first_link, met_ancestor, above, task_more, Where, where_is, apart_more, still_stands}
 use Rattle.image_check.proofs.Paths.Where.{front, last}
 
@@ -71,10 +70,10 @@ module _ (es : Tasks) (ks : List Link) (L : AreLinksOf es ks) where
   up_by p (Some q) None e at = absurd cc
   up_by p (Some q) (Some j) e at = (q, refl, (let g : j ≡ p = cc in subst (λ x. StandsAt es x q) g at))
 
-  parent_is : (i t : ℕ) (s : StandsAt es i t) → parent_of es t ≡ s.0.1.parent
-  parent_is i t s = ap parent_in (ap (found es) (sym s.2) ∙ found_at es ordered i s.0 s.1)
+  parent_is : (i t : ℕ) (s : StandsAt es i t) → image_parent es t ≡ s.0.1.parent
+  parent_is i t s = ap parent_of_row (ap (found es) (sym s.2) ∙ found_at es ordered i s.0 s.1)
 
-  up_number : (i p t : ℕ) → StandsAt es i t → up_from ks i ≡ Some p → (q : ℕ) × (parent_of es t ≡ Some q) × StandsAt es p q
+  up_number : (i p t : ℕ) → StandsAt es i t → up_from ks i ≡ Some p → (q : ℕ) × (image_parent es t ≡ Some q) × StandsAt es p q
   up_number i p t s h =
       let k = link_of i s.0 s.1 in
       let r = up_by p s.0.1.parent k.0.parent (sym (ap parent_in_link k.1) ∙ h) (L.parents i s.0 k.0 s.1 k.1) in
@@ -85,7 +84,7 @@ module _ (es : Tasks) (ks : List Link) (L : AreLinksOf es ks) where
   down_by q (Some r) None e at = absurd at
   down_by q (Some r) (Some j) e at = (j, refl, (let g : r ≡ q = cc in subst (StandsAt es j) g at))
 
-  number_up : (i t q : ℕ) → StandsAt es i t → parent_of es t ≡ Some q → (p : ℕ) × (up_from ks i ≡ Some p) × StandsAt es p q
+  number_up : (i t q : ℕ) → StandsAt es i t → image_parent es t ≡ Some q → (p : ℕ) × (up_from ks i ≡ Some p) × StandsAt es p q
   number_up i t q s h =
       let k = link_of i s.0 s.1 in
       let r = down_by q s.0.1.parent k.0.parent (sym (parent_is i t s) ∙ h) (L.parents i s.0 k.0 s.1 k.1) in
@@ -112,17 +111,17 @@ module _ (es : Tasks) (ks : List Link) (L : AreLinksOf es ks) where
 
   -- THE ANSWER
 
-  never_above : (a t : ℕ) → (IsAncestor es a t → ⊥) → false ≡ is_above es a t
-  never_above a t stop = never_above_by_cases (is_above es a t) refl
+  never_above : (a t : ℕ) → (IsAncestor es a t → ⊥) → false ≡ is_ancestor_of es a t
+  never_above a t stop = never_above_by_cases (is_ancestor_of es a t) refl
     where
-      never_above_by_cases : (b : Bool) → is_above es a t ≡ b → false ≡ b
+      never_above_by_cases : (b : Bool) → is_ancestor_of es a t ≡ b → false ≡ b
       never_above_by_cases true e = absurd (stop (above es a t e))
       never_above_by_cases false e = refl
 
   not_there : (t i : ℕ) → found es t ≡ None → StandsAt es i t → ⊥
   not_there t i none s = let f : None ≡ Some s.0.1 = sym none ∙ ap (found es) (sym s.2) ∙ found_at es ordered i s.0 s.1 in cc
 
-  pub no_ancestor : (a t : ℕ) → found es a ≡ None → false ≡ is_above es a t
+  pub no_ancestor : (a t : ℕ) → found es a ≡ None → false ≡ is_ancestor_of es a t
   no_ancestor a t none = never_above a t (λ h. let i = first_link es ordered h.0 t a h.1 in let r = lead_up es ordered h.0 t a i.0 i.1 h.1 in not_there a r.0 none r.2)
 
   module _ (a t j i : ℕ) (z : StandsAt es j a) (s : StandsAt es i t) where
@@ -131,10 +130,10 @@ module _ (es : Tasks) (ks : List Link) (L : AreLinksOf es ks) where
         let r = lead_links h.0 i t a s h.1 in
         (h.0, subst (IsUp ks (suc h.0) i) (same_place r.0 j a r.1 z) r.2)
 
-    pub not_deeper : depth_at ks i ≤ depth_at ks j → false ≡ is_above es a t
+    pub not_deeper : depth_at ks i ≤ depth_at ks j → false ≡ is_ancestor_of es a t
     not_deeper le = never_above a t (λ h. let w = way_up h in let d : depth_at ks i ≡ depth_at ks j + suc w.0 = up_depth ks L.links (suc w.0) i j w.1 in omega (arith, le, d))
 
-    met_there : (r : ℕ) → depth_at ks j < depth_at ks i → IsUp ks (depth_at ks i - depth_at ks j) i r → r ≡ j → true ≡ is_above es a t
+    met_there : (r : ℕ) → depth_at ks j < depth_at ks i → IsUp ks (depth_at ks i - depth_at ks j) i r → r ≡ j → true ≡ is_ancestor_of es a t
     met_there r lt up e = sym (met_ancestor es ordered a t (n, links_lead n i j t a s z way))
       where
         n : ℕ
@@ -143,17 +142,17 @@ module _ (es : Tasks) (ks : List Link) (L : AreLinksOf es ks) where
         way : IsUp ks (suc n) i j
         way = subst (IsUp ks (suc n) i) e (subst (λ x. IsUp ks x i r) (let f : depth_at ks i - depth_at ks j ≡ suc ((depth_at ks i - depth_at ks j) - 1) = omega (arith, lt) in f) up)
 
-    passed_by : (r : ℕ) → IsUp ks (depth_at ks i - depth_at ks j) i r → (r ≡ j → ⊥) → false ≡ is_above es a t
+    passed_by : (r : ℕ) → IsUp ks (depth_at ks i - depth_at ks j) i r → (r ≡ j → ⊥) → false ≡ is_ancestor_of es a t
     passed_by r up ne = never_above a t (λ h.
         let w = way_up h in
         let d : depth_at ks i ≡ depth_at ks j + suc w.0 = up_depth ks L.links (suc w.0) i j w.1 in
         let e : suc w.0 ≡ depth_at ks i - depth_at ks j = omega (arith, d) in
         ne (up_same ks (depth_at ks i - depth_at ks j) i r j up (subst (λ x. IsUp ks x i j) e w.1)))
 
-    pub climbed : (r : ℕ) → depth_at ks j < depth_at ks i → IsUp ks (depth_at ks i - depth_at ks j) i r → (r == j) ≡ is_above es a t
+    pub climbed : (r : ℕ) → depth_at ks j < depth_at ks i → IsUp ks (depth_at ks i - depth_at ks j) i r → (r == j) ≡ is_ancestor_of es a t
     climbed r lt up = climbed_by_cases (r == j) refl
       where
-        climbed_by_cases : (b : Bool) → (r == j) ≡ b → b ≡ is_above es a t
+        climbed_by_cases : (b : Bool) → (r == j) ≡ b → b ≡ is_ancestor_of es a t
         climbed_by_cases true e = met_there r lt up (eqb-true r j e)
         climbed_by_cases false e = passed_by r up (λ f. let g : (r == j) ≡ true = (let h : (j == j) ≡ true = grind arith in ap (λ x. x == j) f ∙ h) in cc)
 

@@ -1,5 +1,5 @@
 -- What the whole text has comes from its lines.
-use Rattle.image_check.proofs.Common.{◌≡◌, ◌++◌, ℕ, suc, Bool, true, false, List, [], ◌∷◌, cond, length, refl, ap, sym, ◌∙◌, inl, inr, ◌⊎◌, ◌==◌, ◌&&◌, ◌||◌, nat_eq, is_some, list_any, eqb-true, or_cases, or_left, or_right, and_parts, ImageObject, ImageRemembered, ImageLine, Nothing, Wrong, Title, OfTask, OfChunk, OfObject, OfRemembered, OfEnd, Whole, said_by, is_among, with_item, same_field, found, has, most, with_line, with_lines, IsObjectAt, IsRemembered}
+use Rattle.image_check.proofs.Common.{◌≡◌, ◌++◌, ℕ, suc, Bool, true, false, List, [], ◌∷◌, cond, length, refl, ap, sym, ◌∙◌, inl, inr, ◌⊎◌, ◌==◌, ◌&&◌, ◌||◌, nat_eq, is_some, list_any, eqb-true, or_cases, or_left, or_right, and_parts, ImageObject, ImageRemembered, ImageLine, Nothing, Wrong, Title, OfTask, OfChunk, OfObject, OfRemembered, OfEnd, Whole, line_meaning, is_among, with_item, same_field, found, has, most, with_line, with_lines, IsObjectAt, IsRemembered}
 use Rattle.image_check.proofs.Entries.{found_beside}
 
 -- ITEMS
@@ -82,14 +82,14 @@ field_line w (OfRemembered f) u a k e = field_line_by_cases (item_from same_fiel
 
 pub field_from : (w : Whole) (ls : List (List ℕ)) (u a k : ℕ) → is_among same_field (with_lines w ls).fields (u, a, k) ≡ true → (is_among same_field w.fields (u, a, k) ≡ true) ⊎ IsRemembered ls u a k
 field_from w [] u a k e = inl e
-field_from w (l ∷ ls) u a k e = field_from_by_cases (field_from (with_line w (said_by l)) ls u a k e)
+field_from w (l ∷ ls) u a k e = field_from_by_cases (field_from (with_line w (line_meaning l)) ls u a k e)
   where
-    field_from_at : ((is_among same_field w.fields (u, a, k) ≡ true) ⊎ (said_by l ≡ OfRemembered (field u a k))) → (is_among same_field w.fields (u, a, k) ≡ true) ⊎ IsRemembered (l ∷ ls) u a k
+    field_from_at : ((is_among same_field w.fields (u, a, k) ≡ true) ⊎ (line_meaning l ≡ OfRemembered (field u a k))) → (is_among same_field w.fields (u, a, k) ≡ true) ⊎ IsRemembered (l ∷ ls) u a k
     field_from_at (inl h) = inl h
     field_from_at (inr h) = inr (0, h)
 
-    field_from_by_cases : ((is_among same_field (with_line w (said_by l)).fields (u, a, k) ≡ true) ⊎ IsRemembered ls u a k) → (is_among same_field w.fields (u, a, k) ≡ true) ⊎ IsRemembered (l ∷ ls) u a k
-    field_from_by_cases (inl h) = field_from_at (field_line w (said_by l) u a k h)
+    field_from_by_cases : ((is_among same_field (with_line w (line_meaning l)).fields (u, a, k) ≡ true) ⊎ IsRemembered ls u a k) → (is_among same_field w.fields (u, a, k) ≡ true) ⊎ IsRemembered (l ∷ ls) u a k
+    field_from_by_cases (inl h) = field_from_at (field_line w (line_meaning l) u a k h)
     field_from_by_cases (inr h) = inr (suc h.0, h.1)
 
 -- OBJECTS
@@ -110,12 +110,12 @@ object_line w (OfObject o) v e = object_line_by_cases (nat_eq v o.address) refl
 
 pub object_from : (w : Whole) (ls : List (List ℕ)) (v : ℕ) → has (with_lines w ls).objects v ≡ true → (has w.objects v ≡ true) ⊎ IsObjectAt ls v
 object_from w [] v e = inl e
-object_from w (l ∷ ls) v e = object_from_by_cases (object_from (with_line w (said_by l)) ls v e)
+object_from w (l ∷ ls) v e = object_from_by_cases (object_from (with_line w (line_meaning l)) ls v e)
   where
-    object_from_at : ((has w.objects v ≡ true) ⊎ ((o : ImageObject) × (said_by l ≡ OfObject o) × (o.address ≡ v))) → (has w.objects v ≡ true) ⊎ IsObjectAt (l ∷ ls) v
+    object_from_at : ((has w.objects v ≡ true) ⊎ ((o : ImageObject) × (line_meaning l ≡ OfObject o) × (o.address ≡ v))) → (has w.objects v ≡ true) ⊎ IsObjectAt (l ∷ ls) v
     object_from_at (inl h) = inl h
     object_from_at (inr h) = inr (0, h.0, h.1, h.2)
 
-    object_from_by_cases : ((has (with_line w (said_by l)).objects v ≡ true) ⊎ IsObjectAt ls v) → (has w.objects v ≡ true) ⊎ IsObjectAt (l ∷ ls) v
-    object_from_by_cases (inl h) = object_from_at (object_line w (said_by l) v h)
+    object_from_by_cases : ((has (with_line w (line_meaning l)).objects v ≡ true) ⊎ IsObjectAt ls v) → (has w.objects v ≡ true) ⊎ IsObjectAt (l ∷ ls) v
+    object_from_by_cases (inl h) = object_from_at (object_line w (line_meaning l) v h)
     object_from_by_cases (inr h) = inr (suc h.0, h.1, h.2, h.3)

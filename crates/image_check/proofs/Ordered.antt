@@ -1,5 +1,5 @@
 -- After lines without a fault each task stands once, after its parent.
-use Rattle.image_check.proofs.Common.{◌≡◌, ◌∙◌, ℕ, Bool, true, false, cond, List, [], ◌∷◌, refl, ap, sym, Option, Some, None, not-false, ImageTask, ImageLine, Nothing, Wrong, Title, OfTask, OfChunk, OfObject, OfRemembered, OfEnd, Read, Whole, NoTask, said_by, has, nothing_read, after_line, lacks_parent, cause_on, after_lines, AreClear, TasksAreRelated}
+use Rattle.image_check.proofs.Common.{◌≡◌, ◌∙◌, ℕ, Bool, true, false, cond, List, [], ◌∷◌, refl, ap, sym, Option, Some, None, not-false, ImageTask, ImageLine, Nothing, Wrong, Title, OfTask, OfChunk, OfObject, OfRemembered, OfEnd, Read, Whole, NoTask, line_meaning, has, nothing_read, after_line, lacks_parent, cause_on, after_lines, AreClear, TasksAreRelated}
 use Rattle.image_check.proofs.Paths.{AreOrdered, task_more, ordered_more, related}
 use Rattle.image_check.proofs.Steps.{formed, cond_none}
 
@@ -26,7 +26,7 @@ line_ordered w r (OfEnd n) o e = o
 
 lines_ordered : (w : Whole) (r : Read) (ls : List (List ℕ)) → AreOrdered r.tasks → AreClear w r ls → AreOrdered (after_lines r ls).tasks
 lines_ordered w r [] o h = o
-lines_ordered w r (l ∷ ls) o h = lines_ordered w (after_line r (said_by l)) ls (line_ordered w r (said_by l) o h.0) h.1
+lines_ordered w r (l ∷ ls) o h = lines_ordered w (after_line r (line_meaning l)) ls (line_ordered w r (line_meaning l) o h.0) h.1
 
 pub tasks_are_related : TasksAreRelated
 tasks_are_related w ls h t u = related (after_lines nothing_read ls).tasks (lines_ordered w nothing_read ls none_yet h) t u

@@ -1,6 +1,5 @@
 -- Ancestors among tasks that each stand after their parents.
-use Rattle.image_check.proofs.Common.{◌≡◌, ◌<◌, ◌≤◌, ◌+◌, ℕ, zero, suc, Bool, true, false, cond, [], ◌∷◌, ◌++◌, length, refl, ap, sym, ◌∙◌, arith, inl, inr, ◌⊎◌, subst, length-append, Option, Some, None, ◌==◌, slice_get, nat_eq, is_some, eqb-true, or_cases, or_left, or_right, same_Some, got_front, got_back, got_within, below_next, ImageTask, Own, Above, Below, Apart, found, has, Tasks, parent_of, there_or_on, meets, is_above, LinksLead, IsAncestor, IsRelated, StandsAt}
-use Rattle.image_check.specs.Tasks.{parent_in}
+use Rattle.image_check.proofs.Common.{◌≡◌, ◌<◌, ◌≤◌, ◌+◌, ℕ, zero, suc, Bool, true, false, cond, [], ◌∷◌, ◌++◌, length, refl, ap, sym, ◌∙◌, arith, inl, inr, ◌⊎◌, subst, length-append, Option, Some, None, ◌==◌, slice_get, nat_eq, is_some, eqb-true, or_cases, or_left, or_right, same_Some, got_front, got_back, got_within, below_next, ImageTask, Own, Above, Below, Apart, found, has, Tasks, image_parent, there_or_on, meets, is_ancestor_of, LinksLead, IsAncestor, IsRelated, StandsAt, parent_of_row}
 use Rattle.image_check.proofs.Entries.{itself}
 
 abbrev pub Entry : Type 0
@@ -55,8 +54,8 @@ module _ (es : Tasks) (o : AreOrdered es) where
       let entry : p.entry ≡ e = same_Some p.entry e (sym p.got ∙ ap (slice_get es) same ∙ h) in
       x.1 ∙ ap Some (sym p.task ∙ ap (λ (f : Entry). f.1) entry)
 
-  parent_at : (i : ℕ) (t a : ℕ) → StandsAt es i t → parent_of es t ≡ Some a → (j : ℕ) × (j < i) × StandsAt es j a
-  parent_at i t a s h = o.behind i s.0 a s.1 (sym (ap parent_in (ap (found es) (sym s.2) ∙ found_at i s.0 s.1)) ∙ h)
+  parent_at : (i : ℕ) (t a : ℕ) → StandsAt es i t → image_parent es t ≡ Some a → (j : ℕ) × (j < i) × StandsAt es j a
+  parent_at i t a s h = o.behind i s.0 a s.1 (sym (ap parent_of_row (ap (found es) (sym s.2) ∙ found_at i s.0 s.1)) ∙ h)
 
   -- links lead to earlier places
   pub lead_up : (n t a i : ℕ) → StandsAt es i t → LinksLead n es t a → (j : ℕ) × (suc n + j ≤ i) × StandsAt es j a
@@ -66,7 +65,7 @@ module _ (es : Tasks) (o : AreOrdered es) where
       let r = lead_up n h.0 a p.0 p.2 h.2 in
       (r.0, (let l : p.0 < i = p.1 in let m : suc n + r.0 ≤ p.0 = r.1 in omega (arith, l, m)), r.2)
 
-  child_stands : (t a : ℕ) (m : Option ImageTask) → found es t ≡ m → parent_in m ≡ Some a → (i : ℕ) × StandsAt es i t
+  child_stands : (t a : ℕ) (m : Option ImageTask) → found es t ≡ m → parent_of_row m ≡ Some a → (i : ℕ) × StandsAt es i t
   child_stands t a None e h = absurd cc
   child_stands t a (Some x) e h = let p = placed es t x e in (p.place, (p.entry, p.got, p.number))
 
@@ -88,7 +87,7 @@ module _ (es : Tasks) (o : AreOrdered es) where
   met (suc m) (suc n) t a lt h = ap (there_or_on a (meets m es a)) h.1 ∙ or_right (h.0 == a) (meets m es a h.0) (met m n h.0 a (omega (arith, lt)) h.2)
 
   -- an ancestor is met
-  pub met_ancestor : (a t : ℕ) → IsAncestor es a t → is_above es a t ≡ true
+  pub met_ancestor : (a t : ℕ) → IsAncestor es a t → is_ancestor_of es a t ≡ true
   met_ancestor a t h = met (length es) h.0 t a (within h.0 t a h.1) h.1
 
   -- no ancestor of a task is its descendant
@@ -156,7 +155,7 @@ module _ (es : Tasks) (n : ℕ) (t : ImageTask) where
 
 -- WHAT IS MET IS AN ANCESTOR
 
-one_more : (n : ℕ) (tasks : Tasks) (a t : ℕ) (m : Option ℕ) → parent_of tasks t ≡ m → ((p : ℕ) → meets n tasks a p ≡ true → IsAncestor tasks a p) → there_or_on a (meets n tasks a) m ≡ true → IsAncestor tasks a t
+one_more : (n : ℕ) (tasks : Tasks) (a t : ℕ) (m : Option ℕ) → image_parent tasks t ≡ m → ((p : ℕ) → meets n tasks a p ≡ true → IsAncestor tasks a p) → there_or_on a (meets n tasks a) m ≡ true → IsAncestor tasks a t
 one_more n tasks a t None e again h = absurd (cc)
 one_more n tasks a t (Some p) e again h = one_more_by_cases (or_cases (p == a) (meets n tasks a p) h)
   where
@@ -166,9 +165,9 @@ one_more n tasks a t (Some p) e again h = one_more_by_cases (or_cases (p == a) (
 
 met_above : (n : ℕ) (tasks : Tasks) (a t : ℕ) → meets n tasks a t ≡ true → IsAncestor tasks a t
 met_above zero tasks a t h = absurd (cc)
-met_above (suc n) tasks a t h = one_more n tasks a t (parent_of tasks t) refl (λ p g. met_above n tasks a p g) h
+met_above (suc n) tasks a t h = one_more n tasks a t (image_parent tasks t) refl (λ p g. met_above n tasks a p g) h
 
-pub above : (tasks : Tasks) (a t : ℕ) → is_above tasks a t ≡ true → IsAncestor tasks a t
+pub above : (tasks : Tasks) (a t : ℕ) → is_ancestor_of tasks a t ≡ true → IsAncestor tasks a t
 above tasks a t h = met_above (length tasks) tasks a t h
 
 -- HOW TASKS STAND TO EACH OTHER
@@ -180,13 +179,13 @@ module _ (es : Tasks) (o : AreOrdered es) (t u : ℕ) where
   own_by false false true e h = absurd cc
   own_by false false false e h = absurd cc
 
-  above_by : (same up down : Bool) → is_above es u t ≡ up → (cond same Own (cond up Above (cond down Below Apart)) ≡ Above) → IsAncestor es u t
+  above_by : (same up down : Bool) → is_ancestor_of es u t ≡ up → (cond same Own (cond up Above (cond down Below Apart)) ≡ Above) → IsAncestor es u t
   above_by true up down e h = absurd cc
   above_by false true down e h = above es u t e
   above_by false false true e h = absurd cc
   above_by false false false e h = absurd cc
 
-  below_by : (same up down : Bool) → is_above es t u ≡ down → (cond same Own (cond up Above (cond down Below Apart)) ≡ Below) → IsAncestor es t u
+  below_by : (same up down : Bool) → is_ancestor_of es t u ≡ down → (cond same Own (cond up Above (cond down Below Apart)) ≡ Below) → IsAncestor es t u
   below_by true up down e h = absurd cc
   below_by false true down e h = absurd cc
   below_by false false true e h = above es t u e
@@ -196,7 +195,7 @@ module _ (es : Tasks) (o : AreOrdered es) (t u : ℕ) where
   not_own true e ne = absurd (ne (eqb-true u t e))
   not_own false e ne = e
 
-  not_met : (b : Bool) → is_above es u t ≡ b → (IsAncestor es u t → ⊥) → is_above es u t ≡ false
+  not_met : (b : Bool) → is_ancestor_of es u t ≡ b → (IsAncestor es u t → ⊥) → is_ancestor_of es u t ≡ false
   not_met true e never = absurd (never (above es u t e))
   not_met false e never = e
 
@@ -205,15 +204,15 @@ module _ (es : Tasks) (o : AreOrdered es) (t u : ℕ) where
 
   pub related : IsRelated es t u
   related = record {
-    own = (own_by (u == t) (is_above es u t) (is_above es t u) refl, λ e. let h : (u == t) ≡ true = (let g : (t == t) ≡ true = grind arith in ap (λ x. x == t) e ∙ g) in rw h refl);
+    own = (own_by (u == t) (is_ancestor_of es u t) (is_ancestor_of es t u) refl, λ e. let h : (u == t) ≡ true = (let g : (t == t) ≡ true = grind arith in ap (λ x. x == t) e ∙ g) in rw h refl);
     above = (
-      above_by (u == t) (is_above es u t) (is_above es t u) refl,
+      above_by (u == t) (is_ancestor_of es u t) (is_ancestor_of es t u) refl,
       λ h. let e : (u == t) ≡ false = not_own (u == t) refl (no_loop u t h) in rw (e, met_ancestor es o u t h) refl,
     );
     below = (
-      below_by (u == t) (is_above es u t) (is_above es t u) refl,
+      below_by (u == t) (is_ancestor_of es u t) (is_ancestor_of es t u) refl,
       λ h. let e : (u == t) ≡ false = not_own (u == t) refl (λ f. no_loop t u h (sym f)) in
-          let f : is_above es u t ≡ false = not_met (is_above es u t) refl (λ g. never_both es o t u h g) in
+          let f : is_ancestor_of es u t ≡ false = not_met (is_ancestor_of es u t) refl (λ g. never_both es o t u h g) in
           rw (e, f, met_ancestor es o t u h) refl,
     );
   }

@@ -1,5 +1,5 @@
 -- A text without a fault is sound.
-use Rattle.image_check.proofs.Common.{◌≡◌, ◌+◌, ℕ, zero, suc, Bool, true, false, cond, List, [], ◌∷◌, refl, ap, sym, ◌∙◌, arith, inl, inr, ◌⊎◌, subst, Option, Some, None, ◌==◌, ◌&&◌, ◌||◌, not, list_any, eqb-true, not-false, or_cases, or_parts, both_ways, is_last, lines_of, ImageBirth, ImageObject, ImageLine, Nothing, Wrong, Title, OfTask, OfChunk, OfObject, OfRemembered, OfEnd, Read, Whole, said_by, is_among, same_birth, same_field, has, nothing_read, nothing_had, after_line, with_lines, whole_of, Own, Above, Below, Apart, Tasks, Chunks, is_above, owner_in, owner_at, cause_on, fault_from, lines_fault, is_astray, relation_to, is_apart, is_below, crosses, forgets, is_forgotten, owner_runs, LineSays, ReferenceIs, IsObjectAt, IsRemembered, IsInRunning, LeadsSomewhere, KeepsToPath, IsSoundObject, all_read, HasSoundObjects, HasDistinctBirths, FaultlessIsSound}
+use Rattle.image_check.proofs.Common.{◌≡◌, ◌+◌, ℕ, zero, suc, Bool, true, false, cond, List, [], ◌∷◌, refl, ap, sym, ◌∙◌, arith, inl, inr, ◌⊎◌, subst, Option, Some, None, ◌==◌, ◌&&◌, ◌||◌, not, list_any, eqb-true, not-false, or_cases, or_parts, both_ways, is_last, lines_of, ImageBirth, ImageObject, ImageLine, Nothing, Wrong, Title, OfTask, OfChunk, OfObject, OfRemembered, OfEnd, Read, Whole, line_meaning, is_among, same_birth, same_field, has, nothing_read, nothing_had, after_line, with_lines, whole_of, Own, Above, Below, Apart, Tasks, Chunks, is_ancestor_of, owner_in, owner_at, cause_on, fault_from_line, lines_fault, is_astray, relation_to, is_apart, is_below, crosses, forgets, is_forgotten, owner_runs, LineSays, ReferenceIs, IsObjectAt, IsRemembered, IsInRunning, LeadsSomewhere, KeepsToPath, IsSoundObject, all_read, HasSoundObjects, HasDistinctBirths, FaultlessIsSound}
 use Rattle.image_check.proofs.Paths.{above}
 use Rattle.image_check.proofs.Steps.{clear, faultless, IsWell, well, met}
 use Rattle.image_check.proofs.Members.{item_kept, item_added, field_from, object_from}
@@ -27,21 +27,21 @@ born_again w r last s p b among c says e =
     both_ways (is_among same_birth r.births b)
     (ap (λ x. is_among same_birth r.births x) (sym e) ∙ (well w r last p (ap (λ x. cause_on w r last x) (sym says) ∙ c)).fresh) among
 
-born_once : (w : Whole) (r : Read) (n : ℕ) (ls : List (List ℕ)) (b : ℕ × ℕ) → is_among same_birth r.births b ≡ true → fault_from w r n ls ≡ None → (j : ℕ) (p : ImageObject) → LineSays ls j (OfObject p) → named p.birth ≡ b → ⊥
+born_once : (w : Whole) (r : Read) (n : ℕ) (ls : List (List ℕ)) (b : ℕ × ℕ) → is_among same_birth r.births b ≡ true → fault_from_line w r n ls ≡ None → (j : ℕ) (p : ImageObject) → LineSays ls j (OfObject p) → named p.birth ≡ b → ⊥
 born_once w r n [] b among none j p says e = says
-born_once w r n (l ∷ ls) b among none zero p says e = born_again w r (is_last ls) (said_by l) p b among (clear w r n l ls none).0 says e
-born_once w r n (l ∷ ls) b among none (suc j) p says e = born_once w (after_line r (said_by l)) (n + 1) ls b (still_born r (said_by l) b among) (clear w r n l ls none).1 j p says e
+born_once w r n (l ∷ ls) b among none zero p says e = born_again w r (is_last ls) (line_meaning l) p b among (clear w r n l ls none).0 says e
+born_once w r n (l ∷ ls) b among none (suc j) p says e = born_once w (after_line r (line_meaning l)) (n + 1) ls b (still_born r (line_meaning l) b among) (clear w r n l ls none).1 j p says e
 
 now_born : (r : Read) (s : ImageLine) (o : ImageObject) → s ≡ OfObject o → is_among same_birth (after_line r s).births (named o.birth) ≡ true
 now_born r s o e = ap (λ x. is_among same_birth (after_line r x).births (named o.birth)) e ∙ item_added same_birth r.births (named o.birth) (same_self (named o.birth))
 
-distinct : (w : Whole) (r : Read) (n : ℕ) (ls : List (List ℕ)) → fault_from w r n ls ≡ None → HasDistinctBirths ls
+distinct : (w : Whole) (r : Read) (n : ℕ) (ls : List (List ℕ)) → fault_from_line w r n ls ≡ None → HasDistinctBirths ls
 distinct w r n [] none i j o p lt a b e = a
 distinct w r n (l ∷ ls) none zero zero o p lt a b e = absurd (omega (arith, lt))
 distinct w r n (l ∷ ls) none zero (suc j) o p lt a b e =
-    born_once w (after_line r (said_by l)) (n + 1) ls (named o.birth) (now_born r (said_by l) o a) (clear w r n l ls none).1 j p b (ap named (sym e))
+    born_once w (after_line r (line_meaning l)) (n + 1) ls (named o.birth) (now_born r (line_meaning l) o a) (clear w r n l ls none).1 j p b (ap named (sym e))
 distinct w r n (l ∷ ls) none (suc i) zero o p lt a b e = absurd (omega (arith, lt))
-distinct w r n (l ∷ ls) none (suc i) (suc j) o p lt a b e = distinct w (after_line r (said_by l)) (n + 1) ls (clear w r n l ls none).1 i j o p (omega (arith, lt)) a b e
+distinct w r n (l ∷ ls) none (suc i) (suc j) o p lt a b e = distinct w (after_line r (line_meaning l)) (n + 1) ls (clear w r n l ls none).1 i j o p (omega (arith, lt)) a b e
 
 -- ONE OF THE REFERENCES
 
@@ -91,7 +91,7 @@ module _ (ls : List (List ℕ)) (r : Read) where
   noted_line u a k (inl e) = absurd (cc)
   noted_line u a k (inr h) = h
 
-  keeps_by : (a k t u : ℕ) (same up down : Bool) → (u == t) ≡ same → is_above r.tasks u t ≡ up → is_above r.tasks t u ≡ down
+  keeps_by : (a k t u : ℕ) (same up down : Bool) → (u == t) ≡ same → is_ancestor_of r.tasks u t ≡ up → is_ancestor_of r.tasks t u ≡ down
       → is_apart (Some (cond same Own (cond up Above (cond down Below Apart)))) ≡ false
       → (is_below (Some (cond same Own (cond up Above (cond down Below Apart)))) && not (is_among same_field w.fields (u, a, k))) ≡ false
       → KeepsToPath ls r a k t u
@@ -104,7 +104,7 @@ module _ (ls : List (List ℕ)) (r : Read) where
   keeps_on a k t v u e c f =
       let d : is_apart (relation_to r.tasks t (Some u)) ≡ false = ap (λ m. is_apart (relation_to r.tasks t m)) (sym e) ∙ c in
       let g : is_forgotten w r t a k (Some u) ≡ false = ap (λ m. is_forgotten w r t a k m) (sym e) ∙ f in
-      keeps_by a k t u (u == t) (is_above r.tasks u t) (is_above r.tasks t u) refl refl refl d g
+      keeps_by a k t u (u == t) (is_ancestor_of r.tasks u t) (is_ancestor_of r.tasks t u) refl refl refl d g
 
   pub sound_before : (o : ImageObject) → IsWell w r o → IsSoundObject ls r o
   sound_before o h = record {

@@ -1,5 +1,5 @@
 -- A text without a fault, line by line.
-use Rattle.image_check.proofs.Common.{◌≡◌, ◌<◌, ◌+◌, ℕ, zero, suc, Bool, true, false, List, [], ◌∷◌, cond, refl, ap, sym, ◌∙◌, arith, length, nat_le, Option, Some, None, ◌&&◌, not, list_any, or_parts, is_last, most_bytes, ImageChunk, ImageObject, ImageLine, Nothing, Wrong, Title, OfTask, OfChunk, OfObject, OfRemembered, OfEnd, ImagePosition, Read, Whole, ImageCause, Line, Twice, Place, Running, Ref, Cross, Down, ImageFault, said_by, is_among, same_birth, position_of, rises, after_line, last_after, is_running, chunk_at, has_wrong_place, is_misplaced, is_end, breaks_form, cause_by, cause_on, or_later, fault_from, lines_fault, image_fault, too_long, after_lines, is_astray, crosses, forgets, is_crowded, object_cause_in, references_cause, LineSays}
+use Rattle.image_check.proofs.Common.{◌≡◌, ◌<◌, ◌+◌, ℕ, zero, suc, Bool, true, false, List, [], ◌∷◌, cond, refl, ap, sym, ◌∙◌, arith, length, nat_le, Option, Some, None, ◌&&◌, not, list_any, or_parts, is_last, most_bytes, ImageChunk, ImageObject, ImageLine, Nothing, Wrong, Title, OfTask, OfChunk, OfObject, OfRemembered, OfEnd, ImagePosition, Read, Whole, ImageCause, Line, Twice, Place, Running, Ref, Cross, Down, ImageFault, line_meaning, is_among, same_birth, position_of, rises, after_line, last_after, is_running, chunk_at, has_wrong_place, is_misplaced, is_end, breaks_form, cause_by, cause_on, or_later_line, fault_from_line, lines_fault, image_fault, image_too_long, after_lines, is_astray, crosses, forgets, is_crowded, object_cause_in, references_cause, LineSays}
 use Rattle.image_check.specs.Read.{position}
 
 -- BOOLEANS
@@ -8,7 +8,7 @@ pub cond_none : (b : Bool) (c : ImageCause) (o : Option ImageCause) → cond b (
 cond_none true c o e = absurd (cc)
 cond_none false c o e = (refl, e)
 
-faultless_by : (b : Bool) (o : Option ImageFault) → cond b o (Some too_long) ≡ None → o ≡ None
+faultless_by : (b : Bool) (o : Option ImageFault) → cond b o (Some image_too_long) ≡ None → o ≡ None
 faultless_by true o e = e
 faultless_by false o e = absurd (cc)
 
@@ -16,12 +16,12 @@ faultless_by false o e = absurd (cc)
 pub faultless : (text : List ℕ) → image_fault text ≡ None → lines_fault text ≡ None
 faultless text e = faultless_by (nat_le (length text) most_bytes) (lines_fault text) e
 
-later_none : (o : Option ImageCause) (n : ℕ) (later : Option ImageFault) → or_later o n later ≡ None → (o ≡ None) × (later ≡ None)
+later_none : (o : Option ImageCause) (n : ℕ) (later : Option ImageFault) → or_later_line o n later ≡ None → (o ≡ None) × (later ≡ None)
 later_none None n later e = (refl, e)
 later_none (Some c) n later e = absurd (cc)
 
-pub clear : (w : Whole) (r : Read) (n : ℕ) (l : List ℕ) (ls : List (List ℕ)) → fault_from w r n (l ∷ ls) ≡ None → (cause_on w r (is_last ls) (said_by l) ≡ None) × (fault_from w (after_line r (said_by l)) (n + 1) ls ≡ None)
-clear w r n l ls e = later_none (cause_on w r (is_last ls) (said_by l)) n (fault_from w (after_line r (said_by l)) (n + 1) ls) e
+pub clear : (w : Whole) (r : Read) (n : ℕ) (l : List ℕ) (ls : List (List ℕ)) → fault_from_line w r n (l ∷ ls) ≡ None → (cause_on w r (is_last ls) (line_meaning l) ≡ None) × (fault_from_line w (after_line r (line_meaning l)) (n + 1) ls ≡ None)
+clear w r n l ls e = later_none (cause_on w r (is_last ls) (line_meaning l)) n (fault_from_line w (after_line r (line_meaning l)) (n + 1) ls) e
 
 pub formed : (w : Whole) (r : Read) (last : Bool) (s : ImageLine) → cause_on w r last s ≡ None → (is_misplaced r.last s ≡ false) × (cause_by w r s ≡ None)
 formed w r last s e =
@@ -85,12 +85,12 @@ line_stays r (OfObject o) past e = record { tasks = refl; chunks = refl; past = 
 line_stays r (OfRemembered f) past e = record { tasks = refl; chunks = refl; past = omega arith }
 line_stays r (OfEnd n) past e = record { tasks = refl; chunks = refl; past = omega arith }
 
-pub lines_stay : (w : Whole) (r : Read) (n : ℕ) (ls : List (List ℕ)) → IsPast r.last → fault_from w r n ls ≡ None → ((after_lines r ls).tasks ≡ r.tasks) × ((after_lines r ls).chunks ≡ r.chunks)
+pub lines_stay : (w : Whole) (r : Read) (n : ℕ) (ls : List (List ℕ)) → IsPast r.last → fault_from_line w r n ls ≡ None → ((after_lines r ls).tasks ≡ r.tasks) × ((after_lines r ls).chunks ≡ r.chunks)
 lines_stay w r n [] past e = (refl, refl)
 lines_stay w r n (l ∷ ls) past e =
     let c = clear w r n l ls e in
-    let s = line_stays r (said_by l) past (formed w r (is_last ls) (said_by l) c.0).0 in
-    let h = lines_stay w (after_line r (said_by l)) (n + 1) ls s.past c.1 in
+    let s = line_stays r (line_meaning l) past (formed w r (is_last ls) (line_meaning l) c.0).0 in
+    let h = lines_stay w (after_line r (line_meaning l)) (n + 1) ls s.past c.1 in
     (h.0 ∙ s.tasks, h.1 ∙ s.chunks)
 
 -- WHERE AN OBJECT'S LINE STANDS
@@ -102,10 +102,10 @@ pub record IsMet (w : Whole) (all : Read) (o : ImageObject) : Type 0 where
   pub tasks : all.tasks ≡ before.tasks
   pub chunks : all.chunks ≡ before.chunks
 
-object_cause_is_located : (w : Whole) (r : Read) (n : ℕ) (last : Bool) (ls : List (List ℕ)) (o : ImageObject) (s : ImageLine) → s ≡ OfObject o → cause_on w r last s ≡ None → fault_from w (after_line r s) (n + 1) ls ≡ None → IsMet w (after_lines (after_line r s) ls) o
+object_cause_is_located : (w : Whole) (r : Read) (n : ℕ) (last : Bool) (ls : List (List ℕ)) (o : ImageObject) (s : ImageLine) → s ≡ OfObject o → cause_on w r last s ≡ None → fault_from_line w (after_line r s) (n + 1) ls ≡ None → IsMet w (after_lines (after_line r s) ls) o
 object_cause_is_located w r n last ls o s e c f =
     let d : cause_on w r last (OfObject o) ≡ None = ap (λ x. cause_on w r last x) (sym e) ∙ c in
-    let g : fault_from w (after_line r (OfObject o)) (n + 1) ls ≡ None = ap (λ x. fault_from w (after_line r x) (n + 1) ls) (sym e) ∙ f in
+    let g : fault_from_line w (after_line r (OfObject o)) (n + 1) ls ≡ None = ap (λ x. fault_from_line w (after_line r x) (n + 1) ls) (sym e) ∙ f in
     let h = lines_stay w (after_line r (OfObject o)) (n + 1) ls (omega arith) g in
     record {
       before = r;
@@ -114,7 +114,7 @@ object_cause_is_located w r n last ls o s e c f =
       chunks = ap (λ x. (after_lines (after_line r x) ls).chunks) e ∙ h.1;
     }
 
-pub met : (w : Whole) (r : Read) (n : ℕ) (ls : List (List ℕ)) (i : ℕ) (o : ImageObject) → fault_from w r n ls ≡ None → LineSays ls i (OfObject o) → IsMet w (after_lines r ls) o
+pub met : (w : Whole) (r : Read) (n : ℕ) (ls : List (List ℕ)) (i : ℕ) (o : ImageObject) → fault_from_line w r n ls ≡ None → LineSays ls i (OfObject o) → IsMet w (after_lines r ls) o
 met w r n [] i o e h = absurd h
-met w r n (l ∷ ls) zero o e h = let c = clear w r n l ls e in object_cause_is_located w r n (is_last ls) ls o (said_by l) h c.0 c.1
-met w r n (l ∷ ls) (suc i) o e h = met w (after_line r (said_by l)) (n + 1) ls i o (clear w r n l ls e).1 h
+met w r n (l ∷ ls) zero o e h = let c = clear w r n l ls e in object_cause_is_located w r n (is_last ls) ls o (line_meaning l) h c.0 c.1
+met w r n (l ∷ ls) (suc i) o e h = met w (after_line r (line_meaning l)) (n + 1) ls i o (clear w r n l ls e).1 h

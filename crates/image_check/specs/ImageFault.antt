@@ -16,14 +16,14 @@ use Rattle.image_check.specs.declared.cause.ImageCause.TheVariants.{TooLong, Lin
 use Rattle.image_check.specs.declared.cause.ImageFault.{ImageFault}
 use Rattle.image_check.specs.declared.check.VerifyError.{VerifyError}
 use Rattle.image_check.specs.declared.check.VerifyError.TheVariants.{Refused, NoMemory}
-use Rattle.image_check.specs.Line.{said_by}
+use Rattle.image_check.specs.Line.{line_meaning}
 use Rattle.image_check.specs.ImageTable.{found, has}
 use Rattle.image_check.specs.Sets.{is_among, same_birth, same_field}
 use Rattle.image_check.specs.Place.{chunk_number, offset}
-use Rattle.image_check.specs.Read.{position_of, comes_next, end_of, last_after, nothing_read, after_line, whole_of}
+use Rattle.image_check.specs.Read.{position_of, comes_next, object_end, last_after, nothing_read, after_line, whole_of}
 use Rattle.image_check.specs.declared.tasks.Relation.{Relation}
 use Rattle.image_check.specs.declared.tasks.Relation.TheVariants.{Below, Apart}
-use Rattle.image_check.specs.Tasks.{Tasks, is_above, relation_of, HasParent, is_running, chunk_at, owner_at}
+use Rattle.image_check.specs.Tasks.{Tasks, is_ancestor_of, relation_of, HasParent, is_running, chunk_at, owner_at}
 
 -- LINE
 
@@ -57,7 +57,7 @@ overlaps (Some e) o = (e.chunk == chunk_number o.address) && nat_lt (offset o.ad
 
 -- it leaves its chunk, or overlaps the previous object line of that chunk
 abbrev pub is_crowded : Read → ImageChunk → ImageObject → Bool
-is_crowded r c o = nat_lt c.words (end_of o) || overlaps r.latest o
+is_crowded r c o = nat_lt c.words (object_end o) || overlaps r.latest o
 
 -- REF, CROSS, DOWN
 
@@ -104,7 +104,7 @@ forgets w r t a k (v ∷ vs) = is_forgotten w r t a k (owner_at r.chunks v) || f
 
 abbrev pub owner_is_above : Read → ℕ → Option ℕ → Bool
 owner_is_above r t None = false
-owner_is_above r t (Some u) = is_above r.tasks u t
+owner_is_above r t (Some u) = is_ancestor_of r.tasks u t
 
 abbrev pub has_field : Option ℕ → ℕ → Bool
 has_field None k = false
@@ -163,26 +163,26 @@ CanFollow r _ = Unit {0}
 
 -- THE FIRST LINE WITH A FAULT
 
-abbrev pub or_later : Option ImageCause → ℕ → Option ImageFault → Option ImageFault
-or_later (Some cause) number later = Some (record { line = number; cause = cause })
-or_later None number later = later
+abbrev pub or_later_line : Option ImageCause → ℕ → Option ImageFault → Option ImageFault
+or_later_line (Some cause) number later = Some (record { line = number; cause = cause })
+or_later_line None number later = later
 
 -- from line n on
-abbrev pub fault_from : Whole → Read → ℕ → List (List ℕ) → Option ImageFault
-fault_from w r n [] = None
-fault_from w r n (l ∷ ls) = or_later (cause_on w r (is_last ls) (said_by l)) n (fault_from w (after_line r (said_by l)) (n + 1) ls)
+abbrev pub fault_from_line : Whole → Read → ℕ → List (List ℕ) → Option ImageFault
+fault_from_line w r n [] = None
+fault_from_line w r n (l ∷ ls) = or_later_line (cause_on w r (is_last ls) (line_meaning l)) n (fault_from_line w (after_line r (line_meaning l)) (n + 1) ls)
 
 -- the first fault of the lines of a text
 abbrev pub lines_fault : List ℕ → Option ImageFault
-lines_fault text = fault_from (whole_of text) nothing_read 1 (lines_of text)
+lines_fault text = fault_from_line (whole_of text) nothing_read 1 (lines_of text)
 
 -- more bytes than the limit
-abbrev pub too_long : ImageFault
-too_long = record { line = 0; cause = TooLong }
+abbrev pub image_too_long : ImageFault
+image_too_long = record { line = 0; cause = TooLong }
 
 -- the first fault of a text
 abbrev pub image_fault : List ℕ → Option ImageFault
-image_fault text = if nat_le (length text) most_bytes then lines_fault text else Some too_long
+image_fault text = if nat_le (length text) most_bytes then lines_fault text else Some image_too_long
 
 -- OBJECTS
 
@@ -192,12 +192,12 @@ onto_count _ n = n
 
 abbrev pub object_count : List (List ℕ) → ℕ
 object_count [] = 0
-object_count (l ∷ ls) = onto_count (said_by l) (object_count ls)
+object_count (l ∷ ls) = onto_count (line_meaning l) (object_count ls)
 
 -- all that the lines say, added to what was read before
 abbrev pub after_lines : Read → List (List ℕ) → Read
 after_lines r [] = r
-after_lines r (l ∷ ls) = after_lines (after_line r (said_by l)) ls
+after_lines r (l ∷ ls) = after_lines (after_line r (line_meaning l)) ls
 
 -- the number of objects
 abbrev pub objects_in : List ℕ → ℕ

@@ -9,7 +9,7 @@ use Rattle.image_check.specs.declared.read.ImageExtent.{ImageExtent}
 use Rattle.image_check.specs.declared.read.Read.{Read}
 use Rattle.image_check.specs.declared.whole.Whole.{Whole}
 use Rattle.image_check.specs.Place.{chunk_number, offset}
-use Rattle.image_check.specs.Line.{said_by, most_fields}
+use Rattle.image_check.specs.Line.{line_meaning, most_fields}
 use Rattle.image_check.specs.ImageTable.{found, with_entry, with_new}
 use Rattle.image_check.specs.Sets.{with_item, same_birth, same_field}
 
@@ -44,11 +44,11 @@ comes_next (Some p) q = rises p q
 -- PLACES IN CHUNKS
 
 -- where an object ends in its chunk, after a header, a birth, references and numbers
-abbrev pub end_of : ImageObject → ℕ
-end_of o = offset o.address + 2 + length o.references + o.numbers
+abbrev pub object_end : ImageObject → ℕ
+object_end o = offset o.address + 2 + length o.references + o.numbers
 
 abbrev pub extent_of : ImageObject → ImageExtent
-extent_of o = record { chunk = chunk_number o.address; past = end_of o }
+extent_of o = record { chunk = chunk_number o.address; past = object_end o }
 
 -- WHAT WAS READ
 
@@ -94,7 +94,7 @@ with_line w _ = w
 
 abbrev pub with_lines : Whole → List (List ℕ) → Whole
 with_lines w [] = w
-with_lines w (l ∷ ls) = with_lines (with_line w (said_by l)) ls
+with_lines w (l ∷ ls) = with_lines (with_line w (line_meaning l)) ls
 
 abbrev pub whole_of : List ℕ → Whole
 whole_of text = with_lines nothing_had (lines_of text)

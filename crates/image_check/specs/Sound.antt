@@ -5,7 +5,7 @@ use Rattle.image_check.specs.declared.line.ImageObject.{ImageObject}
 use Rattle.image_check.specs.declared.line.ImageLine.{ImageLine}
 use Rattle.image_check.specs.declared.line.ImageLine.TheVariants.{OfObject, OfRemembered}
 use Rattle.image_check.specs.declared.read.Read.{Read}
-use Rattle.image_check.specs.Line.{said_by}
+use Rattle.image_check.specs.Line.{line_meaning}
 use Rattle.image_check.specs.declared.whole.Whole.{Whole}
 use Rattle.image_check.specs.Read.{nothing_read, after_line}
 use Rattle.image_check.specs.Tasks.{IsAncestor, IsRelated, is_running, owner_at}
@@ -14,7 +14,7 @@ use Rattle.image_check.specs.ImageFault.{cause_on, image_fault, after_lines, obj
 -- the line at this place says this
 abbrev pub LineSays : List (List ℕ) → ℕ → ImageLine → Type 0
 LineSays [] i s = ⊥
-LineSays (l ∷ ls) zero s = said_by l ≡ s
+LineSays (l ∷ ls) zero s = line_meaning l ≡ s
 LineSays (l ∷ ls) (suc i) s = LineSays ls i s
 
 -- the reference at a place
@@ -72,7 +72,7 @@ ObjectsAreCounted = (text : List ℕ) → image_fault text ≡ None → objects_
 -- none of these lines has a fault, and none is the end line
 abbrev pub AreClear : Whole → Read → List (List ℕ) → Type 0
 AreClear w r [] = Unit {0}
-AreClear w r (l ∷ ls) = (cause_on w r false (said_by l) ≡ None) × AreClear w (after_line r (said_by l)) ls
+AreClear w r (l ∷ ls) = (cause_on w r false (line_meaning l) ≡ None) × AreClear w (after_line r (line_meaning l)) ls
 
 -- after lines without a fault the relation that a lookup finds between two tasks is the true one
 abbrev pub TasksAreRelated : Type 0

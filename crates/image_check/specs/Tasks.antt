@@ -17,13 +17,13 @@ Chunks = List (ℕ × ImageChunk)
 
 -- PATHS
 
-abbrev pub parent_in : Option ImageTask → Option ℕ
-parent_in None = None
-parent_in (Some t) = t.parent
+abbrev pub parent_of_row : Option ImageTask → Option ℕ
+parent_of_row None = None
+parent_of_row (Some t) = t.parent
 
 -- the parent of a task, if it has one
-abbrev pub parent_of : Tasks → ℕ → Option ℕ
-parent_of tasks t = parent_in (found tasks t)
+abbrev pub image_parent : Tasks → ℕ → Option ℕ
+image_parent tasks t = parent_of_row (found tasks t)
 
 abbrev pub there_or_on : ℕ → (ℕ → Bool) → Option ℕ → Bool
 there_or_on a walk None = false
@@ -32,18 +32,18 @@ there_or_on a walk (Some p) = (p == a) || walk p
 -- a walk of at most n links to parents meets a
 abbrev pub meets : ℕ → Tasks → ℕ → ℕ → Bool
 meets zero tasks a t = false
-meets (suc n) tasks a t = there_or_on a (meets n tasks a) (parent_of tasks t)
+meets (suc n) tasks a t = there_or_on a (meets n tasks a) (image_parent tasks t)
 
 -- a walk from t meets a; it has fewer links than there are tasks
-abbrev pub is_above : Tasks → ℕ → ℕ → Bool
-is_above tasks a t = meets (length tasks) tasks a t
+abbrev pub is_ancestor_of : Tasks → ℕ → ℕ → Bool
+is_ancestor_of tasks a t = meets (length tasks) tasks a t
 
 -- how u is related to t
 abbrev pub relation_of : Tasks → ℕ → ℕ → Relation
 relation_of tasks t u =
     if u == t then Own
-    else if is_above tasks u t then Above
-    else if is_above tasks t u then Below
+    else if is_ancestor_of tasks u t then Above
+    else if is_ancestor_of tasks t u then Below
     else Apart
 
 -- the parent, if there is one, is among the tasks
@@ -53,8 +53,8 @@ HasParent tasks (Some p) = has tasks p ≡ true
 
 -- n + 1 links from a task lead to a
 abbrev pub LinksLead : ℕ → Tasks → ℕ → ℕ → Type 0
-LinksLead zero tasks t a = parent_of tasks t ≡ Some a
-LinksLead (suc n) tasks t a = (p : ℕ) × (parent_of tasks t ≡ Some p) × LinksLead n tasks p a
+LinksLead zero tasks t a = image_parent tasks t ≡ Some a
+LinksLead (suc n) tasks t a = (p : ℕ) × (image_parent tasks t ≡ Some p) × LinksLead n tasks p a
 
 -- a is a proper ancestor of t
 abbrev pub IsAncestor : Tasks → ℕ → ℕ → Type 0

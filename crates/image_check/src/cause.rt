@@ -1,7 +1,7 @@
 // Why an image is refused.
 
 ghost use Rattle.std.specs.Prelude.{◌≡◌};
-ghost use Rattle.image_check.specs.ImageCause.{text_of_cause};
+ghost use Rattle.image_check.specs.ImageCause.{image_cause_text};
 
 /// Why a line is refused, in the order in which the causes are looked for.
 #[derive(Clone, Copy, PartialEq, Eq)]
@@ -42,7 +42,7 @@ pub struct ImageFault {
 impl ImageCause {
     /// The cause in lower case without spaces.
     pub fn text(self) -> &'static str
-        ensures { result.now ≡ text_of_cause self }
+        ensures { result.now ≡ image_cause_text self }
     {
         match self {
             ImageCause::TooLong => "toolong",

@@ -2,9 +2,9 @@
 
 ghost use Rattle.std.specs.Prelude.{◌≡◌, ◌≤◌, length, IfOk, IfErr, IfNone, IsErr, IsOkAnd, MatchResult, None};
 ghost use Rattle.text_lines.specs.Lines.{lines_of, most_bytes};
-ghost use Rattle.image_check.specs.Line.{said_by};
+ghost use Rattle.image_check.specs.Line.{line_meaning};
 ghost use Rattle.image_check.specs.Read.{after_line, nothing_had, nothing_read, whole_of};
-ghost use Rattle.image_check.specs.ImageFault.{cause_on, fault_from, after_lines, lines_fault, image_fault, objects_in, Verifies, Fails};
+ghost use Rattle.image_check.specs.ImageFault.{cause_on, fault_from_line, after_lines, lines_fault, image_fault, objects_in, Verifies, Fails};
 
 use crate::cause::{ImageCause, ImageFault};
 use crate::faults::first_cause;
@@ -48,8 +48,8 @@ fn check_line(
     is_last: bool,
     line: &[u8],
 ) -> Result<Option<ImageCause>, AllocError>
-    ensures cause { IfOk result (λ cause. cause ≡ cause_on whole.now read.old is_last (said_by line.now)) }
-    ensures read { IfOk result (λ cause. IfNone cause (read.new ≡ after_line read.old (said_by line.now))) }
+    ensures cause { IfOk result (λ cause. cause ≡ cause_on whole.now read.old is_last (line_meaning line.now)) }
+    ensures read { IfOk result (λ cause. IfNone cause (read.new ≡ after_line read.old (line_meaning line.now))) }
 {
     let said = read_line(alloc, line)?;
     match first_cause(whole, read, is_last, &said) {
@@ -69,7 +69,7 @@ fn check_lines(
     text: &[u8],
 ) -> Result<Option<ImageFault>, AllocError>
     requires { length text.now ≤ most_bytes }
-    ensures fault { IfOk result (λ fault. fault ≡ fault_from whole.now read.old 1 (lines_of text.now)) }
+    ensures fault { IfOk result (λ fault. fault ≡ fault_from_line whole.now read.old 1 (lines_of text.now)) }
     ensures read { IfOk result (λ fault. IfNone fault (read.new ≡ after_lines read.old (lines_of text.now))) }
 {
     let mut rest = text;

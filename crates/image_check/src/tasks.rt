@@ -2,7 +2,7 @@
 
 ghost use Rattle.std.specs.Prelude.{◌≡◌, [], None, OnOk, MatchOption};
 ghost use Rattle.image_check.specs.ImageTable.{has, found, with_new};
-ghost use Rattle.image_check.specs.Tasks.{is_running, is_above, relation_of, HasParent};
+ghost use Rattle.image_check.specs.Tasks.{is_running, is_ancestor_of, relation_of, HasParent};
 ghost use Rattle.image_check.specs.Links.{StandsAt};
 
 use crate::line::{ImageState, ImageTask};
@@ -45,7 +45,7 @@ impl Model for Tasks {
 impl Tasks {
     ghost use Rattle.std.specs.Prelude.{◌≡◌, [], None, OnOk, MatchOption, length};
     ghost use Rattle.image_check.specs.ImageTable.{has, found, with_new};
-    ghost use Rattle.image_check.specs.Tasks.{is_running, is_above, parent_of, relation_of, HasParent};
+    ghost use Rattle.image_check.specs.Tasks.{is_running, is_ancestor_of, image_parent, relation_of, HasParent};
     ghost use Rattle.image_check.specs.Links.{StandsAt, IsParentAt};
 
     pub(crate) fn new(alloc: Global) -> Tasks
@@ -83,7 +83,7 @@ impl Tasks {
 
     /// The parent of a task, if it has one.
     pub fn parent(&self, number: u64) -> Option<u64>
-        ensures { result ≡ parent_of self.now number }
+        ensures { result ≡ image_parent self.now number }
     {
         match self.table.get(&number) {
             None => None,
@@ -127,7 +127,7 @@ impl Tasks {
 
     /// Whether a task is a proper ancestor of another.
     pub(crate) fn is_ancestor(&self, above: u64, below: u64) -> bool
-        ensures { result ≡ is_above self.now above below }
+        ensures { result ≡ is_ancestor_of self.now above below }
     {
         let links = &self.links;
         let Some(top) = self.place(above) else {

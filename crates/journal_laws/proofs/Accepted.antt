@@ -1,5 +1,5 @@
 -- An entry is accepted if and only if its conditions hold.
-use Rattle.journal_laws.proofs.Common.{◌≡◌, ℕ, zero, suc, ◌+◌, ◌<◌, ◌≤◌, ◌==◌, ◌&&◌, not, min, Bool, true, false, cond, Option, Some, None, List, [], ◌∷◌, slice_get, nat_le, nat_lt, ◌⊎◌, inl, inr, refl, ap, sym, ◌∙◌, is_none, is_some, arith, eqb-true, eq-eqb, ne_eqb, false≢true, and_parts, and_from, eqb-false, leb-true, leb-false, le-leb, lt-leb, ltb-true, lt-ltb, and-false, none_is, none_of, some_none, Kind, Took, Ran, Chunk, Begin, End as EndOf, PutOff, Mark, More, Sweep, Fuel, SettingsValue, ProgramText, is_running, is_waiting, Heap, Ledger, Refused, end_numbers, heap_of, in_use, left_in, take_of, words_in, is_due, is_in_need, most_steps, standing, counted, out_from, is_fuel, is_out, is_pool_enough, is_ready, kind_refusal, long_at, on_due, on_running, on_waiting, refused_holding, refused_if, refused_unless, option_is, held_is, is_held, holding_none, worker_of, worker_at, Allows, AcceptedIsAllowed, IsOutAt, WorkerHoldsTask, IsUnswept}
+use Rattle.journal_laws.proofs.Common.{◌≡◌, ℕ, zero, suc, ◌+◌, ◌<◌, ◌≤◌, ◌==◌, ◌&&◌, not, min, Bool, true, false, cond, Option, Some, None, List, [], ◌∷◌, slice_get, nat_le, nat_lt, ◌⊎◌, inl, inr, refl, ap, sym, ◌∙◌, is_none, is_some, arith, eqb-true, eq-eqb, ne_eqb, false≢true, and_parts, and_from, eqb-false, leb-true, leb-false, le-leb, lt-leb, ltb-true, lt-ltb, and-false, none_is, none_of, some_none, Kind, Took, Ran, Chunk, Begin, End as EndOf, PutOff, Mark, More, Sweep, Fuel, SettingsValue, ProgramText, is_running, is_waiting, Heap, Ledger, Refused, end_numbers, heap_of, in_use, left_in, take_of, words_in, is_due, is_in_need, most_steps, standing, unless_wrong_number, out_from, is_fuel, is_out, is_pool_enough, is_ready, kind_refusal, long_at, on_due, on_running, on_waiting, refused_holding, refused_if, refused_unless, option_is, held_is, is_held, holding_none, worker_of, worker_at, Allows, AcceptedIsAllowed, IsOutAt, WorkerHoldsTask, IsUnswept}
 use Rattle.journal_laws.proofs.Fewer.{long_none}
 
 -- nothing is both refused and accepted
@@ -71,10 +71,10 @@ free_out l w h = ap (λ o. refused_holding o None) (none_held w 0 l.heaps (λ u 
 
 -- NUMBERS
 
-counted_in : (said is : ℕ) (rest : Option Refused) → counted said is rest ≡ None → (said ≡ is) × (rest ≡ None)
+counted_in : (said is : ℕ) (rest : Option Refused) → unless_wrong_number said is rest ≡ None → (said ≡ is) × (rest ≡ None)
 counted_in said is rest h = let a = unless_in (said == is) _ _ h in (eqb-true said is a.0, a.1)
 
-counted_of : (said is : ℕ) (rest : Option Refused) → said ≡ is → rest ≡ None → counted said is rest ≡ None
+counted_of : (said is : ℕ) (rest : Option Refused) → said ≡ is → rest ≡ None → unless_wrong_number said is rest ≡ None
 counted_of said is rest e h = unless_of (said == is) _ _ (eq-eqb said is e) h
 
 three : (a b c : ℕ) (n : ℕ × ℕ × ℕ) → a ≡ n.0 → b ≡ n.1 → c ≡ n.2 → (a, b, c) ≡ n

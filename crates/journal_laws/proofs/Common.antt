@@ -52,11 +52,11 @@ pub use Rattle.run_ledger.proofs.Steps.{worker_at, SoundAt, heap_of_task, can_te
 pub use Rattle.run_ledger.proofs.Stocks.{copies, copies_keeps, keeps_copies, hit, hit_itself, StockedLedger, with_heap_any, allocated_total, G, same_copies, task_step_stocked, kind_stocked, legal_stocked, opening_stocked, distinct, L}
 pub use Rattle.run_ledger.proofs.Weights.{weight, total_set, kept_weight, total, Additive, moves_total, sum_flat, collected_weight, swept_weight, chunk_weight, weight_additive}
 pub use Rattle.run_ledger.specs.Cuts.{FewerStepsAreLegal, CanBeGiven, OwedCanBeGiven, Paced, PacedIsMeant, PaceGoesOn}
-pub use Rattle.run_ledger.specs.Entries.{counted, out_from, is_fuel, is_out, is_pool_enough, is_ready, kind_refusal, long_at, on_due, on_running, on_waiting, refused_holding, refused_if, refused_unless, after_kind, after, chunk_units, refusal, with_chunk, on_marking}
-pub use Rattle.run_ledger.specs.Heaps.{end_numbers, heap_of, in_use, left_in, take_of, words_in, held_in, held, heap_at, or_fresh, with_heap, with_heap_at, is_small, collected, swept_heap, frames_of, is_above, within, chunk_words, forked_heap, fresh, roots_of, words_of, words_at, words_sum, sweep_number, placed}
+pub use Rattle.run_ledger.specs.Entries.{unless_wrong_number, out_from, is_fuel, is_out, is_pool_enough, is_ready, kind_refusal, long_at, on_due, on_running, on_waiting, refused_holding, refused_if, refused_unless, after_kind, after, chunk_units, refusal, with_chunk, on_marking}
+pub use Rattle.run_ledger.specs.Heaps.{end_numbers, heap_of, in_use, left_in, take_of, words_in, held_in, held, heap_at, or_fresh, with_heap, with_heap_at, is_small_size, collected, swept_heap, frames_of, is_proper_ancestor, within, chunk_words, forked_heap, fresh, roots_of, object_words_of, words_at, words_sum, sweep_number, with_allocation}
 pub use Rattle.run_ledger.specs.Journals.{opening, after_all, ledger_of, tasks_in, tasks_of, is_legal_from, is_legal}
 pub use Rattle.run_ledger.specs.Laws.{Drops, IsDropped, HeldIsUndropped, WaitersAreFree, IsAtWork}
-pub use Rattle.run_ledger.specs.Pace.{waits_since, waits_on, is_unmarked, is_to_mark, is_under_way, more_of, owed_to_marks, owed_after, idle, pace_of, pace_opening, fork_of, noted, pace_after, pace_after_all, pace_at_end, gives, is_mark_of, is_more_of, is_sweep_of, marked_at_once, or_idle, owed, previous_by, is_paced_from}
+pub use Rattle.run_ledger.specs.Pace.{waits_since, waits_on, is_unmarked, is_to_mark, is_under_way, more_of, owed_to_marks, owed_after, idle, pace_of, pace_opening, fork_of, pace_noted, pace_after, pace_after_all, pace_at_end, gives, is_mark_of, is_more_of, is_sweep_of, marked_at_once, or_idle, owed, previous_by, is_paced_from}
 pub use Rattle.run_ledger.specs.Reachable.{is_name, holds_name, reached, reached_by}
 pub use Rattle.run_ledger.specs.Report.{held_not_running_from, tally, lost, freed_by_end, freed_by_sweep}
 pub use Rattle.run_ledger.specs.Space.{ProgramsAskFew, JournalsAreCounted, AsksAtMost, CountsFew, SinceIsBounded, store_words, WordsAreAccounted}

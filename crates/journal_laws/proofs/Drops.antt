@@ -1,5 +1,5 @@
 -- A name is held if and only if it was allocated and not dropped.
-use Rattle.journal_laws.proofs.Common.{◌≡◌, ℕ, zero, suc, ◌+◌, ◌≤◌, Bool, true, false, cond, Option, Some, None, List, [], ◌∷◌, slice_get, slice_set, nat_lt, Contains, ◌⊎◌, inl, inr, refl, sym, subst, ◌∙◌, arith, is_some, is_none, false≢true, both_ways, cases_eq, and_parts, In, in_from_contains, contains_from_in, got_same, got_other, Kind, Took, Ran, Chunk, Begin, End as EndOf, PutOff, Mark, More, Sweep, Fuel, EntryValue, SettingsValue, field_limit, ProgramText, Name, Object, MachineState, object_at, step, start, can_step, asked, owner_of, IsStored, next_name, Heap, Ledger, Pool, is_name, holds_name, held_in, held, heap_at, heap_of, or_fresh, with_heap, with_heap_at, is_small, in_use, collected, swept_heap, allocated_by, allocated_in, stepped_to, task_step, task_steps, on_asked, refusal, kind_refusal, after_kind, after, chunk_units, with_chunk, opening, after_all, ledger_of, is_legal_from, Drops, IsDropped, HeldIsUndropped, same_from_is_name, in_from_holds, holds_from_in, stepped_machine, collected_down, collected_up, swept_down, swept_up, Keeps, InHeaps, names_of, SoundLedger, held_keeps, in_held, SoundAt, heap_of_task, can_tells, task_step_sound, Grown, next_unstored, weight, total_set, copies, copies_keeps, keeps_copies, hit, hit_itself, StockedLedger, with_heap_any, allocated_total, G, same_copies, task_step_stocked, kind_stocked, legal_stocked, opening_stocked, out_tells, entry_tells, entry_sound, opening_sound}
+use Rattle.journal_laws.proofs.Common.{◌≡◌, ℕ, zero, suc, ◌+◌, ◌≤◌, Bool, true, false, cond, Option, Some, None, List, [], ◌∷◌, slice_get, slice_set, nat_lt, Contains, ◌⊎◌, inl, inr, refl, sym, subst, ◌∙◌, arith, is_some, is_none, false≢true, both_ways, cases_eq, and_parts, In, in_from_contains, contains_from_in, got_same, got_other, Kind, Took, Ran, Chunk, Begin, End as EndOf, PutOff, Mark, More, Sweep, Fuel, EntryValue, SettingsValue, field_limit, ProgramText, Name, Object, MachineState, object_at, step, start, can_step, asked, owner_of, IsStored, next_name, Heap, Ledger, Pool, is_name, holds_name, held_in, held, heap_at, heap_of, or_fresh, with_heap, with_heap_at, is_small_size, in_use, collected, swept_heap, allocated_by, allocated_in, stepped_to, task_step, task_steps, on_asked, refusal, kind_refusal, after_kind, after, chunk_units, with_chunk, opening, after_all, ledger_of, is_legal_from, Drops, IsDropped, HeldIsUndropped, same_from_is_name, in_from_holds, holds_from_in, stepped_machine, collected_down, collected_up, swept_down, swept_up, Keeps, InHeaps, names_of, SoundLedger, held_keeps, in_held, SoundAt, heap_of_task, can_tells, task_step_sound, Grown, next_unstored, weight, total_set, copies, copies_keeps, keeps_copies, hit, hit_itself, StockedLedger, with_heap_any, allocated_total, G, same_copies, task_step_stocked, kind_stocked, legal_stocked, opening_stocked, out_tells, entry_tells, entry_sound, opening_sound}
 use Rattle.journal_laws.proofs.Words.{chunk_even}
 
 -- from one state and its heaps to the next: of what was held, all but the dropped is still held; all that is new is
@@ -164,7 +164,7 @@ cut_any l t f names S I dn up = cut_any_by_cases (heap_at l t) refl
 
 chunk_flows : (l : Ledger) (t : ℕ) (next : Option ℕ) (full : Bool) (end : Ledger) → Flows Nothing l end → Flows Nothing l (cond full end (with_heap l t (with_chunk next)))
 chunk_flows l t next true end E = E
-chunk_flows l t next false end E = even l t (with_chunk next) (λ h g. chunk_even next h g (on_asked next is_small))
+chunk_flows l t next false end E = even l t (with_chunk next) (λ h g. chunk_even next h g (on_asked next is_small_size))
 
 kind_flows : (p : ProgramText) (s : SettingsValue) (l : Ledger) (w : ℕ) (kind : Kind) → SoundLedger l → StockedLedger l → is_none (kind_refusal p s l w kind) ≡ true → Flows (Drops l kind) l (after_kind p s l w kind)
 kind_flows p s l w (Took t) S I h = even l t _ (λ h g. refl)

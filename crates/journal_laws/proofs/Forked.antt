@@ -1,5 +1,5 @@
 -- A fork records what was reachable within the heap just before it.
-use Rattle.journal_laws.proofs.Common.{◌≡◌, ℕ, zero, suc, ◌+◌, ◌<◌, ◌==◌, ◌&&◌, not, Bool, true, Some, None, List, [], ◌∷◌, ◌++◌, length, filter, slice_get, slice_set, inl, inr, refl, ap, ap₂, sym, ◌∙◌, flat_map, false≢true, both_ways, cond-true, fun_ext, got_same, got_within, Par, Line, ProgramText, Name, Object, Waiting, Task, MachineState, onward, refs_at, refs_of, registers, words_asked, asked, asked_line, can_step, child, ended_task, fetched, is_running, is_waiting, joined_task, owner_of, parent_of, parents, result_of, resumed, step, waits, IsForkJoinState, waiting, asked_at, fork_owner, rows_same, path_same, running_tells, grown_at, grown_view_front, three_left, three_right, below, step_cases, frames_of, is_above, within, reached, reached_by, once_by, wait_run, can_tells}
+use Rattle.journal_laws.proofs.Common.{◌≡◌, ℕ, zero, suc, ◌+◌, ◌<◌, ◌==◌, ◌&&◌, not, Bool, true, Some, None, List, [], ◌∷◌, ◌++◌, length, filter, slice_get, slice_set, inl, inr, refl, ap, ap₂, sym, ◌∙◌, flat_map, false≢true, both_ways, cond-true, fun_ext, got_same, got_within, Par, Line, ProgramText, Name, Object, Waiting, Task, MachineState, onward, refs_at, refs_of, registers, words_asked, asked, asked_line, can_step, child, ended_task, fetched, is_running, is_waiting, joined_task, owner_of, parent_of, parents, result_of, resumed, step, waits, IsForkJoinState, waiting, asked_at, fork_owner, rows_same, path_same, running_tells, grown_at, grown_view_front, three_left, three_right, below, step_cases, frames_of, is_proper_ancestor, within, reached, reached_by, once_by, wait_run, can_tells}
 
 -- REACHABILITY, in stores with the same references
 
@@ -15,7 +15,7 @@ within_by refs store names regs above hs = reached store names (regs ++ flat_map
 -- reachability within t's heap depends on the same
 pub record SeesSame (m m' : MachineState) (t : ℕ) : Type 0 where
   pub registers : registers (frames_of (slice_get m'.tasks t)) ≡ registers (frames_of (slice_get m.tasks t))
-  pub above : (n : Name) → is_above m'.tasks (owner_of m'.tasks n.task) t ≡ is_above m.tasks (owner_of m.tasks n.task) t
+  pub above : (n : Name) → is_proper_ancestor m'.tasks (owner_of m'.tasks n.task) t ≡ is_proper_ancestor m.tasks (owner_of m.tasks n.task) t
   pub refs : (n : Name) → refs_at m'.store n ≡ refs_at m.store n
 
 module _ (p : ProgramText) (m : MachineState) (t : ℕ) (K : IsForkJoinState m) (can : can_step m t ≡ true) where
@@ -40,8 +40,8 @@ module _ (p : ProgramText) (m : MachineState) (t : ℕ) (K : IsForkJoinState m) 
       record {
         registers = ap (λ ts. registers (frames_of (slice_get ts t))) et ∙ (ap (λ o. registers (frames_of o)) (grown_at m.tasks t x y cl cr is) ∙ ap (λ o. registers (frames_of o)) (sym is));
         above = λ n.
-            ap (λ ts. is_above ts (owner_of ts n.task) t) et
-            ∙ (ap (λ a. is_above all a t) (fork_owner m t K x g h is run n.task)
+            ap (λ ts. is_proper_ancestor ts (owner_of ts n.task) t) et
+            ∙ (ap (λ a. is_proper_ancestor all a t) (fork_owner m t K x g h is run n.task)
             ∙ ap (λ b. b && not (owner_of m.tasks n.task == t)) (path_same (parents m.tasks) (parents all) K.tree.low (length m.tasks) (λ v lv. grown_view_front m.tasks t x y cl cr is parent_of refl v lv) (owner_of m.tasks n.task) t lt));
         refs = λ n. ap (λ s. refs_at s n) es ∙ ap refs_of (rows_same m.store n.task n.count);
       }

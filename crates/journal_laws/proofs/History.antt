@@ -1,5 +1,5 @@
 -- Survivors and snapshots are what was reachable when they were recorded.
-use Rattle.journal_laws.proofs.Common.{◌≡◌, ℕ, zero, suc, ◌+◌, ◌≤◌, Bool, true, false, cond, Option, Some, None, List, [], ◌∷◌, ◌++◌, length, slice_get, slice_set, sum_by, nat_lt, ◌⊎◌, inl, inr, refl, ap, sym, subst, ◌∙◌, is_none, is_some, append_assoc, append-nil, arith, eqb-true, false≢true, cases_eq, both_ways, and_parts, eqb-false, sum_by-cons, In, in_append_cases, in_from_contains, in_from_kept, contains_from_in, got_front, got_other, got_same, got_within, Kind, Took, Ran, Chunk, Begin, End as EndOf, PutOff, Mark, More, Sweep, Fuel, EntryValue, SettingsValue, ProgramText, Name, Object, MachineState, asked, can_step, is_running, step, waiting, waits_is, wait_task, waits_alone, Heap, Ledger, Pool, reached_by, chunk_words, collected, forked_heap, fresh, heap_at, heap_of, held_in, in_use, is_small, or_fresh, roots_of, swept_heap, take_of, with_heap, with_heap_at, within, allocated_by, allocated_in, at_fork, moved_on, moved_to, on_asked, settled, stepped_to, task_step, task_steps, after, after_kind, chunk_units, is_out, kind_refusal, refusal, with_chunk, is_legal_from, ledger_of, opening, wait_run, after_cut, cut_legal, left_step, heap_view, heap_off, chunk_up, swept_up, collecting_is, entry_sound, entry_tells, none_unless, opening_sound, out_runs, out_tells, stepped_machine, moves_each, SoundLedger, collecting, SoundAt, heap_of_task, step_keeps, step_leaves, steps_keep, task_step_sound, can_tells, task_steps_sound, copies, distinct, hit, legal_stocked, with_heap_any, kept_weight, weight, BeganWith, ForkedWith, HasNone, SnapshotsAreHeld, SnapshotsAreWithin, SurvivorsAreWithin, begins, is_of_steps}
+use Rattle.journal_laws.proofs.Common.{◌≡◌, ℕ, zero, suc, ◌+◌, ◌≤◌, Bool, true, false, cond, Option, Some, None, List, [], ◌∷◌, ◌++◌, length, slice_get, slice_set, sum_by, nat_lt, ◌⊎◌, inl, inr, refl, ap, sym, subst, ◌∙◌, is_none, is_some, append_assoc, append-nil, arith, eqb-true, false≢true, cases_eq, both_ways, and_parts, eqb-false, sum_by-cons, In, in_append_cases, in_from_contains, in_from_kept, contains_from_in, got_front, got_other, got_same, got_within, Kind, Took, Ran, Chunk, Begin, End as EndOf, PutOff, Mark, More, Sweep, Fuel, EntryValue, SettingsValue, ProgramText, Name, Object, MachineState, asked, can_step, is_running, step, waiting, waits_is, wait_task, waits_alone, Heap, Ledger, Pool, reached_by, chunk_words, collected, forked_heap, fresh, heap_at, heap_of, held_in, in_use, is_small_size, or_fresh, roots_of, swept_heap, take_of, with_heap, with_heap_at, within, allocated_by, allocated_in, at_fork, moved_on, moved_to, on_asked, settled, stepped_to, task_step, task_steps, after, after_kind, chunk_units, is_out, kind_refusal, refusal, with_chunk, is_legal_from, ledger_of, opening, wait_run, after_cut, cut_legal, left_step, heap_view, heap_off, chunk_up, swept_up, collecting_is, entry_sound, entry_tells, none_unless, opening_sound, out_runs, out_tells, stepped_machine, moves_each, SoundLedger, collecting, SoundAt, heap_of_task, step_keeps, step_leaves, steps_keep, task_step_sound, can_tells, task_steps_sound, copies, distinct, hit, legal_stocked, with_heap_any, kept_weight, weight, BeganWith, ForkedWith, HasNone, SnapshotsAreHeld, SnapshotsAreWithin, SurvivorsAreWithin, begins, is_of_steps}
 use Rattle.journal_laws.proofs.OfNames.{flat_fresh, flat_set, held_fresh, held_set, within_same}
 
 -- ONE HEAP OF A LEDGER
@@ -42,7 +42,7 @@ on_end t u l c = elim (cases_eq t u) [
 
 on_chunk : (t u : ℕ) (l : Ledger) (next : Option ℕ) (full : Bool) → GoesOn t l (cond full (record l { end = Some (Pool (in_use l)) }) (with_heap l u (with_chunk next)))
 on_chunk t u l next true c = (c, refl)
-on_chunk t u l next false c = on_view t u l (with_chunk next) (λ h. begun_by h (on_asked next is_small)) (λ h. survivors_by h (on_asked next is_small)) c
+on_chunk t u l next false c = on_view t u l (with_chunk next) (λ h. begun_by h (on_asked next is_small_size)) (λ h. survivors_by h (on_asked next is_small_size)) c
   where
     begun_by : (h : Heap) (v : Bool) → (cond v (record h { chunks = h.chunks ++ [] ∷ []; room = chunk_words }) (record h { reserved = chunk_units next })).begun ≡ h.begun
     begun_by h true = refl
@@ -163,7 +163,7 @@ wait_off t u l f ne = with_heap_any (WaitsOn t l) l u f (λ w. (w, refl, λ n i 
 
 wait_chunk : (t u : ℕ) (l : Ledger) (next : Option ℕ) (full : Bool) → WaitsOn t l (cond full (record l { end = Some (Pool (in_use l)) }) (with_heap l u (with_chunk next)))
 wait_chunk t u l next true = λ w. (w, refl, λ n i j. j)
-wait_chunk t u l next false = wait_view t u l (with_chunk next) (λ h. wait_chunk_same h (on_asked next is_small)) (λ h n i j. held h n (on_asked next is_small) j)
+wait_chunk t u l next false = wait_view t u l (with_chunk next) (λ h. wait_chunk_same h (on_asked next is_small_size)) (λ h n i j. held h n (on_asked next is_small_size) j)
   where
     wait_chunk_same : (h : Heap) (v : Bool) → (cond v (record h { chunks = h.chunks ++ [] ∷ []; room = chunk_words }) (record h { reserved = chunk_units next })).snapshot ≡ h.snapshot
     wait_chunk_same h true = refl

@@ -1,12 +1,12 @@
 -- What heaps hold, counted by the names of stored objects, and by the heaps of tasks that don't run.
-use Rattle.journal_laws.proofs.Common.{◌≡◌, ℕ, ◌+◌, ◌≤◌, Bool, true, false, cond, List, [], ◌∷◌, ◌++◌, slice_get, length, inl, refl, ap, arith, inr, flat_map, sum_by-cons, In, Name, MachineState, Task, IsStored, is_running, Heap, held_in, words_of, words_at, words_sum, held_not_running_from}
+use Rattle.journal_laws.proofs.Common.{◌≡◌, ℕ, ◌+◌, ◌≤◌, Bool, true, false, cond, List, [], ◌∷◌, ◌++◌, slice_get, length, inl, refl, ap, arith, inr, flat_map, sum_by-cons, In, Name, MachineState, Task, IsStored, is_running, Heap, held_in, object_words_of, words_at, words_sum, held_not_running_from}
 
 -- there are at most as many names of stored objects as words of these
 pub stored_most : (m : MachineState) (ns : List Name) → ((n : Name) → In ns n → IsStored m n) → length ns ≤ words_sum m ns
 stored_most m [] stored = omega arith
 stored_most m (n ∷ ns) stored =
     let o = stored n (inl refl) in
-    let a : words_at m n ≡ 2 + length o.0.refs + length o.0.ints = ap words_of o.1 in
+    let a : words_at m n ≡ 2 + length o.0.refs + length o.0.ints = ap object_words_of o.1 in
     let b = sum_by-cons (words_at m) n ns in
     let c = stored_most m ns (λ k i. stored k (inr i)) in
     omega arith

@@ -1,5 +1,5 @@
 -- What is reachable within a heap depends only on the held names.
-use Rattle.journal_laws.proofs.Common.{◌≡◌, ℕ, zero, suc, Option, Some, None, List, [], ◌∷◌, ◌++◌, filter, slice_get, slice_set, inl, inr, refl, ap, ap₂, sym, ◌∙◌, flat_map, cases_eq, same_Some, got_same, got_other, Name, registers, refs_at, owner_of, Heap, Ledger, fresh, held, frames_of, held_in, heap_of, is_above, or_fresh, within, reached}
+use Rattle.journal_laws.proofs.Common.{◌≡◌, ℕ, zero, suc, Option, Some, None, List, [], ◌∷◌, ◌++◌, filter, slice_get, slice_set, inl, inr, refl, ap, ap₂, sym, ◌∙◌, flat_map, cases_eq, same_Some, got_same, got_other, Name, registers, refs_at, owner_of, Heap, Ledger, fresh, held, frames_of, held_in, heap_of, is_proper_ancestor, or_fresh, within, reached}
 
 -- the names of all heaps, after one heap's account is written with the same names
 pub flat_set : (heaps : List Heap) (t : ℕ) (h h' : Heap) → slice_get heaps t ≡ Some h → held_in h' ≡ held_in h → flat_map held_in (slice_set heaps t h') ≡ flat_map held_in heaps
@@ -31,7 +31,7 @@ held_fresh (h ∷ heaps) (suc u) = held_fresh heaps u
 abbrev within_of : Ledger → ℕ → List Name → List Name → List Name
 within_of l u ns hs =
     reached l.machine.store ns
-    (registers (frames_of (slice_get l.machine.tasks u)) ++ flat_map (refs_at l.machine.store) (filter (λ n. is_above l.machine.tasks (owner_of l.machine.tasks n.task) u) hs))
+    (registers (frames_of (slice_get l.machine.tasks u)) ++ flat_map (refs_at l.machine.store) (filter (λ n. is_proper_ancestor l.machine.tasks (owner_of l.machine.tasks n.task) u) hs))
 
 -- the same machine and the same names
 pub within_same : (l : Ledger) (heaps : List Heap) (u : ℕ) → flat_map held_in heaps ≡ held l → held_in (or_fresh (slice_get heaps u)) ≡ held_in (heap_of l u) → within (record l { heaps = heaps }) u ≡ within l u

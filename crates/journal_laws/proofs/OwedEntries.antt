@@ -1,5 +1,5 @@
 -- What the pace asks for is never refused.
-use Rattle.journal_laws.proofs.Common.{◌≡◌, ℕ, zero, suc, ◌+◌, ◌<◌, ◌≤◌, ◌==◌, not, Bool, true, false, cond, Option, Some, None, List, [], ◌∷◌, ◌++◌, slice_get, slice_set, nat_lt, nat_le, ◌⊎◌, inl, inr, refl, ap, sym, subst, ◌∙◌, arith, is_some, is_none, eq-eqb, replicate, length, false≢true, both_ways, cases_eq, and_parts, not-true, same_Some, In, got_same, got_other, got_within, in_append_cases, got_none, Kind, Took, Ran, Chunk, Begin, End as EndOf, PutOff, Mark, More, Sweep, Fuel, EntryValue, SettingsValue, ProgramText, Strand, Waiting, Task, MachineState, onward, waits, is_waiting, child, joined_task, resumed, ended_task, result_of, step, can_step, asked, strand_of, step_cases, grown_at, grown_other, three_top, three_left, three_right, three_other, below, Heap, Ledger, Pool, Previous, Other, Forked, WorkerPace, heap_at, heap_of, or_fresh, with_heap, with_heap_at, words_in, left_in, in_use, is_small, chunk_words, collected, swept_heap, sweep_number, allocated_in, stepped_to, task_step, task_steps, on_asked, refusal, kind_refusal, after_kind, after, on_marking, refused_if, refused_unless, with_chunk, chunk_units, opening, after_all, ledger_of, is_legal_from, waits_since, waits_on, is_unmarked, is_to_mark, is_under_way, more_of, owed_to_marks, owed_after, idle, pace_of, pace_opening, fork_of, noted, pace_after, pace_after_all, pace_at_end, CanBeGiven, OwedCanBeGiven, stepped_machine, heap_machine, SoundLedger, SoundAt, step_keeps, step_leaves, steps_keep, can_tells, with_heap_any, out_tells, wait_tells, entry_tells, entry_sound, opening_sound, wait_run}
+use Rattle.journal_laws.proofs.Common.{◌≡◌, ℕ, zero, suc, ◌+◌, ◌<◌, ◌≤◌, ◌==◌, not, Bool, true, false, cond, Option, Some, None, List, [], ◌∷◌, ◌++◌, slice_get, slice_set, nat_lt, nat_le, ◌⊎◌, inl, inr, refl, ap, sym, subst, ◌∙◌, arith, is_some, is_none, eq-eqb, replicate, length, false≢true, both_ways, cases_eq, and_parts, not-true, same_Some, In, got_same, got_other, got_within, in_append_cases, got_none, Kind, Took, Ran, Chunk, Begin, End as EndOf, PutOff, Mark, More, Sweep, Fuel, EntryValue, SettingsValue, ProgramText, Strand, Waiting, Task, MachineState, onward, waits, is_waiting, child, joined_task, resumed, ended_task, result_of, step, can_step, asked, strand_of, step_cases, grown_at, grown_other, three_top, three_left, three_right, three_other, below, Heap, Ledger, Pool, Previous, Other, Forked, WorkerPace, heap_at, heap_of, or_fresh, with_heap, with_heap_at, words_in, left_in, in_use, is_small_size, chunk_words, collected, swept_heap, sweep_number, allocated_in, stepped_to, task_step, task_steps, on_asked, refusal, kind_refusal, after_kind, after, on_marking, refused_if, refused_unless, with_chunk, chunk_units, opening, after_all, ledger_of, is_legal_from, waits_since, waits_on, is_unmarked, is_to_mark, is_under_way, more_of, owed_to_marks, owed_after, idle, pace_of, pace_opening, fork_of, pace_noted, pace_after, pace_after_all, pace_at_end, CanBeGiven, OwedCanBeGiven, stepped_machine, heap_machine, SoundLedger, SoundAt, step_keeps, step_leaves, steps_keep, can_tells, with_heap_any, out_tells, wait_tells, entry_tells, entry_sound, opening_sound, wait_run}
 use Rattle.std.proofs.lemmas.Bool.{eqb-true}
 use Rattle.hh_model.proofs.ForkJoinStates.{IsForkJoinState}
 use Rattle.run_ledger.specs.declared.data.Previous.TheVariants.{Ran as RanBefore}
@@ -135,7 +135,7 @@ chunk_touched h n false q = q
 
 known_chunk : (l : Ledger) (t : ℕ) (next : Option ℕ) (full : Bool) (fork : Strand) → Known l fork → Known (cond full (record l { end = Some (Pool (in_use l)) }) (with_heap l t (with_chunk next))) fork
 known_chunk l t next true fork K = K
-known_chunk l t next false fork K = known_heap l t (with_chunk next) (λ h q. chunk_touched h (chunk_units next) (on_asked next is_small) q) fork K
+known_chunk l t next false fork K = known_heap l t (with_chunk next) (λ h q. chunk_touched h (chunk_units next) (on_asked next is_small_size) q) fork K
 
 known_kind : (p : ProgramText) (s : SettingsValue) (l : Ledger) (w : ℕ) (kind : Kind) → SoundLedger l → is_none (kind_refusal p s l w kind) ≡ true → (fork : Strand) → Known l fork → Known (after_kind p s l w kind) fork
 known_kind p s l w (Took t) S h fork K = known_heap l t _ (λ g q. q) fork K
@@ -168,7 +168,7 @@ new_known l t (Some x) e w S fork i =
 
 -- the forks recorded as marked by a worker
 noted_cases : (p : ProgramText) (s : SettingsValue) (l : Ledger) (w : ℕ) (kind : Kind) (x : WorkerPace) → SoundLedger l → is_none (kind_refusal p s l w kind) ≡ true → ((fork : Strand) → In x.marks fork → Known l fork)
-    → (fork : Strand) → In (noted (after_kind p s l w kind) x kind).marks fork → Known (after_kind p s l w kind) fork
+    → (fork : Strand) → In (pace_noted (after_kind p s l w kind) x kind).marks fork → Known (after_kind p s l w kind) fork
 noted_cases p s l w (Mark t) x S h K fork i =
     elim (in_append_cases (fork_of t (slice_get (after_kind p s l w (Mark t)).machine.tasks t)) x.marks fork i) [
       | inl new ↦ new_known l t (slice_get l.machine.tasks t) refl (wait_tells l t _ h).0 S fork new
@@ -194,7 +194,7 @@ pace_cases (x ∷ pace) (suc w) (suc v) y = pace_cases pace w v y
 
 entry_known : (p : ProgramText) (s : SettingsValue) (l : Ledger) (pace : List WorkerPace) (e : EntryValue) → SoundLedger l → is_none (kind_refusal p s l e.worker e.kind) ≡ true → AllKnown l pace → AllKnown (after p s l e) (pace_after (after p s l e) pace e)
 entry_known p s l pace e S h A v fork i =
-    let y = noted (after p s l e) (pace_of pace e.worker) e.kind in
+    let y = pace_noted (after p s l e) (pace_of pace e.worker) e.kind in
     elim (pace_cases pace e.worker v y) [
       | inl q ↦ noted_cases p s l e.worker e.kind (pace_of pace e.worker) S h (A e.worker) fork (subst (λ (x : WorkerPace). In x.marks fork) q i)
       | inr q ↦ known_kind p s l e.worker e.kind S h fork (A v fork (subst (λ (x : WorkerPace). In x.marks fork) q i))

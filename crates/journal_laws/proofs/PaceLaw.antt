@@ -1,5 +1,5 @@
 -- What the pace records of each worker follows from the entries, and paced journals keep the three rules.
-use Rattle.journal_laws.proofs.Common.{◌≡◌, ℕ, zero, suc, ◌<◌, ◌≤◌, ◌==◌, ◌&&◌, not, Bool, true, false, cond, Option, Some, None, List, [], ◌∷◌, ◌++◌, length, slice_get, slice_set, replicate, is_none, is_some, nat_lt, nat_le, ◌⊎◌, inl, inr, refl, ap, sym, subst, ◌∙◌, arith, append_assoc, append-nil, eqb-true, eq-eqb, false≢true, both_ways, cases_eq, and_parts, and_from, ltb-true, leb-true, le-leb, not-true, length-set, same_Some, In, got_other, in_append_right, none_is, Kind, Took, Ran, Chunk, Begin, End as EndOf, PutOff, Mark, More, Sweep, Fuel, EntryValue, SettingsValue, ProgramText, Strand, Task, MachineState, waits, strand_of, Ledger, Previous, Other, Forked, WorkerPace, NoWorker, Over, Spent, heap_of, left_in, words_in, after, after_kind, is_fuel, kind_refusal, refusal, refused_if, refused_unless, after_all, is_legal, is_legal_from, ledger_of, opening, fork_of, gives, idle, is_mark_of, is_more_of, is_sweep_of, is_to_mark, is_under_way, is_unmarked, marked_at_once, more_of, noted, or_idle, owed, owed_after, owed_to_marks, pace_after, pace_after_all, pace_at_end, pace_of, pace_opening, previous_by, waits_on, waits_since, Paced, cut_legal, none_unless, none_where, heap_machine, GoesOnMarking, IsLastBy, IsNewest, IsPaceOf, IsPrevious, IsToMark, IsUnderWay, KeepsRules, KeepsThePace, NoneBy, PacedKeepsThePace, WaitsOn, fork_by, fork_marked, marked_forks, marked_task}
+use Rattle.journal_laws.proofs.Common.{◌≡◌, ℕ, zero, suc, ◌<◌, ◌≤◌, ◌==◌, ◌&&◌, not, Bool, true, false, cond, Option, Some, None, List, [], ◌∷◌, ◌++◌, length, slice_get, slice_set, replicate, is_none, is_some, nat_lt, nat_le, ◌⊎◌, inl, inr, refl, ap, sym, subst, ◌∙◌, arith, append_assoc, append-nil, eqb-true, eq-eqb, false≢true, both_ways, cases_eq, and_parts, and_from, ltb-true, leb-true, le-leb, not-true, length-set, same_Some, In, got_other, in_append_right, none_is, Kind, Took, Ran, Chunk, Begin, End as EndOf, PutOff, Mark, More, Sweep, Fuel, EntryValue, SettingsValue, ProgramText, Strand, Task, MachineState, waits, strand_of, Ledger, Previous, Other, Forked, WorkerPace, NoWorker, Over, Spent, heap_of, left_in, words_in, after, after_kind, is_fuel, kind_refusal, refusal, refused_if, refused_unless, after_all, is_legal, is_legal_from, ledger_of, opening, fork_of, gives, idle, is_mark_of, is_more_of, is_sweep_of, is_to_mark, is_under_way, is_unmarked, marked_at_once, more_of, pace_noted, or_idle, owed, owed_after, owed_to_marks, pace_after, pace_after_all, pace_at_end, pace_of, pace_opening, previous_by, waits_on, waits_since, Paced, cut_legal, none_unless, none_where, heap_machine, GoesOnMarking, IsLastBy, IsNewest, IsPaceOf, IsPrevious, IsToMark, IsUnderWay, KeepsRules, KeepsThePace, NoneBy, PacedKeepsThePace, WaitsOn, fork_by, fork_marked, marked_forks, marked_task}
 use Rattle.run_ledger.specs.declared.data.Previous.TheVariants.{Ran as RanBefore}
 use Rattle.run_ledger.specs.declared.data.Owed.TheVariants.{Mark as OwesMark, More as OwesMore, Sweep as OwesSweep}
 use Rattle.journal_laws.proofs.Paced.{paced_is_meant}
@@ -15,7 +15,7 @@ abbrev is_ran : Kind → Bool
 is_ran (Ran t k) = true
 is_ran _ = false
 
-noted_previous : (l : Ledger) (x : WorkerPace) (kind : Kind) → (noted l x kind).previous ≡ came l kind
+noted_previous : (l : Ledger) (x : WorkerPace) (kind : Kind) → (pace_noted l x kind).previous ≡ came l kind
 noted_previous l x (Took t) = refl
 noted_previous l x (Ran t k) = refl
 noted_previous l x (Chunk t) = refl
@@ -27,7 +27,7 @@ noted_previous l x (More t n) = refl
 noted_previous l x (Sweep t g) = refl
 noted_previous l x Fuel = refl
 
-noted_marks : (p : ProgramText) (s : SettingsValue) (l : Ledger) (w : ℕ) (x : WorkerPace) (kind : Kind) → (noted (after_kind p s l w kind) x kind).marks ≡ fork_marked l (marked_task kind) ++ x.marks
+noted_marks : (p : ProgramText) (s : SettingsValue) (l : Ledger) (w : ℕ) (x : WorkerPace) (kind : Kind) → (pace_noted (after_kind p s l w kind) x kind).marks ≡ fork_marked l (marked_task kind) ++ x.marks
 noted_marks p s l w x (Took t) = refl
 noted_marks p s l w x (Ran t k) = refl
 noted_marks p s l w x (Chunk t) = refl
@@ -146,11 +146,11 @@ module _ (p : ProgramText) (s : SettingsValue) where
     abbrev l' : Ledger
     l' = after p s l e
 
-    at_own : e.worker ≡ w → pace_of (pace_after l' pace e) w ≡ noted l' (pace_of pace w) e.kind
-    at_own q = ap (pace_of (pace_after l' pace e)) (sym q) ∙ (pace_same pace e.worker (noted l' (pace_of pace e.worker) e.kind) lt ∙ ap (λ z. noted l' (pace_of pace z) e.kind) q)
+    at_own : e.worker ≡ w → pace_of (pace_after l' pace e) w ≡ pace_noted l' (pace_of pace w) e.kind
+    at_own q = ap (pace_of (pace_after l' pace e)) (sym q) ∙ (pace_same pace e.worker (pace_noted l' (pace_of pace e.worker) e.kind) lt ∙ ap (λ z. pace_noted l' (pace_of pace z) e.kind) q)
 
     at_other : (e.worker ≡ w → ⊥) → pace_of (pace_after l' pace e) w ≡ pace_of pace w
-    at_other ne = pace_other pace e.worker w (noted l' (pace_of pace e.worker) e.kind) (λ q. ne (sym q))
+    at_other ne = pace_other pace e.worker w (pace_noted l' (pace_of pace e.worker) e.kind) (λ q. ne (sym q))
 
     marks_step : (pace_of (pace_after l' pace e) w).marks ≡ fork_by w l e ++ (pace_of pace w).marks
     marks_step = elim (cases_eq e.worker w) [
@@ -161,7 +161,7 @@ module _ (p : ProgramText) (s : SettingsValue) where
     ]
 
   length_after : (l : Ledger) (pace : List WorkerPace) (e : EntryValue) → length (pace_after l pace e) ≡ length pace
-  length_after l pace e = length-set pace e.worker (noted l (pace_of pace e.worker) e.kind)
+  length_after l pace e = length-set pace e.worker (pace_noted l (pace_of pace e.worker) e.kind)
 
   -- ALL ENTRIES
   marks_are : (es : List EntryValue) (l : Ledger) (pace : List WorkerPace) (w : ℕ) → length pace ≡ s.workers → is_legal_from p s l es ≡ true

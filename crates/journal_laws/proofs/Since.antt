@@ -1,5 +1,5 @@
 -- The words that heaps count since their last leaf collections.
-use Rattle.journal_laws.proofs.Common.{◌≡◌, ℕ, zero, suc, ◌+◌, ◌*◌, ◌≤◌, Bool, true, false, cond, Option, Some, None, List, [], ◌∷◌, ◌++◌, slice_get, slice_set, nat_lt, refl, ap, sym, subst, ◌∙◌, arith, is_none, sum_by-cons, Kind, Took, Ran, Chunk, Begin, End as EndOf, PutOff, Mark, More, Sweep, Fuel, EntryValue, SettingsValue, field_limit, ProgramText, most_fields, MachineState, step, can_step, asked, next_name, step_limit, Heap, Ledger, Pool, heap_of, or_fresh, with_heap, with_heap_at, placed, is_small, chunk_words, in_use, collected, swept_heap, allocated_by, allocated_in, stepped_to, task_step, task_steps, on_asked, kind_refusal, after_kind, with_chunk, chunk_units, opening, after_all, ledger_of, is_legal_from, AsksAtMost, CountsFew, SinceIsBounded, Version, One, Two, stepped_machine, SoundLedger, SoundAt, step_leaves, steps_keep, heap_of_task, can_tells, total, total_set, Additive, moves_total, placed_since, with_heap_any, task_step_steps, journal_keeps, out_tells, opening_sound}
+use Rattle.journal_laws.proofs.Common.{◌≡◌, ℕ, zero, suc, ◌+◌, ◌*◌, ◌≤◌, Bool, true, false, cond, Option, Some, None, List, [], ◌∷◌, ◌++◌, slice_get, slice_set, nat_lt, refl, ap, sym, subst, ◌∙◌, arith, is_none, sum_by-cons, Kind, Took, Ran, Chunk, Begin, End as EndOf, PutOff, Mark, More, Sweep, Fuel, EntryValue, SettingsValue, field_limit, ProgramText, most_fields, MachineState, step, can_step, asked, next_name, step_limit, Heap, Ledger, Pool, heap_of, or_fresh, with_heap, with_heap_at, with_allocation, is_small_size, chunk_words, in_use, collected, swept_heap, allocated_by, allocated_in, stepped_to, task_step, task_steps, on_asked, kind_refusal, after_kind, with_chunk, chunk_units, opening, after_all, ledger_of, is_legal_from, AsksAtMost, CountsFew, SinceIsBounded, Version, One, Two, stepped_machine, SoundLedger, SoundAt, step_leaves, steps_keep, heap_of_task, can_tells, total, total_set, Additive, moves_total, placed_since, with_heap_any, task_step_steps, journal_keeps, out_tells, opening_sound}
 use Rattle.journal_laws.proofs.Asked.{programs_ask_few}
 
 abbrev pub since_in : Heap → ℕ
@@ -31,9 +31,9 @@ module _ (p : ProgramText) (limit most : ℕ) (asks : AsksAtMost p limit most) w
     asked_by None e = omega arith
     asked_by (Some w) e =
         let at = asks l.machine t w I.0 e in
-        let a = total_set since_in l.heaps t heap.0 (placed heap.0 (next_name t l.machine.store) w) heap.1 in
+        let a = total_set since_in l.heaps t heap.0 (with_allocation heap.0 (next_name t l.machine.store) w) heap.1 in
         let c = placed_since heap.0 (next_name t l.machine.store) w in
-        let d : total since_in (allocated_by l t (Some w)).heaps ≡ total since_in (slice_set l.heaps t (placed heap.0 (next_name t l.machine.store) w)) = ap (λ (q : Ledger). total since_in q.heaps) (ap (with_heap_at l t (λ g. placed g (next_name t l.machine.store) w)) heap.1) in
+        let d : total since_in (allocated_by l t (Some w)).heaps ≡ total since_in (slice_set l.heaps t (with_allocation heap.0 (next_name t l.machine.store) w)) = ap (λ (q : Ledger). total since_in q.heaps) (ap (with_heap_at l t (λ g. with_allocation g (next_name t l.machine.store) w)) heap.1) in
         omega arith
 
     step_bounded : (task_step p l t).steps ≡ l.steps + 1 → k.steps ≡ l.steps + 1 → Bounded k
@@ -64,7 +64,7 @@ module _ (p : ProgramText) (limit most : ℕ) (asks : AsksAtMost p limit most) w
 
   chunk_bounded : (l : Ledger) (t : ℕ) (next : Option ℕ) (full : Bool) → Bounded l → Bounded (cond full (record l { end = Some (Pool (in_use l)) }) (with_heap l t (with_chunk next)))
   chunk_bounded l t next true I = I
-  chunk_bounded l t next false I = lighter l t (with_chunk next) (λ h. chunk_bounded_by_cases h (on_asked next is_small)) I
+  chunk_bounded l t next false I = lighter l t (with_chunk next) (λ h. chunk_bounded_by_cases h (on_asked next is_small_size)) I
     where
       chunk_bounded_by_cases : (h : Heap) (v : Bool) → (cond v (record h { chunks = h.chunks ++ [] ∷ []; room = chunk_words }) (record h { reserved = chunk_units next })).since ≤ h.since
       chunk_bounded_by_cases h true = omega arith

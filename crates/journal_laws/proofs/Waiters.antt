@@ -1,5 +1,5 @@
 -- No worker holds a task that waits.
-use Rattle.journal_laws.proofs.Common.{◌≡◌, ℕ, zero, suc, ◌+◌, Bool, true, false, cond, Option, Some, None, slice_get, slice_set, nat_lt, inl, inr, refl, ap, sym, ◌∙◌, is_none, is_some, false≢true, cases_eq, and_parts, got_same, got_other, Kind, Took, Ran, Chunk, Begin, End as EndOf, PutOff, Mark, More, Sweep, Fuel, SettingsValue, ProgramText, MachineState, step, can_step, asked, is_running, waiting, WaitsAlone, waits_alone, Heap, Ledger, Pool, with_heap, in_use, collected, swept_heap, allocated_in, stepped_to, task_step, task_steps, on_asked, is_small, kind_refusal, after_kind, is_ready, with_chunk, chunk_units, opening, ledger_of, WaitersAreFree, stepped_machine, SoundLedger, SoundAt, StepLeaves, step_keeps, step_leaves, steps_keep, worker_at, wait_run, with_heap_any, chunk_worker_by, worker_of, journal_keeps, none_unless, out_tells, opening_sound}
+use Rattle.journal_laws.proofs.Common.{◌≡◌, ℕ, zero, suc, ◌+◌, Bool, true, false, cond, Option, Some, None, slice_get, slice_set, nat_lt, inl, inr, refl, ap, sym, ◌∙◌, is_none, is_some, false≢true, cases_eq, and_parts, got_same, got_other, Kind, Took, Ran, Chunk, Begin, End as EndOf, PutOff, Mark, More, Sweep, Fuel, SettingsValue, ProgramText, MachineState, step, can_step, asked, is_running, waiting, WaitsAlone, waits_alone, Heap, Ledger, Pool, with_heap, in_use, collected, swept_heap, allocated_in, stepped_to, task_step, task_steps, on_asked, is_small_size, kind_refusal, after_kind, is_ready, with_chunk, chunk_units, opening, ledger_of, WaitersAreFree, stepped_machine, SoundLedger, SoundAt, StepLeaves, step_keeps, step_leaves, steps_keep, worker_at, wait_run, with_heap_any, chunk_worker_by, worker_of, journal_keeps, none_unless, out_tells, opening_sound}
 
 abbrev pub Free : Ledger → Type 0
 Free l = (u : ℕ) → waiting l.machine.tasks u ≡ true → worker_at (slice_get l.heaps u) ≡ None
@@ -55,7 +55,7 @@ took_free l w t runs I = with_heap_any Free l t (λ h. record h { worker = Some 
 
 chunk_free : (l : Ledger) (t : ℕ) (next : Option ℕ) (full : Bool) → Free l → Free (cond full (record l { end = Some (Pool (in_use l)) }) (with_heap l t (with_chunk next)))
 chunk_free l t next true I = I
-chunk_free l t next false I = set_free l t (with_chunk next) (λ h. chunk_worker_by h (chunk_units next) (on_asked next is_small)) I
+chunk_free l t next false I = set_free l t (with_chunk next) (λ h. chunk_worker_by h (chunk_units next) (on_asked next is_small_size)) I
 
 kind_free : (p : ProgramText) (s : SettingsValue) (l : Ledger) (w : ℕ) (kind : Kind) → SoundLedger l → is_none (kind_refusal p s l w kind) ≡ true → Free l → Free (after_kind p s l w kind)
 kind_free p s l w (Took t) S h I = took_free l w t (and_parts (is_running (slice_get l.machine.tasks t)) _ (none_unless (is_ready l t) _ _ h).0).0 I

@@ -1,5 +1,5 @@
 -- What is reachable within a heap is what is reachable through all that its task owns.
-use Rattle.journal_laws.proofs.Common.{◌≡◌, ℕ, true, Option, Some, None, List, ◌∷◌, slice_get, Contains, filter, ◌⊎◌, inl, inr, refl, sym, subst, ◌∙◌, flat_map, false≢true, In, in_append_cases, in_from_kept, flat_in, got_in, Name, TaskStatus, Running, Waiting, Ended, Joined, Task, refs_at, registers, names_from, task_names, runs, waits, is_running, is_waiting, owner_of, Ledger, held, held_in, heap_of, frames_of, roots_of, within, is_above, IsAtWork, Keeps, InHeaps, SoundLedger, held_keeps}
+use Rattle.journal_laws.proofs.Common.{◌≡◌, ℕ, true, Option, Some, None, List, ◌∷◌, slice_get, Contains, filter, ◌⊎◌, inl, inr, refl, sym, subst, ◌∙◌, flat_map, false≢true, In, in_append_cases, in_from_kept, flat_in, got_in, Name, TaskStatus, Running, Waiting, Ended, Joined, Task, refs_at, registers, names_from, task_names, runs, waits, is_running, is_waiting, owner_of, Ledger, held, held_in, heap_of, frames_of, roots_of, within, is_proper_ancestor, IsAtWork, Keeps, InHeaps, SoundLedger, held_keeps}
 
 module _ (l : Ledger) (S : SoundLedger l) (t : ℕ) where
   abbrev names : List Name
@@ -20,13 +20,13 @@ module _ (l : Ledger) (S : SoundLedger l) (t : ℕ) where
 
   root_kept : IsAtWork l t → (r : Name) → In (roots_of l t) r → Keeps l.heaps r
   root_kept work r i =
-      let above : List Name = filter (λ n. is_above l.machine.tasks (owner_of l.machine.tasks n.task) t) (held l) in
+      let above : List Name = filter (λ n. is_proper_ancestor l.machine.tasks (owner_of l.machine.tasks n.task) t) (held l) in
       elim (in_append_cases (registers (frames_of (slice_get l.machine.tasks t))) (flat_map (refs_at l.machine.store) above) r i) [
         | inl j ↦ register_kept (slice_get l.machine.tasks t) refl work r j
         | inr j ↦
             let f = flat_in (refs_at l.machine.store) above r j in
             let n : Name = f.1 in
-            let h = in_from_kept (λ n. is_above l.machine.tasks (owner_of l.machine.tasks n.task) t) (held l) n (got_in above f.0 n f.2) in
+            let h = in_from_kept (λ n. is_proper_ancestor l.machine.tasks (owner_of l.machine.tasks n.task) t) (held l) n (got_in above f.0 n f.2) in
             S.all.of_object n r (held_keeps l n h.0) f.3
       ]
 

@@ -1,5 +1,5 @@
 -- Each word that was allocated is held or was dropped.
-use Rattle.journal_laws.proofs.Common.{◌≡◌, ℕ, zero, suc, ◌+◌, ◌-◌, ◌≤◌, Bool, true, false, cond, Option, Some, None, List, [], ◌∷◌, ◌++◌, slice_get, nat_lt, refl, sym, subst, arith, is_none, and_parts, In, Kind, Took, Ran, Chunk, Begin, End as EndOf, PutOff, Mark, More, Sweep, Fuel, EntryValue, SettingsValue, ProgramText, Name, MachineState, step, can_step, asked, Heap, Ledger, Pool, held_in, heap_at, or_fresh, with_heap, with_heap_at, words_at, words_in, in_use, is_small, chunk_words, collected, swept_heap, fresh, allocated_by, allocated_in, stepped_to, task_step, task_steps, on_asked, refusal, kind_refusal, after_kind, after, with_chunk, chunk_units, opening, after_all, ledger_of, is_legal_from, tally, lost, freed_by_end, freed_by_sweep, store_words, WordsAreAccounted, stepped_machine, SoundLedger, names_of, SoundAt, heap_of_task, can_tells, task_step_sound, Grown, weight, total, total_set, sum_flat, collected_weight, swept_weight, chunk_weight, moves_total, weight_additive, sum_same, StockedLedger, G, L, allocated_total, with_heap_any, task_step_stocked, kind_stocked, opening_stocked, total_same, out_tells, entry_tells, entry_sound, opening_sound}
+use Rattle.journal_laws.proofs.Common.{◌≡◌, ℕ, zero, suc, ◌+◌, ◌-◌, ◌≤◌, Bool, true, false, cond, Option, Some, None, List, [], ◌∷◌, ◌++◌, slice_get, nat_lt, refl, sym, subst, arith, is_none, and_parts, In, Kind, Took, Ran, Chunk, Begin, End as EndOf, PutOff, Mark, More, Sweep, Fuel, EntryValue, SettingsValue, ProgramText, Name, MachineState, step, can_step, asked, Heap, Ledger, Pool, held_in, heap_at, or_fresh, with_heap, with_heap_at, words_at, words_in, in_use, is_small_size, chunk_words, collected, swept_heap, fresh, allocated_by, allocated_in, stepped_to, task_step, task_steps, on_asked, refusal, kind_refusal, after_kind, after, with_chunk, chunk_units, opening, after_all, ledger_of, is_legal_from, tally, lost, freed_by_end, freed_by_sweep, store_words, WordsAreAccounted, stepped_machine, SoundLedger, names_of, SoundAt, heap_of_task, can_tells, task_step_sound, Grown, weight, total, total_set, sum_flat, collected_weight, swept_weight, chunk_weight, moves_total, weight_additive, sum_same, StockedLedger, G, L, allocated_total, with_heap_any, task_step_stocked, kind_stocked, opening_stocked, total_same, out_tells, entry_tells, entry_sound, opening_sound}
 
 -- the words that all heaps hold
 abbrev held_words : Ledger → ℕ
@@ -85,7 +85,7 @@ chunk_even next h g false = refl
 
 chunk_balances : (l : Ledger) (t : ℕ) (next : Option ℕ) (full : Bool) → Balances 0 l (cond full (record l { end = Some (Pool (in_use l)) }) (with_heap l t (with_chunk next)))
 chunk_balances l t next true = omega arith
-chunk_balances l t next false = even l t (with_chunk next) (λ h g. chunk_even next h g (on_asked next is_small))
+chunk_balances l t next false = even l t (with_chunk next) (λ h g. chunk_even next h g (on_asked next is_small_size))
 
 -- what an entry frees
 abbrev freed : Ledger → Kind → ℕ

@@ -1,5 +1,5 @@
 -- A worker that holds a task after an entry held it before, except for the worker that takes one.
-use Rattle.journal_replay.proofs.Common.{◌≡◌, ◌≢◌, ℕ, zero, suc, ◌+◌, ◌-◌, Bool, true, false, cond, Option, Some, None, List, [], ◌∷◌, ◌++◌, slice_get, nat_lt, inl, inr, ap, sym, ◌∙◌, cases_eq, same_Some, none_some, ProgramText, Name, MachineState, TaskStatus, Running, Waiting, Joined, Task, asked, can_step, is_left, step, SettingsValue, Kind, Took, Ran, Chunk, Begin, End as EndOf, PutOff, Mark, More, Sweep, Fuel, Heap, Ledger, RunEnd, Pool, after_kind, chunk_units, with_chunk, chunk_words, collected, emptied, forked_heap, fresh, heap_of, in_use, is_small, let_go, merged, or_fresh, placed, put_last, swept_heap, with_heap, within, allocated_by, allocated_in, at_fork, join_heaps, moved_on, moved_to, on_asked, settled, stepped_to, task_step, task_steps, heap_then, with_at, with_off, is_own}
+use Rattle.journal_replay.proofs.Common.{◌≡◌, ◌≢◌, ℕ, zero, suc, ◌+◌, ◌-◌, Bool, true, false, cond, Option, Some, None, List, [], ◌∷◌, ◌++◌, slice_get, nat_lt, inl, inr, ap, sym, ◌∙◌, cases_eq, same_Some, none_some, ProgramText, Name, MachineState, TaskStatus, Running, Waiting, Joined, Task, asked, can_step, is_left, step, SettingsValue, Kind, Took, Ran, Chunk, Begin, End as EndOf, PutOff, Mark, More, Sweep, Fuel, Heap, Ledger, RunEnd, Pool, after_kind, chunk_units, with_chunk, chunk_words, collected, emptied, forked_heap, fresh, heap_of, in_use, is_small_size, let_go, merged, or_fresh, with_allocation, put_last, swept_heap, with_heap, within, allocated_by, allocated_in, at_fork, join_heaps, moved_on, moved_to, on_asked, settled, stepped_to, task_step, task_steps, heap_then, with_at, with_off, is_own}
 use Rattle.run_statistics.specs.below.hh_model.{End, Ended}
 
 -- a worker that holds a task in the one held it in the other
@@ -22,8 +22,8 @@ one_held l t f keeps u k e = elim (cases_eq u t) [
 
 -- ---- A STEP
 
-placed_held : (n : Name) (w : ℕ) (h : Heap) (k : ℕ) → (placed h n w).worker ≡ Some k → h.worker ≡ Some k
-placed_held n w h k = placed_held_by_cases (is_small w)
+placed_held : (n : Name) (w : ℕ) (h : Heap) (k : ℕ) → (with_allocation h n w).worker ≡ Some k → h.worker ≡ Some k
+placed_held n w h k = placed_held_by_cases (is_small_size w)
   where
     placed_held_by_cases : (b : Bool) → (cond b (record h { chunks = put_last h.chunks n; room = h.room - w; since = h.since + w }) (record h { large = h.large ++ n ∷ []; reserved = 0; since = h.since + w })).worker ≡ Some k → h.worker ≡ Some k
     placed_held_by_cases true e = e
@@ -108,7 +108,7 @@ took_held l t w u k ne e = elim (cases_eq u t) [
 
 chunk_held : (l : Ledger) (t : ℕ) (next : Option ℕ) (full : Bool) (end : RunEnd) → WasHeld l (cond full (record l { end = Some end }) (with_heap l t (with_chunk next)))
 chunk_held l t next true end = λ u k e. e
-chunk_held l t next false end = one_held l t (with_chunk next) (λ h k e. chunk_held_by_cases h k (on_asked next is_small) e)
+chunk_held l t next false end = one_held l t (with_chunk next) (λ h k e. chunk_held_by_cases h k (on_asked next is_small_size) e)
   where
     chunk_held_by_cases : (h : Heap) (k : ℕ) (b : Bool) → (cond b (record h { chunks = h.chunks ++ [] ∷ []; room = chunk_words }) (record h { reserved = chunk_units next })).worker ≡ Some k → h.worker ≡ Some k
     chunk_held_by_cases h k true e = e

@@ -1,7 +1,7 @@
 -- The names of lower crates and of the specifications that these proofs use. Declares nothing.
 pub use Rattle.jump_pointers.specs.Laws.{LinksGoOn}
 pub use Rattle.jump_pointers.specs.Links.{AreLinked, HasRank, IsNextLink, Within, span, HasOneMore, IsNewLink, next_far}
-pub use Rattle.jump_pointers.specs.Lists.{parent_in, depth_in, far_in, up_from, depth_at, far_at, IsUp, new_link, AreLinks}
+pub use Rattle.jump_pointers.specs.Lists.{parent_of_link, depth_in, far_in, up_from, depth_at, far_at, IsUp, new_link, AreLinks}
 pub use Rattle.jump_pointers.specs.Walk.{ancestor}
 pub use Rattle.jump_pointers.specs.declared.links.Link.{Link}
 pub use Rattle.plain_vec.proofs.Members.{got_front, got_past}

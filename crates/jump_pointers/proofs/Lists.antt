@@ -1,5 +1,5 @@
 -- The links of a list with one more place.
-use Rattle.jump_pointers.proofs.Common.{◌≡◌, ℕ, suc, ◌+◌, Option, Some, None, List, [], ◌∷◌, ◌++◌, length, slice_get, sym, ap, subst, ◌∙◌, arith, length-append, ◌<◌, refl, same_Some, got_front, got_past, got_last, AreLinked, IsNewLink, Link, parent_in, depth_in, far_in, up_from, depth_at, far_at, IsUp, new_link, AreLinks}
+use Rattle.jump_pointers.proofs.Common.{◌≡◌, ℕ, suc, ◌+◌, Option, Some, None, List, [], ◌∷◌, ◌++◌, length, slice_get, sym, ap, subst, ◌∙◌, arith, length-append, ◌<◌, refl, same_Some, got_front, got_past, got_last, AreLinked, IsNewLink, Link, parent_of_link, depth_in, far_in, up_from, depth_at, far_at, IsUp, new_link, AreLinks}
 use Rattle.jump_pointers.proofs.Walks.{walk_depth}
 use Rattle.jump_pointers.proofs.Growth.{links_go_on}
 
@@ -46,4 +46,4 @@ module _ (ks : List Link) (all : AreLinks ks) where
   new_by (Some p) w = (w, refl, refl)
 
   pub link_more : (m : Option ℕ) → IsWithin m → AreLinks (ks ++ new_link ks m ∷ [])
-  link_more m w = linked_more parent_in depth_in far_in refl ks (new_link ks m) all (new_by m w)
+  link_more m w = linked_more parent_of_link depth_in far_in refl ks (new_link ks m) all (new_by m w)

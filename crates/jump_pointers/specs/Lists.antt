@@ -4,9 +4,9 @@ use Rattle.jump_pointers.specs.Walk.{ancestor}
 use Rattle.jump_pointers.specs.declared.links.Link.{Link}
 use Rattle.jump_pointers.specs.Links.{AreLinked, next_far}
 
-abbrev pub parent_in : Option Link → Option ℕ
-parent_in None = None
-parent_in (Some k) = k.parent
+abbrev pub parent_of_link : Option Link → Option ℕ
+parent_of_link None = None
+parent_of_link (Some k) = k.parent
 
 abbrev pub depth_in : Option Link → ℕ
 depth_in None = 0
@@ -18,7 +18,7 @@ far_in (Some k) = k.far
 
 -- the parent's place
 abbrev pub up_from : List Link → ℕ → Option ℕ
-up_from ks i = parent_in (slice_get ks i)
+up_from ks i = parent_of_link (slice_get ks i)
 
 -- how many links lead from a place to the root
 abbrev pub depth_at : List Link → ℕ → ℕ

@@ -1,6 +1,6 @@
 -- An entry changes the account of one heap, whose task's part a worker holds: what stays of the accounts, and that
 -- nothing moves.
-use Rattle.leaf_collections.proofs.Common.{◌≡◌, ◌⊎◌, ℕ, true, false, Option, Some, None, length, slice_get, is_some, inl, inr, refl, ap, sym, subst, ◌∙◌, both_ways, cases_eq, MachineState, row_of, is_joined, is_waiting, Heap, Ledger, heap_of, let_go, or_fresh, with_heap, heap_machine, PoolValue, owner_of, Rests, rested, heap_then, with_at, with_off, SameObjects, with_belongings, AreLaidOut, Chunk, Belongings, In, Memory, objects, objects_in, HasNames, BelongingsStand, Located, belongings_kept, at_belongings, off_belongings, Begun, Private, SharedValue, accounts, value_by, value_of, with_marks, IsSharedValue, Fits, belongings_of_part, account_is, belongings_stand, fits_now, part_idle, stands_now}
+use Rattle.leaf_collections.proofs.Common.{◌≡◌, ◌⊎◌, ℕ, true, false, Option, Some, None, length, slice_get, is_some, inl, inr, refl, ap, sym, subst, ◌∙◌, both_ways, cases_eq, MachineState, row_of, is_joined, is_waiting, Heap, Ledger, heap_of, let_go, or_fresh, with_heap, heap_machine, PoolValue, owner_of, Rests, rested, heap_then, with_at, with_off, SameObjects, with_belongings, AreLaidOut, Chunk, Belongings, In, Memory, objects, objects_of_chunks, HasNames, BelongingsStand, Located, belongings_kept, at_belongings, off_belongings, Begun, Private, SharedValue, accounts, value_by, value_of, with_marks, IsSharedValue, Fits, belongings_of_part, account_is, belongings_stand, fits_now, part_idle, stands_now}
 
 module _ (w : SharedValue) (k : ℕ) (p : Private) (I : IsSharedValue w) (F : Fits w k (record p { fresh = 0 })) (on : (accounts w).end ≡ None) (f : Heap → Heap) (holds : (h : Heap) → (f h).worker ≡ h.worker) where
   abbrev P : Private
@@ -90,11 +90,11 @@ module _ (w : SharedValue) (k : ℕ) (p : Private) (I : IsSharedValue w) (F : Fi
       ]
 
       -- nothing moves if it has the same objects, frames and result, and the same view
-      pub part_same : BelongingsStand after_ (rested L t) t → g ≡ record g { frames = (belongings_of_part P).frames; result = (belongings_of_part P).result; view = (belongings_of_part P).view } → objects_in g.chunks ≡ objects_in (belongings_of_part P).chunks
+      pub part_same : BelongingsStand after_ (rested L t) t → g ≡ record g { frames = (belongings_of_part P).frames; result = (belongings_of_part P).result; view = (belongings_of_part P).view } → objects_of_chunks g.chunks ≡ objects_of_chunks (belongings_of_part P).chunks
           → AreTaken → ((heap_of (rested L t) t).begun ≡ (heap_of (rested l t) t).begun → g.begun ≡ p.begun) → SameObjects before after_ (rested l t) (rested L t)
       part_same mine same_rest same taken begun = record {
         belongings = all_stand mine;
-        objects = seen (λ (z : Belongings). objects_in z.chunks) same;
+        objects = seen (λ (z : Belongings). objects_of_chunks z.chunks) same;
         chunks = λ u e. elim (cases_eq u t) [
           | inl q ↦ absurd (both_ways (is_waiting (slice_get l.machine.tasks t)) (part_idle w k P F on) (ap (λ z. is_waiting (slice_get l.machine.tasks z)) (sym q) ∙ (ap (λ (m : MachineState). is_waiting (slice_get m.tasks u)) (sym (heap_machine l t let_go)) ∙ e)))
           | inr ne ↦ ap (λ (z : Belongings). length z.chunks) (other u ne)
@@ -148,7 +148,7 @@ module _ (w : SharedValue) (k : ℕ) (p : Private) (I : IsSharedValue w) (F : Fi
       chunk_was c i = subst (λ ks. In ks c) (same_view (λ (z : Belongings). z.chunks) refl) i
 
       object_was : (o : Located) → In (objects memory_after t) o → In (objects was t) o
-      object_was o i = subst (λ ks. In (objects_in ks) o) (same_view (λ (z : Belongings). z.chunks) refl) i
+      object_was o i = subst (λ ks. In (objects_of_chunks ks) o) (same_view (λ (z : Belongings). z.chunks) refl) i
 
       stands : BelongingsStand memory_after (rested L t) t
       stands = record {

@@ -1,5 +1,5 @@
 -- A leaf collection begins, as the call makes it.
-use Rattle.leaf_collections.proofs.Common.{◌≡◌, ℕ, ◌+◌, ◌^◌, ◌<◌, ◌≤◌, ◌++◌, arith, Some, None, List, [], ◌∷◌, length, map, All, ap, sym, subst, ◌∙◌, vec_len, ReservedVecValue, all_from, map_in, Begin, EntryValue, Addr, IsBorn, cell_of, small_words, ChunkValue, number_of, IsSoundReference, PoolValue, TakesAll, units_in_use, HaveDistinctNumbers, IsFresh, counted, with_places, ToChunks, AreNew, as_reference, born_live, In, Private, Begun, SharedValue, IsSharedValue, Fits, OthersFit, take_by, refused, HasBegun, roots_of, seen_object, entry_on, root_here}
+use Rattle.leaf_collections.proofs.Common.{◌≡◌, ℕ, ◌+◌, ◌^◌, ◌<◌, ◌≤◌, ◌++◌, arith, Some, None, List, [], ◌∷◌, length, map, All, ap, sym, subst, ◌∙◌, vec_len, ReservedVecValue, all_from, map_in, Begin, EntryValue, Addr, IsBorn, cell_of, small_words, ChunkValue, number_of, IsSoundReference, PoolValue, TakesAll, units_in_use, HaveDistinctNumbers, IsFresh, saturating_words, with_places, ToChunks, AreNew, as_reference, born_live, In, Private, Begun, SharedValue, IsSharedValue, Fits, OthersFit, take_by, refused, HasBegun, roots_of, seen_object, entry_on, root_here}
 use Rattle.core_invariant.specs.below.copying_gc.{AreReserved}
 use Rattle.leaf_collections.proofs.CollectionPutOff.{without_fresh}
 use Rattle.leaf_collections.proofs.WhyNoCollection.{begin_idle, begin_within}
@@ -15,20 +15,20 @@ module _ (w : SharedValue) (k : ℕ) (p : Private) (I : IsSharedValue w) (F : Fi
   begins_idle = begin_idle w k p I F0 free
 
   -- how many chunks it takes, as the code computes it
-  pub begin_count : (n : ℕ) → n ≡ take_by (counted (small_words p.heap.chunks)) → n ≡ take_by (small_words p.heap.chunks)
+  pub begin_count : (n : ℕ) → n ≡ take_by (saturating_words (small_words p.heap.chunks)) → n ≡ take_by (small_words p.heap.chunks)
   begin_count n q =
       let h : units_in_use w.pool + take_by (small_words p.heap.chunks) ≤ w.settings.chunks = begin_within w k p I F0 free in
       let few : w.settings.chunks ≤ 65536 = I.settings.chunks.1 in
       omega (arith, q, h, few)
 
-  pub begin_few : (n : ℕ) → n ≡ take_by (counted (small_words p.heap.chunks)) → n < 2 ^ 22
+  pub begin_few : (n : ℕ) → n ≡ take_by (saturating_words (small_words p.heap.chunks)) → n < 2 ^ 22
   begin_few n q =
       let c = begin_count n q in
       let h : units_in_use w.pool + take_by (small_words p.heap.chunks) ≤ w.settings.chunks = begin_within w k p I F0 free in
       let few : w.settings.chunks ≤ 65536 = I.settings.chunks.1 in
       omega (arith, c, h, few)
 
-  pub begin_free : (n : ℕ) → n ≡ take_by (counted (small_words p.heap.chunks)) → w.pool.limit < units_in_use w.pool + n → ⊥
+  pub begin_free : (n : ℕ) → n ≡ take_by (saturating_words (small_words p.heap.chunks)) → w.pool.limit < units_in_use w.pool + n → ⊥
   begin_free n q lt =
       let c = begin_count n q in
       let h : units_in_use w.pool + take_by (small_words p.heap.chunks) ≤ w.settings.chunks = begin_within w k p I F0 free in

@@ -1,5 +1,5 @@
 -- A part gets a chunk.
-use Rattle.leaf_collections.proofs.Common.{◌≡◌, ◌⊎◌, ℕ, ◌+◌, ◌*◌, ◌/◌, ◌<◌, ◌≤◌, true, false, ◌&&◌, not, Bool, cond, Option, Some, None, [], ◌∷◌, ◌++◌, length, map, slice_get, option_map, is_none, is_some, nat_lt, ◌==◌, inl, inr, refl, ap, ap₂, sym, subst, ◌∙◌, arith, lt-ltb, le-ltb, eq-eqb, ne_eqb, cases_eq, cases_lt, cond-false, cond-true, false≢true, leb-false, same_Some, append-nil, ReservedVecValue, in_map, MachineState, row_of, asked, is_joined, is_waiting, EntryValue, Heap, Ledger, Refused, Collecting, Due, NotNeeded, RunEnd, Pool as PoolOf, chunk_words, heap_of, in_use, is_small, lacks_room, let_go, or_fresh, units, with_heap, after, chunk_units, kind_refusal, refused_if, refused_unless, with_chunk, is_due, is_in_need, on_asked, entry_tells, legal_booked, heap_machine, place_in, ChunkValue, Located, Slot, PoolValue, Reserves as PoolTakes, units_in_use, LeafHeapValue, IsFresh, added, with_places, rested, heap_then, with_at, with_off, rested_view, Chunk, Belongings, In, Memory, object_name, objects, objects_in, AreLaidOut, reserved_chunks, reserved_units, HasNames, BelongingsStand, large_chunks, SameObjects, AsksUnits, BegunBy, with_belongings, at_belongings, Private, AreReserved, HeapMatchesAccount, IsShaped, chunks_added, shape_added, chunk_of, chunks_of, SharedValue, accounts, tree_counts_of, value_of, AreMeasured, IsMeasured, KeepsUnits, HeapForm, IsSharedValue, Fits, OthersFit, belongings_of_part, part_asks, need_cause, refused, asks_is, counted_is, account_idle, none_begun, small_names, entry_on, tasks_apart, MovesNothing, notes_unchanged, quiet_others, quiet_own, quiet_world, same_value, reserved_none, all_kept, measured_both, measured_new, part_kept, taken_keeps, fits_now, part_idle, stands_now, used_now, belongings_stand, places_form, some_units}
+use Rattle.leaf_collections.proofs.Common.{◌≡◌, ◌⊎◌, ℕ, ◌+◌, ◌*◌, ◌/◌, ◌<◌, ◌≤◌, true, false, ◌&&◌, not, Bool, cond, Option, Some, None, [], ◌∷◌, ◌++◌, length, map, slice_get, option_map, is_none, is_some, nat_lt, ◌==◌, inl, inr, refl, ap, ap₂, sym, subst, ◌∙◌, arith, lt-ltb, le-ltb, eq-eqb, ne_eqb, cases_eq, cases_lt, cond-false, cond-true, false≢true, leb-false, same_Some, append-nil, ReservedVecValue, in_map, MachineState, row_of, asked, is_joined, is_waiting, EntryValue, Heap, Ledger, Refused, Collecting, Due, NotNeeded, RunEnd, Pool as PoolOf, chunk_words, heap_of, in_use, is_small_size, lacks_room, let_go, or_fresh, units, with_heap, after, chunk_units, kind_refusal, refused_if, refused_unless, with_chunk, is_due, is_in_need, on_asked, entry_tells, legal_booked, heap_machine, place_in, ChunkValue, Located, Slot, PoolValue, Reserves as PoolTakes, units_in_use, LeafHeapValue, IsFresh, added, with_places, rested, heap_then, with_at, with_off, rested_view, Chunk, Belongings, In, Memory, object_name, objects, objects_of_chunks, AreLaidOut, reserved_chunks, reserved_units, HasNames, BelongingsStand, large_chunks, SameObjects, AsksUnits, BegunBy, with_belongings, at_belongings, Private, AreReserved, HeapMatchesAccount, IsShaped, chunks_added, shape_added, chunk_of, chunks_of, SharedValue, accounts, tree_counts_of, value_of, AreMeasured, IsMeasured, KeepsUnits, HeapForm, IsSharedValue, Fits, OthersFit, belongings_of_part, part_asks, need_cause, refused, asks_is, counted_is, account_idle, none_begun, small_names, entry_on, tasks_apart, MovesNothing, notes_unchanged, quiet_others, quiet_own, quiet_world, same_value, reserved_none, all_kept, measured_both, measured_new, part_kept, taken_keeps, fits_now, part_idle, stands_now, used_now, belongings_stand, places_form, some_units}
 use Rattle.core_invariant.specs.below.run_trace.{Chunk as ChunkOf}
 use Rattle.core_invariant.proofs.PartFitsMachine as link
 use Rattle.leaf_collections.proofs.AccountChanges as change
@@ -13,22 +13,22 @@ needed false true x y h = refl
 needed false false x y h = absurd (false≢true h)
 
 -- the reserved chunk after it
-units_more : (number words : ℕ) (z : Heap) → (is_small words ≡ false → z.reserved ≡ 0)
+units_more : (number words : ℕ) (z : Heap) → (is_small_size words ≡ false → z.reserved ≡ 0)
     → reserved_units z.reserved ++ map (λ (c : Chunk). c.units) (reserved_chunks (chunk_of (chunk_with number (chunk_units (Some words))) ∷ [])) ≡ reserved_units (with_chunk (Some words) z).reserved
-units_more number words z none = units_more_by_cases (is_small words) refl
+units_more number words z none = units_more_by_cases (is_small_size words) refl
   where
     big_spare : (n : ℕ) → 2 ≤ n → map (λ (c : Chunk). c.units) (reserved_chunks (chunk_of (chunk_with number n) ∷ [])) ≡ n ∷ []
     big_spare n two =
         ap (λ b. map (λ (c : Chunk). c.units) (cond (not b && true) (chunk_of (chunk_with number n) ∷ []) [])) (ne_eqb (1024 * n) 1024 (λ e. omega (arith, e, two))) ∙ ap (λ m. m ∷ []) (let q : (1024 * n) / 1024 ≡ n = omega arith in q)
 
-    units_more_by_cases : (b : Bool) → is_small words ≡ b → reserved_units z.reserved ++ map (λ (c : Chunk). c.units) (reserved_chunks (chunk_of (chunk_with number (cond b 1 (units words))) ∷ []))
+    units_more_by_cases : (b : Bool) → is_small_size words ≡ b → reserved_units z.reserved ++ map (λ (c : Chunk). c.units) (reserved_chunks (chunk_of (chunk_with number (cond b 1 (units words))) ∷ []))
         ≡ reserved_units (cond b (record z { chunks = z.chunks ++ [] ∷ []; room = chunk_words }) (record z { reserved = chunk_units (Some words) })).reserved
     units_more_by_cases true s = append-nil (reserved_units z.reserved)
     units_more_by_cases false s =
         let big_words : chunk_words < words = leb-false words chunk_words s in
         let two : 2 ≤ units words = omega (arith, big_words) in
         ap (λ n. reserved_units n ++ map (λ (c : Chunk). c.units) (reserved_chunks (chunk_of (chunk_with number (units words)) ∷ []))) (none s)
-        ∙ (big_spare (units words) two ∙ (some_units (units words) (omega (arith, two)) ∙ ap reserved_units (sym (cond-false (is_small words) 1 (units words) s))))
+        ∙ (big_spare (units words) two ∙ (some_units (units words) (omega (arith, two)) ∙ ap reserved_units (sym (cond-false (is_small_size words) 1 (units words) s))))
 
 -- the worker of the entry holds a part without fresh steps
 module _ (w : SharedValue) (k : ℕ) (p : Private) (I : IsSharedValue w) (F : Fits w k (record p { fresh = 0 })) (on : (accounts w).end ≡ None) (free : refused w (record { worker = k; kind = ChunkOf p.task }) ≡ None)
@@ -94,13 +94,13 @@ module _ (w : SharedValue) (k : ℕ) (p : Private) (I : IsSharedValue w) (F : Fi
   lacks : lacks_room (heap_of l t) words ≡ true
   lacks = ap (λ o. on_asked o (lacks_room (heap_of l t))) (sym asked_is) ∙ need
 
-  reserved_zero : is_small words ≡ false → heap_is_in_ledger.0.reserved ≡ 0
+  reserved_zero : is_small_size words ≡ false → heap_is_in_ledger.0.reserved ≡ 0
   reserved_zero big = elim (cases_lt 0 heap_is_in_ledger.0.reserved) [
     | inl lt ↦
         let q = ((legal_booked w.program w.settings w.journal.items I.legal).each t heap_is_in_ledger.0 heap_is_in_ledger.1).reserved lt in
         let same : q.0 ≡ words = same_Some q.0 words (sym q.1 ∙ asked_is) in
         let fits : (heap_of l t).reserved ≡ units words = ap (λ o. (or_fresh o).reserved) heap_is_in_ledger.1 ∙ (q.3 ∙ ap units same) in
-        absurd (false≢true (sym (ap not (eq-eqb (heap_of l t).reserved (units words) fits)) ∙ (sym (cond-false (is_small words) (nat_lt (heap_of l t).room words) (not ((heap_of l t).reserved == units words)) big) ∙ lacks)))
+        absurd (false≢true (sym (ap not (eq-eqb (heap_of l t).reserved (units words) fits)) ∙ (sym (cond-false (is_small_size words) (nat_lt (heap_of l t).room words) (not ((heap_of l t).reserved == units words)) big) ∙ lacks)))
     | inr le ↦ omega (arith, le)
   ]
 
@@ -229,8 +229,8 @@ module _ (w : SharedValue) (k : ℕ) (p : Private) (I : IsSharedValue w) (F : Fi
     shaped_then : IsShaped g
     shaped_then = shape_added p.heap K refl size_least fresh F.form.shaped slots spare
 
-    objects_then : objects_in (belongings_of_part Q).chunks ≡ objects_in (belongings_of_part P).chunks
-    objects_then = ap (λ ks. objects_in (chunks_of ks)) chunks_are ∙ objects_more K refl p.heap.chunks
+    objects_then : objects_of_chunks (belongings_of_part Q).chunks ≡ objects_of_chunks (belongings_of_part P).chunks
+    objects_then = ap (λ ks. objects_of_chunks (chunks_of ks)) chunks_are ∙ objects_more K refl p.heap.chunks
 
     account_then : heap_of (rested L t) t ≡ let_go (more heap_is_in_ledger.0)
     account_then = ap or_fresh (with_at L t let_go ∙ ap (heap_then let_go) heap_then_is)
@@ -245,9 +245,9 @@ module _ (w : SharedValue) (k : ℕ) (p : Private) (I : IsSharedValue w) (F : Fi
     names_then = record {
       small = small_names g.chunks ∙ counted_rested.chunks;
       large =
-          ap (λ ks. map object_name (objects_in (large_chunks (chunks_of ks)))) chunks_are
+          ap (λ ks. map object_name (objects_of_chunks (large_chunks (chunks_of ks)))) chunks_are
           ∙ (large_more K refl p.heap.chunks
-          ∙ (ap (λ (z : Belongings). map object_name (objects_in (large_chunks z.chunks))) (sym own_belongings)
+          ∙ (ap (λ (z : Belongings). map object_name (objects_of_chunks (large_chunks z.chunks))) (sym own_belongings)
           ∙ (H.names.large ∙ (ap (λ (z : Heap). z.large) account_before ∙ (sym (chunk_large words heap_is_in_ledger.0) ∙ ap (λ (z : Heap). z.large) (sym account_then))))));
     }
 
@@ -260,7 +260,7 @@ module _ (w : SharedValue) (k : ℕ) (p : Private) (I : IsSharedValue w) (F : Fi
         ]
 
     was : (o : Located) → In (objects after_ t) o → In (objects before t) o
-    was o i = subst (λ (z : Belongings). In (objects_in z.chunks) o) (sym own_belongings) (subst (λ os. In os o) objects_then (subst (λ (z : Belongings). In (objects_in z.chunks) o) here' i))
+    was o i = subst (λ (z : Belongings). In (objects_of_chunks z.chunks) o) (sym own_belongings) (subst (λ os. In os o) objects_then (subst (λ (z : Belongings). In (objects_of_chunks z.chunks) o) here' i))
 
     abbrev spares : ℕ
     spares = (heap_of (rested l t) t).reserved
@@ -282,9 +282,9 @@ module _ (w : SharedValue) (k : ℕ) (p : Private) (I : IsSharedValue w) (F : Fi
     none_reserved : 2 ≤ u → p.heap.reserved ≡ None
     none_reserved two =
         reserved_none p.heap F.form p.heap.reserved refl
-        (subst (AreReserved p.heap.chunks p.heap.reserved) (ap (λ o. (or_fresh o).reserved) heap_is_in_ledger.1 ∙ reserved_zero (big (is_small words) refl sized)) (counted_is w k P I F on).reserved)
+        (subst (AreReserved p.heap.chunks p.heap.reserved) (ap (λ o. (or_fresh o).reserved) heap_is_in_ledger.1 ∙ reserved_zero (big (is_small_size words) refl sized)) (counted_is w k P I F on).reserved)
       where
-        big : (b : Bool) → is_small words ≡ b → u ≡ cond b 1 (units words) → is_small words ≡ false
+        big : (b : Bool) → is_small_size words ≡ b → u ≡ cond b 1 (units words) → is_small_size words ≡ false
         big true s q = absurd (omega (arith, two, q))
         big false s q = s
 
@@ -345,8 +345,8 @@ module _ (w : SharedValue) (k : ℕ) (p : Private) (I : IsSharedValue w) (F : Fi
   abbrev full_end : Option RunEnd
   full_end = Some (PoolOf (units_in_use w.pool))
 
-  abbrev ended : SharedValue
-  ended = record w { end = full_end; journal = record { items = w.journal.items ++ full_entry ∷ []; room = j.room } }
+  abbrev without_collection : SharedValue
+  without_collection = record w { end = full_end; journal = record { items = w.journal.items ++ full_entry ∷ []; room = j.room } }
 
   abbrev full_ledger : Ledger
   full_ledger = record (accounts w) { end = full_end }
@@ -354,14 +354,14 @@ module _ (w : SharedValue) (k : ℕ) (p : Private) (I : IsSharedValue w) (F : Fi
   ends_so : after w.program w.settings (accounts w) full_entry ≡ full_ledger
   ends_so = full_then w k p I F on free words asks full
 
-  full_units : AsksUnits (nat_lt w.settings.chunks (units_in_use w.pool + chunk_units (asked w.program (accounts w).machine p.task))) (tree_counts_of w) (tree_counts_of ended) (chunk_units (asked w.program (accounts w).machine p.task))
+  full_units : AsksUnits (nat_lt w.settings.chunks (units_in_use w.pool + chunk_units (asked w.program (accounts w).machine p.task))) (tree_counts_of w) (tree_counts_of without_collection) (chunk_units (asked w.program (accounts w).machine p.task))
   full_units =
       let limit : w.pool.limit ≡ w.settings.chunks = I.limit in
-      subst (λ o. AsksUnits (nat_lt w.settings.chunks (units_in_use w.pool + chunk_units o)) (tree_counts_of w) (tree_counts_of ended) (chunk_units o)) (sym (asked_is w k p I F on free words asks))
-      (subst (λ b. AsksUnits b (tree_counts_of w) (tree_counts_of ended) (chunk_units (Some words))) (sym (lt-ltb w.settings.chunks (units_in_use w.pool + chunk_units (Some words)) (omega (arith, full, limit))))
+      subst (λ o. AsksUnits (nat_lt w.settings.chunks (units_in_use w.pool + chunk_units o)) (tree_counts_of w) (tree_counts_of without_collection) (chunk_units o)) (sym (asked_is w k p I F on free words asks))
+      (subst (λ b. AsksUnits b (tree_counts_of w) (tree_counts_of without_collection) (chunk_units (Some words))) (sym (lt-ltb w.settings.chunks (units_in_use w.pool + chunk_units (Some words)) (omega (arith, full, limit))))
       (refl, refl))
 
-  moves_full : MovesNothing w ended full_entry
+  moves_full : MovesNothing w without_collection full_entry
   moves_full = record {
     enters = record { journal = refl; program = refl; settings = refl; halted = refl };
     quiet = tt;
@@ -374,10 +374,10 @@ module _ (w : SharedValue) (k : ℕ) (p : Private) (I : IsSharedValue w) (F : Fi
     counts = (record { node = λ u. refl; task_out = λ u. refl; steps = refl; outputs = refl }, full_units);
   }
 
-  pub full_world : IsSharedValue ended
+  pub full_world : IsSharedValue without_collection
   full_world = quiet_world I free moves_full
 
-  pub full_others : OthersFit w ended k
+  pub full_others : OthersFit w without_collection k
   full_others o q ne G = quiet_others I free moves_full o q (tasks_apart w k o (record p { fresh = 0 }) q F G ne) G
 
   abbrev full_belongings : Memory
@@ -400,7 +400,7 @@ module _ (w : SharedValue) (k : ℕ) (p : Private) (I : IsSharedValue w) (F : Fi
       ∙ (rested_view (λ (z : Heap). z.begun) (λ z. refl) (accounts w) p.task ∙ account_idle w k (record p { fresh = 0 }) F on full_idle)
 
   -- the part, whose heap may have other spare capacities
-  pub full_part : (a b : ℕ) → Fits ended k (record p { fresh = 0; heap = with_places p.heap a b })
+  pub full_part : (a b : ℕ) → Fits without_collection k (record p { fresh = 0; heap = with_places p.heap a b })
   full_part a b =
       quiet_own I free moves_full k p (with_places p.heap a b) p.begun F (places_form p.heap a b F.form) F.measured
       (subst (λ (z : Ledger). SameObjects full_belongings full_belongings (rested (accounts w) p.task) (rested z p.task)) (sym ends_so)

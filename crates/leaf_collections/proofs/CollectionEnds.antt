@@ -1,5 +1,5 @@
 -- The end of a part's leaf collection: the new value stands, and parts fit.
-use Rattle.leaf_collections.proofs.Common.{◌≡◌, ℕ, ◌+◌, ◌-◌, ◌<◌, ◌&&◌, arith, true, false, not, Option, Some, None, is_some, List, [], ◌∷◌, ◌++◌, fold, length, slice_get, option_map, inl, inr, refl, ap, ap₂, sym, subst, ◌∙◌, cases_eq, same_Some, ReservedVecValue, got_within, each_from, got_some, in_map, map_in, read_in, none_some, Object, object_at, is_running, is_waiting, MachineState, runs_tell, EntryValue, End, Heap, Ledger, collected, heap_of, or_fresh, with_heap, with_heap_at, is_legal, SoundLedger, tasks_are_out_once, legal_sound, machine_goes_on, heap_machine, legal_then, waiters_are_free, Addr, Born, marked_object, cell_of, ChunkValue, Located, Slot, PoolValue, slot_at, owner_of, units_in_use, IsFresh, RefField, AreFields, redirected, StandOnce, Moved, new_address, AreGiven, units_in_slots, Rests, own, heap_then, with_at, with_off, legal_knows, CopyFits, EndsAt, CountsGo, OthersNotes, IsSource, Place, Chunk, Belongings, In, Lies, Memory, objects_in, rewritten_belongings, sources, Part, part_for, StandsFor, StandsForAll, as_node, by_end, WorkerFits, ends_stand_for, ends_fit_then, ends_leave, aside_is, Private, ParkedTask, refs_of_rest, Resting, refs_for, refs_in, with_ref_in, chunk_of, chunks_of, SharedValue, accounts, belongings_in, rest_at, tree_counts_of, value_of, KeepsUnits, RestsAreMeasured, IsSharedValue, Fits, OthersFit, belongings_of_part, part_of, heaps_of, sources_of, Enters, refused, fresh_off, seen_object, accounts_are, entered_world, entry_on, fits_then, free_at_rest, free_rests, part_fits, worker_when_out, refs_long, fits_held, stands_for_held, are_once, fresh_by, noted_sources, owned_before, AreFormed, Led, SourceThere, belongings_chunks, lead_all, given_keeps, measured_given, measured_kept, part_kept, stands_now, FitsCopied, end_entry, ended}
+use Rattle.leaf_collections.proofs.Common.{◌≡◌, ℕ, ◌+◌, ◌-◌, ◌<◌, ◌&&◌, arith, true, false, not, Option, Some, None, is_some, List, [], ◌∷◌, ◌++◌, fold, length, slice_get, option_map, inl, inr, refl, ap, ap₂, sym, subst, ◌∙◌, cases_eq, same_Some, ReservedVecValue, got_within, each_from, got_some, in_map, map_in, read_in, none_some, Object, object_at, is_running, is_waiting, MachineState, runs_tell, EntryValue, End, Heap, Ledger, collected, heap_of, or_fresh, with_heap, with_heap_at, is_legal, SoundLedger, tasks_are_out_once, legal_sound, machine_goes_on, heap_machine, legal_then, waiters_are_free, Addr, Born, marked_object, cell_of, ChunkValue, Located, Slot, PoolValue, slot_at, owner_of, units_in_use, IsFresh, RefField, AreFields, redirected, StandOnce, Moved, new_address, AreGiven, units_in_slots, Rests, own, heap_then, with_at, with_off, legal_knows, CopyFits, EndsAt, CountsGo, OthersNotes, IsSource, Place, Chunk, Belongings, In, Lies, Memory, objects_of_chunks, rewritten_belongings, sources, Part, part_for, StandsFor, StandsForAll, as_node, by_end, WorkerFits, ends_stand_for, ends_fit_then, ends_leave, aside_is, Private, ParkedTask, refs_of_rest, Resting, refs_for, resting_references, with_ref_in, chunk_of, chunks_of, SharedValue, accounts, belongings_in, rest_at, tree_counts_of, value_of, KeepsUnits, RestsAreMeasured, IsSharedValue, Fits, OthersFit, belongings_of_part, part_of, heaps_of, sources_of, Enters, refused, fresh_off, seen_object, accounts_are, entered_world, entry_on, fits_then, free_at_rest, free_rests, part_fits, worker_when_out, refs_long, fits_held, stands_for_held, are_once, fresh_by, noted_sources, owned_before, AreFormed, Led, SourceThere, belongings_chunks, lead_all, given_keeps, measured_given, measured_kept, part_kept, stands_now, FitsCopied, end_entry, without_collection}
 
 -- a heap that a worker holds exists
 held_there : (hs : List Heap) (t k : ℕ) → (or_fresh (slice_get hs t)).worker ≡ Some k → t < length hs
@@ -31,8 +31,8 @@ module _ (w : SharedValue) (k : ℕ) (p : Private) (moved : Moved) (I : IsShared
   going : l.machine.end ≡ None
   going = machine_goes_on w.program w.settings w.journal.items on
 
-  C : CopyFits w.program w.settings t F.belongings (belongings_of_part (ended p)) (new_address moved.moved.items) v l
-  C = subst (CopyFits w.program w.settings t F.belongings (belongings_of_part (ended p)) (new_address moved.moved.items) v) (aside_is l going) F.copy
+  C : CopyFits w.program w.settings t F.belongings (belongings_of_part (without_collection p)) (new_address moved.moved.items) v l
+  C = subst (CopyFits w.program w.settings t F.belongings (belongings_of_part (without_collection p)) (new_address moved.moved.items) v) (aside_is l going) F.copy
 
   S : StandsFor v (tree_counts_of w) l
   S = stands_now w I on
@@ -55,7 +55,7 @@ module _ (w : SharedValue) (k : ℕ) (p : Private) (moved : Moved) (I : IsShared
   -- a source's object
   record At (s : RefField) : Type 0 where
     place : SourceThere (heaps_of w) s Good
-    field : s.field < length (refs_in (heaps_of w) s.object)
+    field : s.field < length (resting_references (heaps_of w) s.object)
 
   source_object : (s : RefField) → In ss s → At s
   source_object s i =
@@ -66,12 +66,12 @@ module _ (w : SharedValue) (k : ℕ) (p : Private) (moved : Moved) (I : IsShared
       let long : length lies.0.refs ≡ length Q.object.refs = refs_long (Place v l) lies.0.refs c.0.refs c.2.refs ∙ ap (λ (z : Object). length z.refs) (sym same) in
       source_object_by_cases Q lies.0 lies.2.at long (rest_at w.rests (own l Q.name)) refl lies.1
     where
-      source_object_by_cases : (Q : IsSource v l t s) (o : Located) → o.at ≡ s.object → length o.refs ≡ length Q.object.refs → (r : Option ParkedTask) → rest_at w.rests (own l Q.name) ≡ r → In (objects_in (belongings_in r).chunks) o → At s
+      source_object_by_cases : (Q : IsSource v l t s) (o : Located) → o.at ≡ s.object → length o.refs ≡ length Q.object.refs → (r : Option ParkedTask) → rest_at w.rests (own l Q.name) ≡ r → In (objects_of_chunks (belongings_in r).chunks) o → At s
       source_object_by_cases Q o e long None q j = absurd j
       source_object_by_cases Q o e long (Some r) q j =
-          let y = seen_object r.heap.chunks o (I.heaps (own l Q.name) r q).shaped.apart (subst (λ cs. In (objects_in cs) o) (belongings_chunks r) j) in
+          let y = seen_object r.heap.chunks o (I.heaps (own l Q.name) r q).shaped.apart (subst (λ cs. In (objects_of_chunks cs) o) (belongings_chunks r) j) in
           let born : (cell_of r.heap.chunks s.object).mark ≡ Born o.birth = ap (λ z. (cell_of r.heap.chunks z).mark) (sym e) ∙ y.mark in
-          let refs : refs_in (heaps_of w) s.object ≡ o.refs =
+          let refs : resting_references (heaps_of w) s.object ≡ o.refs =
           ap (λ z. refs_for w.rests z s.object) Q.place.chunk
           ∙ (ap (λ z. refs_of_rest z s.object) q
           ∙ (ap (λ m. (marked_object m (cell_of r.heap.chunks s.object)).refs) born ∙ sym (ap (λ (z : Located). z.refs) y.is ∙ ap (λ z. (cell_of r.heap.chunks z).refs) e))) in
@@ -82,8 +82,8 @@ module _ (w : SharedValue) (k : ℕ) (p : Private) (moved : Moved) (I : IsShared
             field = omega (arith, f, long, n);
           }
 
-  pub are_fields : AreFields refs_in (heaps_of w) ss
-  are_fields = each_from (λ s. s.field < length (refs_in (heaps_of w) s.object)) ss (λ s i. (source_object s i).field)
+  pub are_fields : AreFields resting_references (heaps_of w) ss
+  are_fields = each_from (λ s. s.field < length (resting_references (heaps_of w) s.object)) ss (λ s i. (source_object s i).field)
 
   formed : AreFormed (heaps_of w) Good
   formed = record {
@@ -102,7 +102,7 @@ module _ (w : SharedValue) (k : ℕ) (p : Private) (moved : Moved) (I : IsShared
 
   module _ (pool : PoolValue) (G : AreGiven w.pool pool moved.back.items) (once : StandOnce (sources_of (slice_get w.sets p.task))) (room : ℕ) where
     abbrev H' : Resting
-    H' = fold (redirected refs_in with_ref_in moved.moved.items) (heaps_of w) (sources_of (slice_get w.sets p.task))
+    H' = fold (redirected resting_references with_ref_in moved.moved.items) (heaps_of w) (sources_of (slice_get w.sets p.task))
 
     led : Led moved.moved.items (heaps_of w) Good ss H'
     led = lead_all moved.moved.items ss (heaps_of w) Good (are_once ss once) (λ s i. (source_object s i).place) formed
@@ -161,7 +161,7 @@ module _ (w : SharedValue) (k : ℕ) (p : Private) (moved : Moved) (I : IsShared
     owned : (n u : ℕ) → owner_of pool n ≡ Some u → owner_of w.pool n ≡ Some u
     owned n u o = owned_before w.pool pool moved.back.items n u G.free (G.others n) o
 
-    ends : EndsAt v v'' t (belongings_of_part (ended p)) f
+    ends : EndsAt v v'' t (belongings_of_part (without_collection p)) f
     ends = record { others = λ u ne. refl; owners = owners; mine = mine; owned = owned; sources = λ u. refl }
 
     -- NOTES AND COUNTS
@@ -186,7 +186,7 @@ module _ (w : SharedValue) (k : ℕ) (p : Private) (moved : Moved) (I : IsShared
 
     -- WHAT STANDS
     stands_so : StandsForAll v'' (tree_counts_of w') L
-    stands_so = ends_stand_for w.program w.settings w.journal.items I.form I.legal v v'' (tree_counts_of w) (tree_counts_of w') k t moved.taken moved.given moved.left F.belongings (belongings_of_part (ended p)) f free I.stands C ends refl notes counts
+    stands_so = ends_stand_for w.program w.settings w.journal.items I.form I.legal v v'' (tree_counts_of w) (tree_counts_of w') k t moved.taken moved.given moved.left F.belongings (belongings_of_part (without_collection p)) f free I.stands C ends refl notes counts
 
     legal' : is_legal w.program w.settings (w.journal.items ++ e ∷ []) ≡ true
     legal' = legal_then w.program w.settings w.journal.items e I.legal free
@@ -236,12 +236,12 @@ module _ (w : SharedValue) (k : ℕ) (p : Private) (moved : Moved) (I : IsShared
     held_value : (q : Part) → WorkerFits w.program w.settings q v'' L → WorkerFits w.program w.settings q v' L
     held_value q fits = fits_held v'' (λ u. v'.belongings u) L same_belongings w.program w.settings q sound' going' fits
 
-    pub end_fits : Fits w' k (ended p)
+    pub end_fits : Fits w' k (without_collection p)
     end_fits =
-        fits_then I free enters end_world k (ended p) (worker_when_out I free enters end_world k t ((S.tree_counts.task_out k t).1 F.out)) F.leaf_limit F.field_limit F.form (measured_given w.pool pool moved.back.items t p.heap.chunks G own_apart F.measured, λ n i. absurd i)
-        (held_value (part_of w.settings (ended p))
-        (subst (λ n. WorkerFits w.program w.settings (part_for w.settings t (belongings_of_part (ended p)) n) v'' L) (sym F.fresh)
-        (ends_fit_then w.program w.settings w.journal.items I.legal v v'' k t moved.taken moved.given moved.left F.belongings (belongings_of_part (ended p)) f free C ends refl)))
+        fits_then I free enters end_world k (without_collection p) (worker_when_out I free enters end_world k t ((S.tree_counts.task_out k t).1 F.out)) F.leaf_limit F.field_limit F.form (measured_given w.pool pool moved.back.items t p.heap.chunks G own_apart F.measured, λ n i. absurd i)
+        (held_value (part_of w.settings (without_collection p))
+        (subst (λ n. WorkerFits w.program w.settings (part_for w.settings t (belongings_of_part (without_collection p)) n) v'' L) (sym F.fresh)
+        (ends_fit_then w.program w.settings w.journal.items I.legal v v'' k t moved.taken moved.given moved.left F.belongings (belongings_of_part (without_collection p)) f free C ends refl)))
 
     apart : (u : ℕ) (q : Private) → (u ≡ k → ⊥) → Fits w u q → q.task ≡ t → ⊥
     apart u q ne Q same = ne (same_Some u k (sym Q.out ∙ (ap (λ z. (heap_of l z).worker) same ∙ F.out)))
@@ -250,11 +250,11 @@ module _ (w : SharedValue) (k : ℕ) (p : Private) (moved : Moved) (I : IsShared
     end_others u q ne Q =
         part_fits I free enters end_world u q q refl Q refl Q.form (part_kept w.pool pool q (units_stay q.task (apart u q ne Q)) Q.measured)
         (held_value (part_of w.settings q)
-        (ends_leave w.program w.settings w.journal.items I.legal v v'' k t moved.taken moved.given moved.left F.belongings (belongings_of_part (ended p)) f free C ends (part_of w.settings q)
+        (ends_leave w.program w.settings w.journal.items I.legal v v'' k t moved.taken moved.given moved.left F.belongings (belongings_of_part (without_collection p)) f free C ends (part_of w.settings q)
         (λ same'. apart u q ne Q (sym same')) Q.fits))
 
   -- AS THE CALL MAKES IT
-  module _ (X : Resting) (is : X ≡ fold (redirected refs_in with_ref_in moved.moved.items) (heaps_of w) (sources_of (slice_get w.sets p.task))) (once : StandOnce (sources_of (slice_get w.sets p.task))) where
+  module _ (X : Resting) (is : X ≡ fold (redirected resting_references with_ref_in moved.moved.items) (heaps_of w) (sources_of (slice_get w.sets p.task))) (once : StandOnce (sources_of (slice_get w.sets p.task))) where
     pub pool_same : X.pool ≡ w.pool
     pool_same = ap (λ (h : Resting). h.pool) is ∙ (lead_all moved.moved.items ss (heaps_of w) Good (are_once ss once) (λ s i. (source_object s i).place) formed).pool
 
@@ -271,8 +271,8 @@ module _ (w : SharedValue) (k : ℕ) (p : Private) (moved : Moved) (I : IsShared
       pub world_so : IsSharedValue entered_so
       world_so = subst IsSharedValue (sym so) (end_world pool given once (w.journal.room - 1))
 
-      pub fits_so : Fits entered_so k (ended p)
-      fits_so = subst (λ (z : SharedValue). Fits z k (ended p)) (sym so) (end_fits pool given once (w.journal.room - 1))
+      pub fits_so : Fits entered_so k (without_collection p)
+      fits_so = subst (λ (z : SharedValue). Fits z k (without_collection p)) (sym so) (end_fits pool given once (w.journal.room - 1))
 
       pub others_so : OthersFit w entered_so k
       others_so = subst (λ (z : SharedValue). OthersFit w z k) (sym so) (end_others pool given once (w.journal.room - 1))

@@ -44,19 +44,19 @@ pub use Rattle.core_invariant.specs.Stands.{IsSharedValue, HeapForm}
 pub use Rattle.core_invariant.specs.below.chunk_pool.{PoolValue, owner_of, TakesAll, units_in_use, Slot, Reserves, slot_in, slot_at, IsBlank, NumbersBehind, one_unit, units_in}
 pub use Rattle.core_invariant.specs.below.copying_gc.{ToChunks, AreNew, as_reference, Moved, new_address}
 pub use Rattle.core_invariant.specs.below.hh_model.{MachineState, row_of, is_joined, is_waiting, asked, Object, object_at, is_running, Name, Task}
-pub use Rattle.core_invariant.specs.below.leaf_heap.{HaveDistinctNumbers, IsFresh, counted, with_places, LeafHeapValue, added, AreTidy, AreWithin, IsTidy, IsCurrent, IsReserved, room_at, place_for, room_of}
+pub use Rattle.core_invariant.specs.below.leaf_heap.{HaveDistinctNumbers, IsFresh, saturating_words, with_places, LeafHeapValue, added, AreTidy, AreWithin, IsTidy, IsCurrent, IsReserved, room_at, place_for, room_of}
 pub use Rattle.core_invariant.specs.below.ledger_step_laws.{Rests, rested, own, IdleRest}
 pub use Rattle.core_invariant.specs.below.mark_sweep_gc.{AreGiven, units_in_slots}
 pub use Rattle.core_invariant.specs.below.object_layout.{Located, Addr, IsBorn, cell_of, small_words, ChunkValue, number_of, IsSoundReference, place_in, has_chunk, Born, marked_object, chunk_at, words_in, objects_from}
 pub use Rattle.core_invariant.specs.below.plain_vec.{ReservedVecValue, is_empty, option_is}
-pub use Rattle.core_invariant.specs.below.refinement.{SameObjects, with_belongings, AreLaidOut, Chunk, Belongings, In, Memory, objects, objects_in, HasNames, BelongingsStand, object_name, reserved_chunks, reserved_units, large_chunks, AsksUnits, BegunBy, CopyFits, EndsAt, CountsGo, OthersNotes, IsSource, Place, Lies, rewritten_belongings, sources, Part, part_for, StandsFor, StandsForAll, as_node, by_end, WorkerFits, BegunStands, LeafCollectionBegins}
+pub use Rattle.core_invariant.specs.below.refinement.{SameObjects, with_belongings, AreLaidOut, Chunk, Belongings, In, Memory, objects, objects_of_chunks, HasNames, BelongingsStand, object_name, reserved_chunks, reserved_units, large_chunks, AsksUnits, BegunBy, CopyFits, EndsAt, CountsGo, OthersNotes, IsSource, Place, Lies, rewritten_belongings, sources, Part, part_for, StandsFor, StandsForAll, as_node, by_end, WorkerFits, BegunStands, LeafCollectionBegins}
 pub use Rattle.core_invariant.specs.below.remembered_set.{RefField, AreFields, redirected, StandOnce}
-pub use Rattle.core_invariant.specs.below.run_ledger.{Heap, Ledger, heap_of, let_go, or_fresh, with_heap, Refused, Collecting, Due, NotNeeded, RunEnd, Pool, chunk_words, in_use, is_small, lacks_room, units, after, chunk_units, kind_refusal, refused_if, refused_unless, with_chunk, is_due, is_in_need, on_asked, take_of, within, collected, with_heap_at, is_legal, SoundLedger, PoolEnough, is_pool_enough, on_due, is_fuel, on_running, PoolShort, Count, NotCollecting, NotOut, ends_as, is_out, end_numbers, NotDue}
+pub use Rattle.core_invariant.specs.below.run_ledger.{Heap, Ledger, heap_of, let_go, or_fresh, with_heap, Refused, Collecting, Due, NotNeeded, RunEnd, Pool, chunk_words, in_use, is_small_size, lacks_room, units, after, chunk_units, kind_refusal, refused_if, refused_unless, with_chunk, is_due, is_in_need, on_asked, take_of, within, collected, with_heap_at, is_legal, SoundLedger, PoolEnough, is_pool_enough, on_due, is_fuel, on_running, PoolShort, Count, NotCollecting, NotOut, ends_as, is_out, end_numbers, NotDue, unless_wrong_number}
 pub use Rattle.core_invariant.specs.below.run_trace.{Begin, EntryValue, End, PutOff, Kind}
 pub use Rattle.core_invariant.specs.below.task_machine.{Begun, Private, AreReserved, HeapMatchesAccount, IsShaped, IsLastLarge, IsLastSmall, large_names, names_in, small_lists, is_part_due}
-pub use Rattle.core_invariant.specs.below.task_slots.{ParkedTask, refs_of_rest, Resting, refs_for, refs_in, with_ref_in}
+pub use Rattle.core_invariant.specs.below.task_slots.{ParkedTask, refs_of_rest, Resting, refs_for, resting_references, with_ref_in}
 pub use Rattle.journal_laws.proofs.Waiters.{waiters_are_free}
-pub use Rattle.leaf_collections.specs.LeafEnd.{FitsCopied, end_entry, ended}
+pub use Rattle.leaf_collections.specs.LeafEnd.{FitsCopied, end_entry, without_collection}
 pub use Rattle.std.proofs.Common.{◌≡◌, ◌⊎◌, ℕ, true, false, Option, Some, None, length, slice_get, is_some, inl, inr, refl, ap, sym, subst, ◌∙◌, ◌+◌, ◌^◌, ◌<◌, ◌≤◌, ◌++◌, arith, List, [], ◌∷◌, map, All, ◌*◌, ◌/◌, ◌&&◌, not, Bool, cond, option_map, is_none, nat_lt, ◌==◌, ap₂, lt-ltb, le-ltb, eq-eqb, ne_eqb, ◌-◌, fold, eqb, length-append, zero, suc, nat_le, take, rules}
 pub use Rattle.std.proofs.lemmas.Bool.{both_ways, cases_eq, cases_lt, cond-false, cond-true, false≢true, leb-false, cases_Bool, or_from, eqb-true, leb-true}
 pub use Rattle.std.proofs.lemmas.Iterator.Adapters.{YieldsList-from_vec}

@@ -1,5 +1,5 @@
 -- A heap with one more, empty chunk: the objects that are read, and its account.
-use Rattle.leaf_collections.proofs.Common.{◌≡◌, ◌⊎◌, ℕ, zero, suc, ◌-◌, ◌*◌, ◌<◌, ◌≤◌, ◌==◌, arith, Bool, true, false, cond, Option, Some, None, List, [], ◌∷◌, ◌++◌, length, map, All, inl, inr, ne_eqb, refl, ap, sym, subst, ◌∙◌, cases_lt, cond-false, leb-false, length_push, Name, Heap, chunk_words, is_small, units, chunk_units, with_chunk, chunk_at, ChunkValue, words_in, Located, objects_from, LeafHeapValue, IsCurrent, IsReserved, added, room_at, with_places, at_push, at_last, Chunk, In, object_name, objects_in, large_chunks, AreReserved, HeapMatchesAccount, IsLastLarge, IsLastSmall, large_names, names_in, small_lists, IsShaped, chunk_of, chunks_of}
+use Rattle.leaf_collections.proofs.Common.{◌≡◌, ◌⊎◌, ℕ, zero, suc, ◌-◌, ◌*◌, ◌<◌, ◌≤◌, ◌==◌, arith, Bool, true, false, cond, Option, Some, None, List, [], ◌∷◌, ◌++◌, length, map, All, inl, inr, ne_eqb, refl, ap, sym, subst, ◌∙◌, cases_lt, cond-false, leb-false, length_push, Name, Heap, chunk_words, is_small_size, units, chunk_units, with_chunk, chunk_at, ChunkValue, words_in, Located, objects_from, LeafHeapValue, IsCurrent, IsReserved, added, room_at, with_places, at_push, at_last, Chunk, In, object_name, objects_of_chunks, large_chunks, AreReserved, HeapMatchesAccount, IsLastLarge, IsLastSmall, large_names, names_in, small_lists, IsShaped, chunk_of, chunks_of}
 
 -- ---- LISTS OF CHUNKS
 
@@ -15,24 +15,24 @@ module _ (k : ChunkValue) (empty : k.cells ≡ []) where
   none_in = ap (objects_from k.number 0) empty
 
   -- no further object
-  pub objects_more : (ks : List ChunkValue) → objects_in (chunks_of (ks ++ k ∷ [])) ≡ objects_in (chunks_of ks)
+  pub objects_more : (ks : List ChunkValue) → objects_of_chunks (chunks_of (ks ++ k ∷ [])) ≡ objects_of_chunks (chunks_of ks)
   objects_more [] = ap (λ (os : List Located). os ++ []) none_in
   objects_more (x ∷ xs) = ap (λ (os : List Located). (chunk_of x).objects ++ os) (objects_more xs)
 
   -- nor a large one's name
-  large_by : (b : Bool) (x : Chunk) (ks js : List Chunk) → objects_in ks ≡ objects_in js → objects_in (cond b (x ∷ ks) ks) ≡ objects_in (cond b (x ∷ js) js)
+  large_by : (b : Bool) (x : Chunk) (ks js : List Chunk) → objects_of_chunks ks ≡ objects_of_chunks js → objects_of_chunks (cond b (x ∷ ks) ks) ≡ objects_of_chunks (cond b (x ∷ js) js)
   large_by true x ks js e = ap (λ (os : List Located). x.objects ++ os) e
   large_by false x ks js e = e
 
-  large_objects : (ks : List ChunkValue) → objects_in (large_chunks (chunks_of (ks ++ k ∷ []))) ≡ objects_in (large_chunks (chunks_of ks))
+  large_objects : (ks : List ChunkValue) → objects_of_chunks (large_chunks (chunks_of (ks ++ k ∷ []))) ≡ objects_of_chunks (large_chunks (chunks_of ks))
   large_objects [] = large_objects_by_cases (chunk_of k).large
     where
-      large_objects_by_cases : (b : Bool) → objects_in (cond b (chunk_of k ∷ []) []) ≡ []
+      large_objects_by_cases : (b : Bool) → objects_of_chunks (cond b (chunk_of k ∷ []) []) ≡ []
       large_objects_by_cases true = ap (λ (os : List Located). os ++ []) none_in
       large_objects_by_cases false = refl
   large_objects (x ∷ xs) = large_by (chunk_of x).large (chunk_of x) (large_chunks (chunks_of (xs ++ k ∷ []))) (large_chunks (chunks_of xs)) (large_objects xs)
 
-  pub large_more : (ks : List ChunkValue) → map object_name (objects_in (large_chunks (chunks_of (ks ++ k ∷ [])))) ≡ map object_name (objects_in (large_chunks (chunks_of ks)))
+  pub large_more : (ks : List ChunkValue) → map object_name (objects_of_chunks (large_chunks (chunks_of (ks ++ k ∷ [])))) ≡ map object_name (objects_of_chunks (large_chunks (chunks_of ks)))
   large_more ks = ap (map object_name) (large_objects ks)
 
   -- one more list of names, or none
@@ -141,48 +141,48 @@ module _ (h : LeafHeapValue) (l : Heap) (S : IsShaped h) (C : HeapMatchesAccount
 
   -- for the object for which the next step needs it
   pub grown_counted : (words u : ℕ) → u ≡ chunk_units (Some words) → HeapMatchesAccount (with_places (added h (chunk_with number u)) slots spare) (with_chunk (Some words) l)
-  grown_counted words u e = grown_counted_by_cases (is_small words) refl e
+  grown_counted words u e = grown_counted_by_cases (is_small_size words) refl e
     where
-      grown_counted_by_cases : (b : Bool) → is_small words ≡ b → u ≡ cond b 1 (units words) → HeapMatchesAccount (with_places (added h (chunk_with number u)) slots spare) (cond b (record l { chunks = l.chunks ++ [] ∷ []; room = chunk_words }) (record l { reserved = chunk_units (Some words) }))
+      grown_counted_by_cases : (b : Bool) → is_small_size words ≡ b → u ≡ cond b 1 (units words) → HeapMatchesAccount (with_places (added h (chunk_with number u)) slots spare) (cond b (record l { chunks = l.chunks ++ [] ∷ []; room = chunk_words }) (record l { reserved = chunk_units (Some words) }))
       grown_counted_by_cases true s q = subst (λ n. HeapMatchesAccount (with_places (added h (chunk_with number n)) slots spare) (record l { chunks = l.chunks ++ [] ∷ []; room = chunk_words })) (sym q) small_counted
       grown_counted_by_cases false s q =
           let big_words : chunk_words < words = leb-false words chunk_words s in
           let two : 2 ≤ u = omega (arith, big_words, q) in
-          let is : chunk_units (Some words) ≡ u = cond-false (is_small words) 1 (units words) s ∙ sym q in
+          let is : chunk_units (Some words) ≡ u = cond-false (is_small_size words) 1 (units words) s ∙ sym q in
           subst (λ n. HeapMatchesAccount (with_places (added h (chunk_with number u)) slots spare) (record l { reserved = n })) (sym is) (large_counted u two)
 
 -- what a chunk keeps of an account
 pub chunk_begun : (words : ℕ) (h : Heap) → (with_chunk (Some words) h).begun ≡ h.begun
-chunk_begun words h = chunk_begun_by_cases (is_small words)
+chunk_begun words h = chunk_begun_by_cases (is_small_size words)
   where
     chunk_begun_by_cases : (b : Bool) → (cond b (record h { chunks = h.chunks ++ [] ∷ []; room = chunk_words }) (record h { reserved = chunk_units (Some words) })).begun ≡ h.begun
     chunk_begun_by_cases true = refl
     chunk_begun_by_cases false = refl
 
 pub chunk_since : (words : ℕ) (h : Heap) → (with_chunk (Some words) h).since ≡ h.since
-chunk_since words h = chunk_since_by_cases (is_small words)
+chunk_since words h = chunk_since_by_cases (is_small_size words)
   where
     chunk_since_by_cases : (b : Bool) → (cond b (record h { chunks = h.chunks ++ [] ∷ []; room = chunk_words }) (record h { reserved = chunk_units (Some words) })).since ≡ h.since
     chunk_since_by_cases true = refl
     chunk_since_by_cases false = refl
 
 pub chunk_large : (words : ℕ) (h : Heap) → (with_chunk (Some words) h).large ≡ h.large
-chunk_large words h = chunk_large_by_cases (is_small words)
+chunk_large words h = chunk_large_by_cases (is_small_size words)
   where
     chunk_large_by_cases : (b : Bool) → (cond b (record h { chunks = h.chunks ++ [] ∷ []; room = chunk_words }) (record h { reserved = chunk_units (Some words) })).large ≡ h.large
     chunk_large_by_cases true = refl
     chunk_large_by_cases false = refl
 
 pub chunk_held : (words : ℕ) (h : Heap) → (with_chunk (Some words) h).worker ≡ h.worker
-chunk_held words h = chunk_held_by_cases (is_small words)
+chunk_held words h = chunk_held_by_cases (is_small_size words)
   where
     chunk_held_by_cases : (b : Bool) → (cond b (record h { chunks = h.chunks ++ [] ∷ []; room = chunk_words }) (record h { reserved = chunk_units (Some words) })).worker ≡ h.worker
     chunk_held_by_cases true = refl
     chunk_held_by_cases false = refl
 
 pub units_some : (words : ℕ) → 1 ≤ chunk_units (Some words)
-units_some words = units_some_by_cases (is_small words) refl
+units_some words = units_some_by_cases (is_small_size words) refl
   where
-    units_some_by_cases : (b : Bool) → is_small words ≡ b → 1 ≤ cond b 1 (units words)
+    units_some_by_cases : (b : Bool) → is_small_size words ≡ b → 1 ≤ cond b 1 (units words)
     units_some_by_cases true s = omega arith
     units_some_by_cases false s = let q : chunk_words < words = leb-false words chunk_words s in omega (arith, q)

@@ -1,6 +1,5 @@
 -- Why the end of a part's leaf collection is refused: only for causes that precede those of its kind.
-use Rattle.leaf_collections.proofs.Common.{◌≡◌, ℕ, ◌==◌, ◌&&◌, Bool, true, false, Option, Some, None, is_some, slice_get, refl, ap, ap₂, sym, ◌∙◌, eq-eqb, false≢true, is_running, End, Ledger, Refused, Count, NotCollecting, NotOut, ends_as, is_out, kind_refusal, refused_unless, end_numbers, heap_of, option_is, tasks_are_out_once, Moved, Private, SharedValue, accounts, IsSharedValue, first_cause, or_else, refused, on_is, refused_is, FitsCopied, end_entry}
-use Rattle.core_invariant.specs.below.run_ledger.{counted}
+use Rattle.leaf_collections.proofs.Common.{◌≡◌, ℕ, ◌==◌, ◌&&◌, Bool, true, false, Option, Some, None, is_some, slice_get, refl, ap, ap₂, sym, ◌∙◌, eq-eqb, false≢true, is_running, End, Ledger, Refused, Count, NotCollecting, NotOut, ends_as, is_out, kind_refusal, refused_unless, end_numbers, heap_of, option_is, tasks_are_out_once, Moved, Private, SharedValue, accounts, IsSharedValue, first_cause, or_else, refused, on_is, refused_is, FitsCopied, end_entry, unless_wrong_number}
 use Rattle.leaf_collections.proofs.WhyNoChunk.{first_answer}
 
 -- WHY IT IS REFUSED
@@ -10,8 +9,8 @@ unless_true false c rest e = absurd (false≢true e)
 
 said_so : (n m q : ℕ) → ends_as (n, m, q) (n, m, q) ≡ None
 said_so n m q =
-    unless_true (n == n) (Count n n) (counted m m (counted q q None)) (eq-eqb n n refl)
-    ∙ (unless_true (m == m) (Count m m) (counted q q None) (eq-eqb m m refl) ∙ unless_true (q == q) (Count q q) None (eq-eqb q q refl))
+    unless_true (n == n) (Count n n) (unless_wrong_number m m (unless_wrong_number q q None)) (eq-eqb n n refl)
+    ∙ (unless_true (m == m) (Count m m) (unless_wrong_number q q None) (eq-eqb m m refl) ∙ unless_true (q == q) (Count q q) None (eq-eqb q q refl))
 
 pub end_answer : (w : SharedValue) (k : ℕ) (p : Private) (moved : Moved) → IsSharedValue w → FitsCopied w k p moved → refused w (end_entry k p moved) ≡ first_cause w.end w.steps w.settings k false
 end_answer w k p moved I F = end_answer_by_cases (is_some (first_cause w.end w.steps w.settings k false)) refl

@@ -17,8 +17,8 @@ use Rattle.core_invariant.specs.Stands.{HeapForm}
 use Rattle.core_invariant.specs.SharedValue.{SharedValue, accounts, value_of}
 
 -- the part in no collection
-abbrev pub ended : Private → Private
-ended p = record p { begun = None }
+abbrev pub without_collection : Private → Private
+without_collection p = record p { begun = None }
 
 -- the entry that ends its collection
 abbrev pub end_entry : ℕ → Private → Moved → EntryValue
@@ -36,7 +36,7 @@ pub record FitsCopied (w : SharedValue) (worker : ℕ) (p : Private) (moved : Mo
   -- its belongings before
   pub belongings : Belongings
   pub out : (heap_of (accounts w) p.task).worker ≡ Some worker
-  pub copy : CopyFits w.program w.settings p.task belongings (belongings_of_part (ended p)) (new_address moved.moved.items) (value_of w) (aside (accounts w))
+  pub copy : CopyFits w.program w.settings p.task belongings (belongings_of_part (without_collection p)) (new_address moved.moved.items) (value_of w) (aside (accounts w))
   pub form : HeapForm p.heap
   pub measured : AreMeasured w.pool p.task p.heap.chunks
   pub fresh : p.fresh ≡ 0

@@ -5,7 +5,7 @@ ghost use Rattle.core_invariant.specs.below.chunk_pool.{slot_at};
 ghost use Rattle.core_invariant.specs.below.leaf_heap.{HaveDistinctNumbers};
 ghost use Rattle.core_invariant.specs.below.remembered_set.{redirected, AreFields, AreInOrder, ArePlaces, StandOnce};
 ghost use Rattle.core_invariant.specs.below.mark_sweep_gc.{AreGiven};
-ghost use Rattle.core_invariant.specs.below.task_slots.{refs_in, resting, with_ref_in, with_resting};
+ghost use Rattle.core_invariant.specs.below.task_slots.{resting_references, resting, with_ref_in, with_resting};
 ghost use Rattle.core_invariant.specs.Roots.{sources_of};
 
 use core_invariant::{Addr, Chunk, Heaps, Pool};
@@ -13,10 +13,10 @@ use core_invariant::{Addr, Chunk, Heaps, Pool};
 /// Updates the remembered fields of a heap that still hold old addresses.
 pub fn lead(heaps: &mut Heaps, task: u32, moved: &[(Addr, Addr)])
     requires made { task < length heaps.old.task_slots.rests }
-    requires fields { AreFields refs_in (resting heaps.old) (sources_of (slice_get heaps.old.task_slots.sets task)) }
+    requires fields { AreFields resting_references (resting heaps.old) (sources_of (slice_get heaps.old.task_slots.sets task)) }
     requires order { AreInOrder moved.now }
     requires places { ArePlaces moved.now }
-    ensures led { heaps.new ≡ with_resting heaps.old (fold (redirected refs_in with_ref_in moved.now) (resting heaps.old) (sources_of (slice_get heaps.old.task_slots.sets task))) }
+    ensures led { heaps.new ≡ with_resting heaps.old (fold (redirected resting_references with_ref_in moved.now) (resting heaps.old) (sources_of (slice_get heaps.old.task_slots.sets task))) }
     ensures once { StandOnce (sources_of (slice_get heaps.old.task_slots.sets task)) }
 {
     heaps.rewrite(task, moved);

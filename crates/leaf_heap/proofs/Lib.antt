@@ -1,4 +1,5 @@
 pub mod HeapLemmas
+pub mod ChunkAdded
 pub mod PlacedLaws
 pub mod Settled
 pub mod Near

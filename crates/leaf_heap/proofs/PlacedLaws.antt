@@ -2,13 +2,14 @@
 use Rattle.leaf_heap.proofs.Common.{◌≡◌, ℕ, zero, suc, ◌<◌, true, false, List, [], ◌∷◌, ◌++◌, length, get_or, set, refl, sym, ap, ◌∙◌, arith, ⊎_elim, eqb, length-set, cases_Bool, eq-eqb, ne_eqb, get_or-set_same, Addr, Cell, IsObject, cell_of, chunk_at, next_address, no_chunk, place_of, push_object, ChunkValue, cell_at, words_in, cell_of-found, HaveDistinctNumbers, IsFresh}
 use Rattle.object_layout.proofs.PlaceLemmas as place
 use Rattle.leaf_heap.proofs.HeapLemmas as heap
+use Rattle.leaf_heap.proofs.ChunkAdded as added
 
 -- if numbers are distinct, each chunk is found by its number
 pub place_of-own : (ks : List ChunkValue) → HaveDistinctNumbers ks → (i : ℕ) → i < length ks → place_of ks (chunk_at ks i).number ≡ i
 place_of-own [] h i l = absurd (omega arith)
 place_of-own (k ∷ ks) h zero l = rw (eq-eqb k.number k.number refl)
 place_of-own (k ∷ ks) h (suc i) l =
-    let apart : k.number ≡ (chunk_at ks i).number → ⊥ = λ e. heap.fresh_at ks k.number h.0 i no_chunk (omega arith) (sym e) in
+    let apart : k.number ≡ (chunk_at ks i).number → ⊥ = λ e. added.fresh_at ks k.number h.0 i no_chunk (omega arith) (sym e) in
     rw (ne_eqb k.number (chunk_at ks i).number apart, place_of-own ks h.1 i (omega arith)) (omega arith)
 
 -- a placed object is read where it was placed
@@ -41,9 +42,9 @@ cell_of-others (k ∷ ks) (suc i) c b o =
 pub apart_added : (ks : List ChunkValue) (k : ChunkValue) → HaveDistinctNumbers ks → IsFresh ks k.number → HaveDistinctNumbers (ks ++ k ∷ [])
 apart_added [] k h f = (refl, tt)
 apart_added (x ∷ xs) k h f =
-    let ne : k.number ≡ x.number → ⊥ = λ e. heap.fresh_head x xs k.number f (sym e) in (
-      heap.place_in-push xs k (heap.fresh_tail x xs k.number f) x.number ∙ rw (ne_eqb k.number x.number ne) h.0,
-      apart_added xs k h.1 (heap.fresh_tail x xs k.number f),
+    let ne : k.number ≡ x.number → ⊥ = λ e. added.fresh_head x xs k.number f (sym e) in (
+      added.place_in-push xs k (added.fresh_tail x xs k.number f) x.number ∙ rw (ne_eqb k.number x.number ne) h.0,
+      apart_added xs k h.1 (added.fresh_tail x xs k.number f),
     )
 
 -- and if one is written, or an object is placed in it

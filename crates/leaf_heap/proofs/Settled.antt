@@ -1,7 +1,7 @@
 -- The invariant of a heap between collections, after an object is written or placed, a chunk added, or heaps merged.
 use Rattle.leaf_heap.proofs.Common.{◌≡◌, ℕ, zero, suc, ◌+◌, ◌-◌, ◌*◌, ◌<◌, ◌≤◌, Bool, true, false, cond, List, [], ◌∷◌, ◌++◌, length, get_or, set, refl, sym, ap, ◌∙◌, subst, arith, inl, inr, eqb, Option, Some, None, All, cases_Bool, cases_lt, le-leb, lt-leb, get_or_read, All-append, All-cons, All-get_or, All-head, All-nil, All-push, All-set, All-tail, Addr, Cell, moved_to, no_cell, size_of, ChunkValue, cell_at, put_cell, words_in, cell_of, chunk_at, no_chunk, put_object, with_cell, length-put, place_of-put, All-put_cell, PiecesValue, added, HaveDistinctNumbers, AreTidy, LeafHeapValue, IsFresh, AgreesWithChunks, IsSettled, IsTidy, place_for, units}
 use Rattle.leaf_heap.proofs.HeapLemmas as heap
-use Rattle.leaf_heap.proofs.PlacedLaws as placed
+use Rattle.leaf_heap.proofs.PlacedLaws as with_object_placed
 
 -- ---- cells
 
@@ -94,7 +94,7 @@ added_chunks h k =
 pub settled_added : (h : LeafHeapValue) (k : ChunkValue) → IsSettled h.chunks → k.cells ≡ [] → IsFresh h.chunks k.number → IsSettled (added h k).chunks
 settled_added h k s e f = subst IsSettled (sym (added_chunks h k)) (record {
   tidy = All-push IsTidy h.chunks k s.tidy (tidy_empty k e);
-  apart = placed.apart_added h.chunks k s.apart f;
+  apart = with_object_placed.apart_added h.chunks k s.apart f;
 })
 
 pub settled_merged : (ls rs ks : List ChunkValue) → IsSettled ls → IsSettled rs → IsSettled ks → HaveDistinctNumbers (ls ++ (rs ++ ks)) → IsSettled (ls ++ (rs ++ ks))
@@ -186,5 +186,5 @@ module _ (h : LeafHeapValue) (pieces : PiecesValue) (count many part base : ℕ)
       subst (λ (x : ChunkValue). IsSettled (set h.chunks i (record x { cells = x.cells ++ c ∷ [] }))) (sym same)
       (record {
         tidy = All-set IsTidy h.chunks i (record (chunk_at h.chunks i) { cells = (chunk_at h.chunks i).cells ++ c ∷ [] }) tidy s.tidy;
-        apart = placed.apart_set h.chunks i (record (chunk_at h.chunks i) { cells = (chunk_at h.chunks i).cells ++ c ∷ [] }) refl s.apart;
+        apart = with_object_placed.apart_set h.chunks i (record (chunk_at h.chunks i) { cells = (chunk_at h.chunks i).cells ++ c ∷ [] }) refl s.apart;
       })

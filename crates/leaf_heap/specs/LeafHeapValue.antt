@@ -25,8 +25,8 @@ contents_value None = no_contents
 contents_value (Some h) = h
 
 -- a number of words, saturating at 64 bits
-abbrev pub counted : ℕ → ℕ
-counted n = min n last_count
+abbrev pub saturating_words : ℕ → ℕ
+saturating_words n = min n last_count
 
 -- the words left in the chunk at a position
 abbrev pub room_at : List ChunkValue → Option ℕ → ℕ
@@ -54,12 +54,12 @@ abbrev pub placed_at : LeafHeapValue → ℕ → Cell → LeafHeapValue
 placed_at h i c = record h {
   chunks = push_object h.chunks i c;
   reserved = if nat_le (size_of c) chunk_words then h.reserved else None;
-  since = counted (h.since + size_of c);
+  since = saturating_words (h.since + size_of c);
 }
 
-abbrev pub placed : LeafHeapValue → Option ℕ → Cell → LeafHeapValue
-placed h None c = h
-placed h (Some i) c = placed_at h i c
+abbrev pub with_object_placed : LeafHeapValue → Option ℕ → Cell → LeafHeapValue
+with_object_placed h None c = h
+with_object_placed h (Some i) c = placed_at h i c
 
 -- the heap with one more, empty chunk: it is filled from then on, or reserved if it is large
 abbrev pub added : LeafHeapValue → ChunkValue → LeafHeapValue
@@ -77,7 +77,7 @@ merged h left right = record h {
   chunks = left.chunks ++ (right.chunks ++ h.chunks);
   current = option_map (λ i. i + (length left.chunks + length right.chunks)) h.current;
   reserved = option_map (λ i. i + (length left.chunks + length right.chunks)) h.reserved;
-  since = counted (h.since + (left.since + right.since));
+  since = saturating_words (h.since + (left.since + right.since));
 }
 
 -- the same heap with other spare capacities
@@ -106,9 +106,9 @@ pub record AgreesWithChunks (chunks : List ChunkValue) (pieces : PiecesValue) (f
   pub current : IsCurrent chunks filled
   pub reserved : IsReserved chunks kept
   pub within : AreWithin chunks
-  pub words : count ≡ counted (held_words chunks)
-  pub objects : many ≡ counted (object_count chunks)
-  pub small : part ≡ counted (small_words chunks)
+  pub words : count ≡ saturating_words (held_words chunks)
+  pub objects : many ≡ saturating_words (object_count chunks)
+  pub small : part ≡ saturating_words (small_words chunks)
   pub least : 2 ^ 63 ≤ base
   pub moved : base ≤ 2 ^ 63 + length chunks
   pub table : (number : ℕ) → place number ≡ option_map (λ i. base - i) (place_in chunks number)

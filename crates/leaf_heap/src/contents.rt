@@ -3,7 +3,7 @@
 ghost use Rattle.std.specs.Prelude.{◌≡◌, ◌+◌, ◌^◌, ◌<◌, ◌≤◌, [], is_some, option_map, OnOk, None, Some};
 ghost use Rattle.object_layout.specs.Cell.{size_of, new_cell, IsPlace, chunk_words};
 ghost use Rattle.object_layout.specs.Chunks.{chunk_at, held_words, next_address, object_count, small_words};
-ghost use Rattle.leaf_heap.specs.LeafHeapValue.{added, counted, no_contents, placed, placed_at, place_for, room_of, with_places, AreWithin, IsCurrent, IsFresh, IsReserved, IsSettled};
+ghost use Rattle.leaf_heap.specs.LeafHeapValue.{added, saturating_words, no_contents, with_object_placed, placed_at, place_for, room_of, with_places, AreWithin, IsCurrent, IsFresh, IsReserved, IsSettled};
 
 use super::counts::small_part;
 use chunk_list::{ChunkList, missing_pieces};
@@ -144,21 +144,21 @@ impl Contents {
 
     /// The words of all objects in the heap, without holes.
     pub fn words(&self) -> u64
-        ensures { result ≡ counted (held_words self.now.chunks) }
+        ensures { result ≡ saturating_words (held_words self.now.chunks) }
     {
         self.words
     }
 
     /// How many objects are in the heap.
     pub fn objects(&self) -> u64
-        ensures { result ≡ counted (object_count self.now.chunks) }
+        ensures { result ≡ saturating_words (object_count self.now.chunks) }
     {
         self.objects
     }
 
     /// The words of all small objects in the heap.
     pub fn small_words(&self) -> u64
-        ensures { result ≡ counted (small_words self.now.chunks) }
+        ensures { result ≡ saturating_words (small_words self.now.chunks) }
     {
         self.small
     }
@@ -173,7 +173,7 @@ impl Contents {
     // The words of another heap are counted as placed too, where neither has a chunk.
     pub(crate) fn count_placed(&mut self, words: u64)
         requires { self.old.chunks ≡ [] }
-        ensures { self.new ≡ record no_contents { since = counted (self.old.since + words); slots = self.new.slots; spare = self.new.spare } }
+        ensures { self.new ≡ record no_contents { since = saturating_words (self.old.since + words); slots = self.new.slots; spare = self.new.spare } }
     {
         self.since = self.since.saturating_add(words);
     }
@@ -264,7 +264,7 @@ impl Contents {
         requires ints { new.header.nints < 2 ^ 20 }
         ensures address { let object = new_cell new.header new.birth in result ≡ option_map (λ i. next_address (chunk_at self.old.chunks i)) (place_for self.old (size_of object)) }
         ensures near { IsPlace result }
-        ensures placed { let object = new_cell new.header new.birth in self.new ≡ placed self.old (place_for self.old (size_of object)) object }
+        ensures placed { let object = new_cell new.header new.birth in self.new ≡ with_object_placed self.old (place_for self.old (size_of object)) object }
         ensures settled { IsSettled self.old.chunks → IsSettled self.new.chunks }
     {
         let words = 2 + new.header.nrefs + new.header.nints;

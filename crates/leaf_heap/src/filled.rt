@@ -3,7 +3,7 @@
 ghost use Rattle.std.specs.Prelude.{◌≡◌, ◌^◌, ◌<◌, length, option_map, All, Some};
 ghost use Rattle.object_layout.specs.Cell.{filled_cell, size_of, IsPlace, chunk_words};
 ghost use Rattle.object_layout.specs.Chunks.{chunk_at, next_address};
-ghost use Rattle.leaf_heap.specs.LeafHeapValue.{placed, placed_at, place_for, IsSettled};
+ghost use Rattle.leaf_heap.specs.LeafHeapValue.{with_object_placed, placed_at, place_for, IsSettled};
 
 use super::contents::{Contents, New, SMALL};
 use super::counts::small_part;
@@ -20,7 +20,7 @@ impl Contents {
         requires places { All IsPlace refs.now }
         ensures address { let object = filled_cell new.header new.birth refs.now ints.now in result ≡ option_map (λ i. next_address (chunk_at self.old.chunks i)) (place_for self.old (size_of object)) }
         ensures near { IsPlace result }
-        ensures placed { let object = filled_cell new.header new.birth refs.now ints.now in self.new ≡ placed self.old (place_for self.old (size_of object)) object }
+        ensures placed { let object = filled_cell new.header new.birth refs.now ints.now in self.new ≡ with_object_placed self.old (place_for self.old (size_of object)) object }
         ensures settled { IsSettled self.old.chunks → IsSettled self.new.chunks }
     {
         let words = 2 + new.header.nrefs + new.header.nints;

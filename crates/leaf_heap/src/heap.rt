@@ -3,7 +3,7 @@
 ghost use Rattle.std.specs.Prelude.{◌≡◌, ◌+◌, ◌^◌, ◌<◌, ◌≤◌, [], is_some, length, All, option_map, OnOk, OnErr, IfErr, IfOk, IsOk, None};
 ghost use Rattle.object_layout.specs.Cell.{filled_cell, size_of, new_cell, IsPlace, chunk_words};
 ghost use Rattle.object_layout.specs.Chunks.{chunk_at, held_words, next_address, object_count, small_words};
-ghost use Rattle.leaf_heap.specs.LeafHeapValue.{added, counted, exchanged, merged, placed, place_for, room_of, with_places, HaveDistinctNumbers, AreNear, AreWithin, IsCurrent, IsFresh, IsReserved, IsSettled};
+ghost use Rattle.leaf_heap.specs.LeafHeapValue.{added, saturating_words, exchanged, merged, with_object_placed, place_for, room_of, with_places, HaveDistinctNumbers, AreNear, AreWithin, IsCurrent, IsFresh, IsReserved, IsSettled};
 
 use super::contents::New;
 use super::space::Space;
@@ -90,21 +90,21 @@ impl LeafHeap {
 
     /// The words of all objects in the heap, without holes.
     pub fn words(&self) -> u64
-        ensures { result ≡ counted (held_words self.now.chunks) }
+        ensures { result ≡ saturating_words (held_words self.now.chunks) }
     {
         self.space.words()
     }
 
     /// How many objects are in the heap.
     pub fn objects(&self) -> u64
-        ensures { result ≡ counted (object_count self.now.chunks) }
+        ensures { result ≡ saturating_words (object_count self.now.chunks) }
     {
         self.space.objects()
     }
 
     /// The words of all small objects in the heap.
     pub fn small_words(&self) -> u64
-        ensures { result ≡ counted (small_words self.now.chunks) }
+        ensures { result ≡ saturating_words (small_words self.now.chunks) }
     {
         self.space.small_words()
     }
@@ -195,7 +195,7 @@ impl LeafHeap {
         requires ints { new.header.nints < 2 ^ 20 }
         ensures address { let object = new_cell new.header new.birth in result ≡ Ok (option_map (λ i. next_address (chunk_at self.old.chunks i)) (place_for self.old (size_of object))) }
         ensures near { IfOk result IsPlace }
-        ensures placed { let object = new_cell new.header new.birth in self.new ≡ placed self.old (place_for self.old (size_of object)) object }
+        ensures placed { let object = new_cell new.header new.birth in self.new ≡ with_object_placed self.old (place_for self.old (size_of object)) object }
     {
         Ok(self.place_spare(new))
     }
@@ -207,7 +207,7 @@ impl LeafHeap {
         requires ints { new.header.nints < 2 ^ 20 }
         ensures address { let object = new_cell new.header new.birth in result ≡ option_map (λ i. next_address (chunk_at self.old.chunks i)) (place_for self.old (size_of object)) }
         ensures near { IsPlace result }
-        ensures placed { let object = new_cell new.header new.birth in self.new ≡ placed self.old (place_for self.old (size_of object)) object }
+        ensures placed { let object = new_cell new.header new.birth in self.new ≡ with_object_placed self.old (place_for self.old (size_of object)) object }
     {
         self.space.place(new)
     }
@@ -221,7 +221,7 @@ impl LeafHeap {
         requires places { All IsPlace refs.now }
         ensures address { let object = filled_cell new.header new.birth refs.now ints.now in result ≡ option_map (λ i. next_address (chunk_at self.old.chunks i)) (place_for self.old (size_of object)) }
         ensures near { IsPlace result }
-        ensures placed { let object = filled_cell new.header new.birth refs.now ints.now in self.new ≡ placed self.old (place_for self.old (size_of object)) object }
+        ensures placed { let object = filled_cell new.header new.birth refs.now ints.now in self.new ≡ with_object_placed self.old (place_for self.old (size_of object)) object }
     {
         self.space.place_filled(new, refs, ints)
     }

@@ -2,7 +2,7 @@
 
 ghost use Rattle.std.specs.Prelude.{◌≡◌, ◌+◌, ◌≤◌, [], None, length};
 ghost use Rattle.leaf_heap.specs.Counted.{AreCounted};
-ghost use Rattle.leaf_heap.specs.LeafHeapValue.{counted, exchanged, merged, no_contents, with_places, HaveDistinctNumbers, IsCurrent, IsReserved};
+ghost use Rattle.leaf_heap.specs.LeafHeapValue.{saturating_words, exchanged, merged, no_contents, with_places, HaveDistinctNumbers, IsCurrent, IsReserved};
 
 use super::contents::Contents;
 use super::counts::Counts;
@@ -98,7 +98,7 @@ fn without_chunks(left: Space, right: Space) -> Space
 // A heap without chunks, as it is.
 fn counted_again(heap: Space) -> Space
     requires { heap.chunks ≡ [] }
-    ensures { result ≡ record no_contents { since = counted heap.since; slots = result.slots; spare = result.spare } }
+    ensures { result ≡ record no_contents { since = saturating_words heap.since; slots = result.slots; spare = result.spare } }
 {
     let mut heap = heap;
     match &mut heap.contents {

@@ -1,5 +1,5 @@
 -- The ancestors of a task, and what their heaps' objects refer to.
-use Rattle.ledger_heaps.proofs.Common.{◌≡◌, ℕ, zero, suc, ◌==◌, Bool, true, false, cond, not, Option, Some, None, List, [], ◌∷◌, slice_get, filter, ◌⊎◌, inl, inr, refl, ap, sym, subst, ◌∙◌, eqb, eqb-true, eq-eqb, flat_map, and_parts, and_from, or_cases, or_right, false≢true, not-true, In, contains_from_in, in_flat, flat_in, in_kept, in_from_kept, got_in, same_truth, Name, MachineState, refs_at, owner_of, is_on_path, parents, path_by, through, path_here, Heap, holds_name, held, is_above, in_from_holds, holds_from_in, in_held, held_keeps, names_of, accounts, AreOwned, ancestors, ancestors_by, refs_in}
+use Rattle.ledger_heaps.proofs.Common.{◌≡◌, ℕ, zero, suc, ◌==◌, Bool, true, false, cond, not, Option, Some, None, List, [], ◌∷◌, slice_get, filter, ◌⊎◌, inl, inr, refl, ap, sym, subst, ◌∙◌, eqb, eqb-true, eq-eqb, flat_map, and_parts, and_from, or_cases, or_right, false≢true, not-true, In, contains_from_in, in_flat, flat_in, in_kept, in_from_kept, got_in, same_truth, Name, MachineState, refs_at, owner_of, is_on_path, parents, path_by, through, path_here, Heap, holds_name, held, is_proper_ancestor, in_from_holds, holds_from_in, in_held, held_keeps, names_of, accounts, AreOwned, ancestors, ancestors_by, references_from_heaps}
 
 pub one_up : (par : ℕ → Option ℕ) (k at p : ℕ) → par at ≡ Some p → ancestors_by par (suc k) at ≡ p ∷ ancestors_by par k p
 one_up par k at p e = ap (λ (o : Option ℕ). through o [] (λ q. q ∷ ancestors_by par k q)) e
@@ -44,7 +44,7 @@ module _ (m : MachineState) (heaps : List Heap) (t : ℕ) (owned : AreOwned m.ta
   own n = owner_of m.tasks n.task
 
   abbrev test : Name → Bool
-  test n = is_above m.tasks (own n) t
+  test n = is_proper_ancestor m.tasks (own n) t
 
   abbrev kept : List Name
   kept = filter test (held (accounts m heaps))
@@ -53,7 +53,7 @@ module _ (m : MachineState) (heaps : List Heap) (t : ℕ) (owned : AreOwned m.ta
   owner_is u n i = owned u n (contains_from_in (names_of (slice_get heaps u)) n i)
 
   tested : (a : ℕ) (n : Name) → own n ≡ a → is_on_path m.tasks a t ≡ true → (a == t) ≡ false → test n ≡ true
-  tested a n e h ne = subst (λ b. is_above m.tasks b t ≡ true) (sym e) (and_from (is_on_path m.tasks a t) (not (a == t)) h (ap not ne))
+  tested a n e h ne = subst (λ b. is_proper_ancestor m.tasks b t ≡ true) (sym e) (and_from (is_on_path m.tasks a t) (not (a == t)) h (ap not ne))
 
   into_kept : (a : ℕ) (r : Name) → In (ancestors m.tasks t) a → (b : Bool) → (a == t) ≡ b → In (cond b [] (flat_map refs (names_of (slice_get heaps a)))) r → In (flat_map refs kept) r
   into_kept a r up true e i = absurd i
@@ -64,9 +64,9 @@ module _ (m : MachineState) (heaps : List Heap) (t : ℕ) (owned : AreOwned m.ta
       in_flat refs kept n r
       (in_kept test (held (accounts m heaps)) n (in_held (accounts m heaps) n (a, i')) (tested a n (owner_is a n i') (path_from_above (parents m.tasks) t a t up) e)) f.3
 
-  up_kept : (r : Name) → In (flat_map (refs_in m.store heaps t) (ancestors m.tasks t)) r → In (flat_map refs kept) r
+  up_kept : (r : Name) → In (flat_map (references_from_heaps m.store heaps t) (ancestors m.tasks t)) r → In (flat_map refs kept) r
   up_kept r i =
-      let f = flat_in (refs_in m.store heaps t) (ancestors m.tasks t) r i in
+      let f = flat_in (references_from_heaps m.store heaps t) (ancestors m.tasks t) r i in
       into_kept f.1 r (got_in (ancestors m.tasks t) f.0 f.1 f.2) (f.1 == t) refl f.3
 
   in_refs : (u : ℕ) (r n : Name) → In (names_of (slice_get heaps u)) n → In (refs n) r → (b : Bool) → b ≡ false → In (cond b [] (flat_map refs (names_of (slice_get heaps u)))) r
@@ -76,7 +76,7 @@ module _ (m : MachineState) (heaps : List Heap) (t : ℕ) (owned : AreOwned m.ta
   in_above : (u : ℕ) → is_on_path m.tasks u t ≡ true → (u == t) ≡ false → In (ancestors m.tasks t) u
   in_above u h ne = elim (above_from_path (parents m.tasks) t u t h) [ inl e ↦ absurd (false≢true (sym ne ∙ eq-eqb u t e)) | inr i ↦ i ]
 
-  from_kept : (r : Name) → In (flat_map refs kept) r → In (flat_map (refs_in m.store heaps t) (ancestors m.tasks t)) r
+  from_kept : (r : Name) → In (flat_map refs kept) r → In (flat_map (references_from_heaps m.store heaps t) (ancestors m.tasks t)) r
   from_kept r i =
       let f = flat_in refs kept r i in
       let n = f.1 in
@@ -84,10 +84,10 @@ module _ (m : MachineState) (heaps : List Heap) (t : ℕ) (owned : AreOwned m.ta
       let at = held_keeps (accounts m heaps) n k.0 in
       let u = at.0 in
       let o : own n ≡ u = owner_is u n at.1 in
-      let above : is_above m.tasks u t ≡ true = subst (λ b. is_above m.tasks b t ≡ true) o k.1 in
+      let above : is_proper_ancestor m.tasks u t ≡ true = subst (λ b. is_proper_ancestor m.tasks b t ≡ true) o k.1 in
       let both = and_parts (is_on_path m.tasks u t) (not (u == t)) above in
       let ne : (u == t) ≡ false = not-true (u == t) both.1 in
-      in_flat (refs_in m.store heaps t) (ancestors m.tasks t) u r (in_above u both.0 ne) (in_refs u r n at.1 f.3 (u == t) ne)
+      in_flat (references_from_heaps m.store heaps t) (ancestors m.tasks t) u r (in_above u both.0 ne) (in_refs u r n at.1 f.3 (u == t) ne)
 
-  pub above_same : (r : Name) → holds_name (flat_map (refs_in m.store heaps t) (ancestors m.tasks t)) r ≡ holds_name (flat_map refs kept) r
-  above_same = same_holds (flat_map (refs_in m.store heaps t) (ancestors m.tasks t)) (flat_map refs kept) up_kept from_kept
+  pub above_same : (r : Name) → holds_name (flat_map (references_from_heaps m.store heaps t) (ancestors m.tasks t)) r ≡ holds_name (flat_map refs kept) r
+  above_same = same_holds (flat_map (references_from_heaps m.store heaps t) (ancestors m.tasks t)) (flat_map refs kept) up_kept from_kept

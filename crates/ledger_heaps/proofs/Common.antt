@@ -2,7 +2,7 @@
 pub use Rattle.hh_model.proofs.Climbs.{path_here}
 pub use Rattle.hh_model.proofs.Lists.{set_got}
 pub use Rattle.hh_model.proofs.Tree.{or_and_false}
-pub use Rattle.hh_model.specs.Names.{refs_at, named, registers}
+pub use Rattle.hh_model.specs.Names.{refs_at, names_of_references, registers}
 pub use Rattle.hh_model.specs.Step.{owner_of, is_on_path, parents, path_by, through}
 pub use Rattle.hh_model.specs.declared.data.Frame.{Frame}
 pub use Rattle.hh_model.specs.declared.data.MachineState.{MachineState}
@@ -10,7 +10,7 @@ pub use Rattle.hh_model.specs.declared.data.Name.{Name}
 pub use Rattle.hh_model.specs.declared.data.Object.{Object}
 pub use Rattle.hh_model.specs.declared.data.Task.{Task}
 pub use Rattle.ledger_heaps.specs.Accounts.{accounts, AreOwned, since_at}
-pub use Rattle.ledger_heaps.specs.Search.{ancestors, ancestors_by, refs_in, Meets}
+pub use Rattle.ledger_heaps.specs.Search.{ancestors, ancestors_by, references_from_heaps, Meets}
 pub use Rattle.plain_vec.proofs.Members.{In, contains_from_in, in_flat, flat_in, in_kept, in_from_kept, got_in, got_other, in_from_contains, got_past}
 pub use Rattle.plain_vec.proofs.Options.{same_truth}
 pub use Rattle.plain_vec.specs.Members.{is_empty}
@@ -20,7 +20,7 @@ pub use Rattle.run_ledger.proofs.Members.{in_from_holds, holds_from_in, is_name_
 pub use Rattle.run_ledger.proofs.Reached.{length_kept, reached_root, reached_more, reached_is_walks}
 pub use Rattle.run_ledger.proofs.Sound.{in_held, held_keeps, names_of}
 pub use Rattle.run_ledger.proofs.Weights.{birth_weight, kept_weight, survivors_weight, weight_parts}
-pub use Rattle.run_ledger.specs.Heaps.{held, is_above, name_le, insert_name, by_birth, in_snapshot, is_last_empty, without_empty, emptied, heap_of, merged, or_fresh, with_heap_at, collected, large_survivors, small_survivors, units, units_sum, words_at, words_in, words_sum, chunk_words, lay, put_last, room_behind, held_in, laid_onto, small_in, roots_of}
+pub use Rattle.run_ledger.specs.Heaps.{held, is_proper_ancestor, name_le, insert_name, by_birth, in_snapshot, is_last_empty, without_empty, emptied, heap_of, merged, or_fresh, with_heap_at, collected, large_survivors, small_survivors, units, units_sum, words_at, words_in, words_sum, chunk_words, lay, put_last, room_behind, held_in, laid_onto, small_in, roots_of}
 pub use Rattle.run_ledger.specs.Reachable.{holds_name, is_name, reached, reached_by, StartsWithin, LeadsWithin}
 pub use Rattle.run_ledger.specs.Space.{last_words}
 pub use Rattle.run_ledger.specs.Steps.{join_heaps}

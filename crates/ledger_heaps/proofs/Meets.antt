@@ -1,5 +1,5 @@
 -- Names met one after another.
-use Rattle.ledger_heaps.proofs.Common.{◌≡◌, ℕ, ◌+◌, ◌<◌, Bool, true, false, ◌&&◌, ◌||◌, not, Option, Some, None, List, [], ◌∷◌, ◌++◌, length, take, get_or, refl, ap, sym, ◌∙◌, append-nil, append_assoc, cond, subst, arith, take_more, flat_map-append, or_and_false, same_from_is_name, flat_map, and-true, or_assoc, Name, Frame, named, registers, holds_name, is_name, Meets}
+use Rattle.ledger_heaps.proofs.Common.{◌≡◌, ℕ, ◌+◌, ◌<◌, Bool, true, false, ◌&&◌, ◌||◌, not, Option, Some, None, List, [], ◌∷◌, ◌++◌, length, take, get_or, refl, ap, sym, ◌∙◌, append-nil, append_assoc, cond, subst, arith, take_more, flat_map-append, or_and_false, same_from_is_name, flat_map, and-true, or_assoc, Name, Frame, names_of_references, registers, holds_name, is_name, Meets}
 
 pub holds_append : (ns ms : List Name) (n : Name) → holds_name (ns ++ ms) n ≡ holds_name ns n || holds_name ms n
 holds_append [] ms n = refl
@@ -37,14 +37,14 @@ meets_same ns ms u v w y e a = record {
   waiting = λ n. a.waiting n ∙ ap (λ t. holds_name w n || (u n && t)) (e n);
 }
 
-pub named_append : (xs ys : List (Option Name)) → named (xs ++ ys) ≡ named xs ++ named ys
+pub named_append : (xs ys : List (Option Name)) → names_of_references (xs ++ ys) ≡ names_of_references xs ++ names_of_references ys
 named_append [] ys = refl
 named_append (None ∷ xs) ys = named_append xs ys
 named_append (Some n ∷ xs) ys = ap (λ ns. n ∷ ns) (named_append xs ys)
 
 pub registers_append : (xs ys : List Frame) → registers (xs ++ ys) ≡ registers xs ++ registers ys
 registers_append [] ys = refl
-registers_append (f ∷ xs) ys = ap (λ ns. named f.refs ++ ns) (registers_append xs ys) ∙ sym (append_assoc (named f.refs) (registers xs) (registers ys))
+registers_append (f ∷ xs) ys = ap (λ ns. names_of_references f.refs ++ ns) (registers_append xs ys) ∙ sym (append_assoc (names_of_references f.refs) (registers xs) (registers ys))
 
 -- ONE NAME
 
@@ -81,11 +81,11 @@ more_met f g joins one xs i x d lt is u v t w y z a b =
     (sym (ap f (take_more xs i d lt) ∙ joins (take i xs) (get_or xs i d ∷ []) ∙ ap (λ ns. f (take i xs) ++ ns) (one (get_or xs i d) ∙ ap g (sym is))))
     (meets_both (f (take i xs)) (g x) u v t w y z a b)
 
-pub named_one : (r : Option Name) → named (r ∷ []) ≡ named (r ∷ [])
+pub named_one : (r : Option Name) → names_of_references (r ∷ []) ≡ names_of_references (r ∷ [])
 named_one r = refl
 
-pub registers_one : (f : Frame) → registers (f ∷ []) ≡ named f.refs
-registers_one f = append-nil (named f.refs)
+pub registers_one : (f : Frame) → registers (f ∷ []) ≡ names_of_references f.refs
+registers_one f = append-nil (names_of_references f.refs)
 
 pub flat_append : {A : Type 0} (f : A → List Name) (xs ys : List A) → flat_map f (xs ++ ys) ≡ flat_map f xs ++ flat_map f ys
 flat_append f xs ys = flat_map-append f xs ys

@@ -26,5 +26,5 @@ abbrev pub ancestors : List Task → ℕ → List ℕ
 ancestors tasks t = ancestors_by (parents tasks) t t
 
 -- what the held objects of a task's heap refer to; nothing for one task that is excluded
-abbrev pub refs_in : List (List Object) → List Heap → ℕ → ℕ → List Name
-refs_in store heaps but t = if t == but then [] else flat_map (refs_at store) (held_in (or_fresh (slice_get heaps t)))
+abbrev pub references_from_heaps : List (List Object) → List Heap → ℕ → ℕ → List Name
+references_from_heaps store heaps but t = if t == but then [] else flat_map (refs_at store) (held_in (or_fresh (slice_get heaps t)))

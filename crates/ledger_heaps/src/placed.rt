@@ -1,7 +1,7 @@
 // What an allocation and a join change of a heap's account.
 
 ghost use Rattle.std.specs.Prelude.{◌≡◌, ◌+◌, ◌<◌, ◌^◌, [], ◌∷◌, ◌++◌, OnOk, OnErr};
-ghost use Rattle.run_ledger.specs.Heaps.{placed, put_last};
+ghost use Rattle.run_ledger.specs.Heaps.{with_allocation, put_last};
 
 use crate::sizes::CHUNK_WORDS;
 use hh_model::Name;
@@ -13,7 +13,7 @@ use std::alloc::{AllocError, Global};
 /// chunk.
 pub fn place(alloc: Global, heap: &mut Heap, name: Name, words: usize) -> Result<(), AllocError>
     requires { heap.old.since + words < 2 ^ 64 }
-    ensures ok { OnOk result (heap.new ≡ placed heap.old name words) }
+    ensures ok { OnOk result (heap.new ≡ with_allocation heap.old name words) }
     ensures err { OnErr result (heap.new ≡ heap.old) }
 {
     if words <= CHUNK_WORDS {

@@ -7,9 +7,9 @@ ghost use Rattle.hh_model.specs.declared.data.Name.{Name};
 ghost use Rattle.hh_model.specs.Names.{refs_at, registers};
 ghost use Rattle.hh_model.specs.Step.{owner_of};
 ghost use Rattle.run_ledger.specs.Reachable.{holds_name, is_name};
-ghost use Rattle.run_ledger.specs.Heaps.{frames_of, held, held_in, heap_of, is_above, roots_of, within};
+ghost use Rattle.run_ledger.specs.Heaps.{frames_of, held, held_in, heap_of, is_proper_ancestor, roots_of, within};
 ghost use Rattle.ledger_heaps.specs.Accounts.{accounts, AreOwned};
-ghost use Rattle.ledger_heaps.specs.Search.{ancestors, refs_in, Meets};
+ghost use Rattle.ledger_heaps.specs.Search.{ancestors, references_from_heaps, Meets};
 
 use crate::names::table_of_heap;
 use crate::search::Search;
@@ -100,7 +100,7 @@ fn meet_above(
     t: u32,
 ) -> Result<(), AllocError>
     requires { AreOwned machine.now.tasks heaps.now }
-    ensures { OnOk result (Meets (flat_map (refs_at machine.now.store) (filter (λ n. is_above machine.now.tasks (owner_of machine.now.tasks n.task) t) (held (accounts machine.now heaps.now)))) (contains is_name search.old.unmet) (contains is_name search.new.unmet) search.old.waiting search.new.waiting) }
+    ensures { OnOk result (Meets (flat_map (refs_at machine.now.store) (filter (λ n. is_proper_ancestor machine.now.tasks (owner_of machine.now.tasks n.task) t) (held (accounts machine.now heaps.now)))) (contains is_name search.old.unmet) (contains is_name search.new.unmet) search.old.waiting search.new.waiting) }
 {
     let above = ancestors(alloc, machine, t)?;
     follow_heaps(search, machine, heaps, above.as_slice(), t)?;
@@ -131,7 +131,7 @@ fn follow_heaps(
     tasks: &[u32],
     but: u32,
 ) -> Result<(), AllocError>
-    ensures { OnOk result (Meets (flat_map (refs_in machine.now.store heaps.now but) tasks.now) (contains is_name search.old.unmet) (contains is_name search.new.unmet) search.old.waiting search.new.waiting) }
+    ensures { OnOk result (Meets (flat_map (references_from_heaps machine.now.store heaps.now but) tasks.now) (contains is_name search.old.unmet) (contains is_name search.new.unmet) search.old.waiting search.new.waiting) }
 {
     for task in tasks {
         follow_heap(search, machine, heaps, *task, but)?;
@@ -147,7 +147,7 @@ fn follow_heap(
     task: u32,
     but: u32,
 ) -> Result<(), AllocError>
-    ensures { OnOk result (Meets (refs_in machine.now.store heaps.now but task) (contains is_name search.old.unmet) (contains is_name search.new.unmet) search.old.waiting search.new.waiting) }
+    ensures { OnOk result (Meets (references_from_heaps machine.now.store heaps.now but task) (contains is_name search.old.unmet) (contains is_name search.new.unmet) search.old.waiting search.new.waiting) }
 {
     if task == but {
         return Ok(());

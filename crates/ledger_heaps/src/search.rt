@@ -3,7 +3,7 @@
 ghost use Rattle.std.specs.Prelude.{◌≡◌, ◌+◌, [], ◌∷◌, OnOk, length};
 ghost use Rattle.std.specs.List.{flat_map};
 ghost use Rattle.std.specs.HashSet.{contains, hash_set_len};
-ghost use Rattle.hh_model.specs.Names.{named, refs_at, registers};
+ghost use Rattle.hh_model.specs.Names.{names_of_references, refs_at, registers};
 ghost use Rattle.run_ledger.specs.Reachable.{is_name};
 ghost use Rattle.run_ledger.specs.Heaps.{held_in};
 ghost use Rattle.ledger_heaps.specs.Search.{Meets};
@@ -38,7 +38,7 @@ impl Search {
 
     // Meets the name in a reference, unless it is nil.
     fn meet_reference(&mut self, reference: Option<Name>) -> Result<(), AllocError>
-        ensures met { OnOk result (Meets (named (reference ∷ [])) (contains is_name self.old.unmet) (contains is_name self.new.unmet) self.old.waiting self.new.waiting) }
+        ensures met { OnOk result (Meets (names_of_references (reference ∷ [])) (contains is_name self.old.unmet) (contains is_name self.new.unmet) self.old.waiting self.new.waiting) }
         ensures left { OnOk result (hash_set_len self.new.unmet + length self.new.waiting ≡ hash_set_len self.old.unmet + length self.old.waiting) }
     {
         match reference {
@@ -49,7 +49,7 @@ impl Search {
 
     /// Meets the names in some references.
     pub(crate) fn meet_references(&mut self, refs: &[Option<Name>]) -> Result<(), AllocError>
-        ensures met { OnOk result (Meets (named refs.now) (contains is_name self.old.unmet) (contains is_name self.new.unmet) self.old.waiting self.new.waiting) }
+        ensures met { OnOk result (Meets (names_of_references refs.now) (contains is_name self.old.unmet) (contains is_name self.new.unmet) self.old.waiting self.new.waiting) }
         ensures left { OnOk result (hash_set_len self.new.unmet + length self.new.waiting ≡ hash_set_len self.old.unmet + length self.old.waiting) }
     {
         for reference in refs {

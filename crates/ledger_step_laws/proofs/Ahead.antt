@@ -1,5 +1,5 @@
 -- Private steps of a task change only what it owns, and depend only on the machine and the account of its heap.
-use Rattle.ledger_step_laws.proofs.Common.{is_some, ◌≡◌, ℕ, zero, suc, ◌+◌, Bool, true, false, cond, Option, Some, None, List, [], ◌∷◌, ◌++◌, length, slice_get, slice_set, inl, inr, refl, ap, ap₂, sym, subst, ◌∙◌, nat_le, false≢true, cases_eq, cond-true, cond-false, got_same, got_other, same_view, view_step, none_set, ProgramText, SettingsValue, Name, Object, Running, Task, MachineState, object_at, put_object, row_of, step, can_step, is_running, is_waiting, is_joined, is_over, waits, path_in, owner_of, owner_in, parents, joined, parent_of, asked, runs_is, can_runs, owner_here, Heap, Ledger, or_fresh, with_heap, with_heap_at, placed, let_go, lacks_room, allocated_by, allocated_in, moved_on, moved_to, settled, stepped_to, task_step, task_steps, on_asked, is_private, is_due, is_in_need, task_step_machine, heap_machine, SoundLedger, SoundAt, task_step_sound, can_going, put_rows, own, rested, ArePrivate, StepsAlone}
+use Rattle.ledger_step_laws.proofs.Common.{is_some, ◌≡◌, ℕ, zero, suc, ◌+◌, Bool, true, false, cond, Option, Some, None, List, [], ◌∷◌, ◌++◌, length, slice_get, slice_set, inl, inr, refl, ap, ap₂, sym, subst, ◌∙◌, nat_le, false≢true, cases_eq, cond-true, cond-false, got_same, got_other, same_view, view_step, none_set, ProgramText, SettingsValue, Name, Object, Running, Task, MachineState, object_at, put_object, row_of, step, can_step, is_running, is_waiting, is_joined, is_over, waits, path_in, owner_of, owner_in, parents, joined, parent_of, asked, runs_is, can_runs, owner_here, Heap, Ledger, or_fresh, with_heap, with_heap_at, with_allocation, let_go, lacks_room, allocated_by, allocated_in, moved_on, moved_to, settled, stepped_to, task_step, task_steps, on_asked, is_private, is_due, is_in_need, task_step_machine, heap_machine, SoundLedger, SoundAt, task_step_sound, can_going, put_rows, own, rested, ArePrivate, StepsAlone}
 use Rattle.ledger_step_laws.proofs.Private.{GoesOn, StoreBy, private_on}
 use Rattle.ledger_step_laws.proofs.Alone.{alone_along, machine_alone}
 
@@ -52,7 +52,7 @@ pub record SameOf (t : ℕ) (l l' : Ledger) : Type 0 where
 alloc_same : (l l' : Ledger) (t : ℕ) → SameOf t l l' → (o : Option ℕ) → slice_get (allocated_by l' t o).heaps t ≡ slice_get (allocated_by l t o).heaps t
 alloc_same l l' t E None = E.heap
 alloc_same l l' t E (Some w) =
-    with_at l' t _ ∙ (ap₂ (λ (m : MachineState) h. heap_then (λ z. placed z (record { task = t; count = length (row_of (slice_get m.store t)) }) w) h) E.machine E.heap ∙ sym (with_at l t _))
+    with_at l' t _ ∙ (ap₂ (λ (m : MachineState) h. heap_then (λ z. with_allocation z (record { task = t; count = length (row_of (slice_get m.store t)) }) w) h) E.machine E.heap ∙ sym (with_at l t _))
 
 -- ONE STEP
 

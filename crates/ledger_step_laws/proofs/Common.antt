@@ -58,7 +58,7 @@ pub use Rattle.run_ledger.proofs.Space.{legal_booked}
 pub use Rattle.run_ledger.proofs.Steps.{SoundAt, task_step_sound, step_leaves, steps_last, task_steps_sound}
 pub use Rattle.run_ledger.proofs.Stocks.{legal_stocked}
 pub use Rattle.run_ledger.specs.Entries.{refusal, kind_refusal, after, is_out, long_at}
-pub use Rattle.run_ledger.specs.Heaps.{or_fresh, with_heap, with_heap_at, placed, let_go, lacks_room, heap_of, held, held_in, roots_of, frames_of, is_above, fresh, within, swept_heap, collected, forked_heap, merged, emptied, words_at, words_sum, chunk_words, room_behind}
+pub use Rattle.run_ledger.specs.Heaps.{or_fresh, with_heap, with_heap_at, with_allocation, let_go, lacks_room, heap_of, held, held_in, roots_of, frames_of, is_proper_ancestor, fresh, within, swept_heap, collected, forked_heap, merged, emptied, words_at, words_sum, chunk_words, room_behind}
 pub use Rattle.run_ledger.specs.Journals.{ledger_of, is_legal, tasks_of}
 pub use Rattle.run_ledger.specs.Reachable.{once_more, reached_by, reached}
 pub use Rattle.run_ledger.specs.Sound.{SoundLedger, collecting}

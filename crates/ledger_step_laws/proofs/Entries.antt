@@ -1,5 +1,5 @@
 -- The changes of the accounts are those of the ledger's definitions.
-use Rattle.ledger_step_laws.proofs.Common.{◌≡◌, ℕ, ℤ, zero, suc, ◌+◌, ◌<◌, ◌≤◌, ◌==◌, ◌||◌, arith, true, false, Option, Some, None, List, [], ◌∷◌, ◌++◌, length, length-append, slice_get, slice_set, map, filter, unwrap_or, Bool, not, ◌&&◌, ◌⊎◌, inl, inr, refl, ap, ap₂, sym, subst, ◌∙◌, or-false, cases_eq, cases_lt, eqb-true, or_cases, fun_ext, got_front, got_back, got_past, got_within, got_none, Name, Object, Edge, Running, Waiting, Task, MachineState, object_at, row_of, onward, is_joined, is_over, waits, is_left, is_on_path, path_in, path_by, through, owner_of, owner_in, parents, joined, parent_of, child, joined_task, resumed, join_of, AreLow, path_child, path_same, owner_same, owner_joins, grown_at, grown_left, grown_right, grown_other, grown_past, grown_view, grown_view_front, three_top, three_left, three_right, three_other, three_view, drest, parr, owner_here, Heap, Ledger, heap_of, or_fresh, with_heap, with_heap_at, let_go, held, held_in, roots_of, frames_of, is_above, fresh, within, swept_heap, collected, forked_heap, merged, emptied, flat_map, same_Some, refs_at, refs_of, registers, once_more, reached_by, reached, at_fork, join_heaps, SoundLedger, once_by, heap_machine, heap_view, rested, ChangesHeap, WorkerTakes, SameTasks, ForksTask, JoinsTasks}
+use Rattle.ledger_step_laws.proofs.Common.{◌≡◌, ℕ, ℤ, zero, suc, ◌+◌, ◌<◌, ◌≤◌, ◌==◌, ◌||◌, arith, true, false, Option, Some, None, List, [], ◌∷◌, ◌++◌, length, length-append, slice_get, slice_set, map, filter, unwrap_or, Bool, not, ◌&&◌, ◌⊎◌, inl, inr, refl, ap, ap₂, sym, subst, ◌∙◌, or-false, cases_eq, cases_lt, eqb-true, or_cases, fun_ext, got_front, got_back, got_past, got_within, got_none, Name, Object, Edge, Running, Waiting, Task, MachineState, object_at, row_of, onward, is_joined, is_over, waits, is_left, is_on_path, path_in, path_by, through, owner_of, owner_in, parents, joined, parent_of, child, joined_task, resumed, join_of, AreLow, path_child, path_same, owner_same, owner_joins, grown_at, grown_left, grown_right, grown_other, grown_past, grown_view, grown_view_front, three_top, three_left, three_right, three_other, three_view, drest, parr, owner_here, Heap, Ledger, heap_of, or_fresh, with_heap, with_heap_at, let_go, held, held_in, roots_of, frames_of, is_proper_ancestor, fresh, within, swept_heap, collected, forked_heap, merged, emptied, flat_map, same_Some, refs_at, refs_of, registers, once_more, reached_by, reached, at_fork, join_heaps, SoundLedger, once_by, heap_machine, heap_view, rested, ChangesHeap, WorkerTakes, SameTasks, ForksTask, JoinsTasks}
 use Rattle.ledger_step_laws.proofs.Ahead.{with_at, with_off, heap_then}
 
 -- ONE HEAP
@@ -79,7 +79,7 @@ within_rested l t u = within_rested_by_cases (rested l t) (heap_machine l t let_
     within_rested_by_cases : (k : Ledger) → k.machine ≡ l.machine → map held_in k.heaps ≡ map held_in l.heaps → within k u ≡ within l u
     within_rested_by_cases k m hs =
         within_by l k u (λ n. ap (λ (z : MachineState). refs_at z.store n) m) (within_rested_at k.heaps u ∙ (ap (λ ns. unwrap_or (slice_get ns u) []) hs ∙ sym (within_rested_at l.heaps u)))
-        (ap₂ (λ (z : MachineState) ns. registers (frames_of (slice_get z.tasks u)) ++ flat_map (refs_at z.store) (filter (λ n. is_above z.tasks (owner_of z.tasks n.task) u) ns)) m (flat k.heaps ∙ (ap (flat_map (λ ns. ns)) hs ∙ sym (flat l.heaps))))
+        (ap₂ (λ (z : MachineState) ns. registers (frames_of (slice_get z.tasks u)) ++ flat_map (refs_at z.store) (filter (λ n. is_proper_ancestor z.tasks (owner_of z.tasks n.task) u) ns)) m (flat k.heaps ∙ (ap (flat_map (λ ns. ns)) hs ∙ sym (flat l.heaps))))
 
 -- A FORK
 
@@ -176,8 +176,8 @@ module _ (l : Ledger) (t : ℕ) (x : Task) (g h n : ℕ) (edges : List Edge) (is
         refs : (k : Name) → refs_at after.machine.store k ≡ refs_at l.machine.store k
         refs k = ap refs_of (ap (λ r. slice_get r k.count) (row_two l.machine.store k.task))
 
-        above : (k : Name) → is_above all (owner_of all k.task) t ≡ is_above tasks (owner_of tasks k.task) t
-        above k = ap (λ z. is_above all z t) (own_all k.task) ∙ ap (λ b. b && not (owner_of tasks k.task == t)) (path_all (owner_of tasks k.task) t (λ q. omega (arith, lt, q)) (λ q. omega (arith, lt, q)))
+        above : (k : Name) → is_proper_ancestor all (owner_of all k.task) t ≡ is_proper_ancestor tasks (owner_of tasks k.task) t
+        above k = ap (λ z. is_proper_ancestor all z t) (own_all k.task) ∙ ap (λ b. b && not (owner_of tasks k.task == t)) (path_all (owner_of tasks k.task) t (λ q. omega (arith, lt, q)) (λ q. omega (arith, lt, q)))
 
         roots : roots_of after t ≡ roots_of l t
         roots =

@@ -1,5 +1,5 @@
 -- An accepted entry of steps consists of private steps and one more of a known kind.
-use Rattle.ledger_step_laws.proofs.Common.{◌≡◌, ℕ, zero, suc, ◌+◌, ◌≤◌, ◌||◌, min, nat_le, arith, Bool, true, false, cond, Option, Some, None, List, ◌++◌, length, slice_get, replicate, inl, inr, refl, ap, sym, subst, ◌∙◌, is_none, false≢true, both_ways, and_parts, cond-true, leb-true, min-le_right, Line, ProgramText, IsProgram, Ran, EntryValue, SettingsValue, field_limit, Name, Task, MachineState, row_of, step, can_step, goes_on, is_running, fetched, run, run_from, asked, always_next, runs_is, step_cases, Heap, Ledger, heap_of, let_go, or_fresh, placed, task_step, task_steps, standing, is_due, is_in_need, is_private, most_steps, stepped_to, allocated_in, allocated_by, refusal, kind_refusal, after, is_out, long_at, option_is, ledger_of, is_legal, tasks_of, machine_goes_on, task_steps_booked, none_unless, out_tells, entry_tells, entry_sound, accepted_on, legal_booked, legal_stocked, tasks_are_out_once, placed_worker, machine_is_run, kind_machine, task_step_machine, heap_machine, step_leaves, steps_last, task_steps_sound, collecting, held_is, run_root, run_on, can_going, ArePrivate, rested, StepsAlone, Knows, Leaves, GoesOn, IsApart, IdleRest, OnlyAskersReserve, TaskIsAt, IsOfKind, LastKind, Splits, RunsPrivateSteps}
+use Rattle.ledger_step_laws.proofs.Common.{◌≡◌, ℕ, zero, suc, ◌+◌, ◌≤◌, ◌||◌, min, nat_le, arith, Bool, true, false, cond, Option, Some, None, List, ◌++◌, length, slice_get, replicate, inl, inr, refl, ap, sym, subst, ◌∙◌, is_none, false≢true, both_ways, and_parts, cond-true, leb-true, min-le_right, Line, ProgramText, IsProgram, Ran, EntryValue, SettingsValue, field_limit, Name, Task, MachineState, row_of, step, can_step, goes_on, is_running, fetched, run, run_from, asked, always_next, runs_is, step_cases, Heap, Ledger, heap_of, let_go, or_fresh, with_allocation, task_step, task_steps, standing, is_due, is_in_need, is_private, most_steps, stepped_to, allocated_in, allocated_by, refusal, kind_refusal, after, is_out, long_at, option_is, ledger_of, is_legal, tasks_of, machine_goes_on, task_steps_booked, none_unless, out_tells, entry_tells, entry_sound, accepted_on, legal_booked, legal_stocked, tasks_are_out_once, placed_worker, machine_is_run, kind_machine, task_step_machine, heap_machine, step_leaves, steps_last, task_steps_sound, collecting, held_is, run_root, run_on, can_going, ArePrivate, rested, StepsAlone, Knows, Leaves, GoesOn, IsApart, IdleRest, OnlyAskersReserve, TaskIsAt, IsOfKind, LastKind, Splits, RunsPrivateSteps}
 use Rattle.ledger_step_laws.proofs.Ahead.{heap_after, with_at, with_off, heap_then, steps_alone_all}
 use Rattle.ledger_step_laws.proofs.Along.{step_knows, steps_know}
 use Rattle.ledger_step_laws.proofs.Commute.{alike_self, goes_running, goes_can}
@@ -45,9 +45,9 @@ module _ (p : ProgramText) (s : SettingsValue) (t : ℕ) where
       worker_step_by_cases true None = refl
       worker_step_by_cases true (Some w) =
           let n : Name = record { task = t; count = length (row_of (slice_get l.machine.store t)) } in
-          ap (λ o. (or_fresh o).worker) (with_at l t (λ z. placed z n w)) ∙ heap (slice_get l.heaps t) n w
+          ap (λ o. (or_fresh o).worker) (with_at l t (λ z. with_allocation z n w)) ∙ heap (slice_get l.heaps t) n w
         where
-          heap : (o : Option Heap) (n : Name) (w : ℕ) → (or_fresh (heap_then (λ z. placed z n w) o)).worker ≡ (or_fresh o).worker
+          heap : (o : Option Heap) (n : Name) (w : ℕ) → (or_fresh (heap_then (λ z. with_allocation z n w) o)).worker ≡ (or_fresh o).worker
           heap None n w = refl
           heap (Some z) n w = placed_worker z n w
 

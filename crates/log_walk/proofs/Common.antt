@@ -14,7 +14,7 @@ pub use Rattle.fork_graph.specs.declared.graph.GraphTurn.{GraphTurn}
 pub use Rattle.fork_graph.specs.declared.graph.GraphTurn.TheVariants.{Spawn, Join}
 pub use Rattle.jump_pointers.proofs.Lists.{IsWithin, link_more}
 pub use Rattle.jump_pointers.proofs.Walks.{first_link}
-pub use Rattle.jump_pointers.specs.Lists.{up_from, depth_at, far_at, parent_in, new_link, AreLinks}
+pub use Rattle.jump_pointers.specs.Lists.{up_from, depth_at, far_at, parent_of_link, new_link, AreLinks}
 pub use Rattle.jump_pointers.specs.Walk.{ancestor}
 pub use Rattle.jump_pointers.specs.declared.links.Link.{Link}
 pub use Rattle.log_walk.specs.Meetings.{IsDepthAt, IsExitAt}

@@ -1,5 +1,5 @@
 -- Between the functions of a made text: the names above, and the number of instructions.
-use Rattle.made_program_laws.proofs.Common.{◌≡◌, ◌≤◌, ◌<◌, ◌+◌, ◌*◌, ◌++◌, ℕ, zero, suc, Bool, true, false, List, [], ◌∷◌, length, arith, refl, ap, ◌∙◌, append_assoc, nat_lt, ◌||◌, Some, codes, list_all, bytes_eq, lt-ltb, lines_of, spaced, words_spaced, value_after, NotedName, noted_name_of, is_noted, is_name, noted, only_name, operands_of, begun_above, is_inside, noted_if, no_names, operands_of_line, orders_above, outline_above, outline_line, outline_of, outline_onto, turned, begins_none, new_entry, none_begin}
+use Rattle.made_program_laws.proofs.Common.{◌≡◌, ◌≤◌, ◌<◌, ◌+◌, ◌*◌, ◌++◌, ℕ, zero, suc, Bool, true, false, List, [], ◌∷◌, length, arith, refl, ap, ◌∙◌, append_assoc, nat_lt, ◌||◌, Some, codes, list_all, bytes_eq, lt-ltb, lines_of, spaced, words_spaced, value_after, NotedName, noted_name_of, is_noted, is_name, with_name, only_name, operands_of, begun_above, is_inside, noted_if, no_names, operands_of_line, orders_above, outline_above, outline_line, outline_of, outline_onto, turned, begins_none, new_entry, none_begin}
 use Rattle.made_program_laws.proofs.Names.{among_more, is_a_name, name_of, not_main, noted_more}
 use Rattle.made_program_laws.proofs.Rows.{Lines, begin_words, body_rows, function_rows, main_rows, proper_begin, rows_of}
 
@@ -88,7 +88,7 @@ outline_so_far seed size (suc k) rest =
     ∙ onto_above (function_rows size k (value_after seed k)) (above_of seed size k) rest
 
 -- main is noted after all functions
-main_named : (above : Lines) → (outline_onto (length above + 1) (outline_above above) main_rows).functions ≡ noted (outline_above above).functions (codes "main") (length above + 1)
+main_named : (above : Lines) → (outline_onto (length above + 1) (outline_above above) main_rows).functions ≡ with_name (outline_above above).functions (codes "main") (length above + 1)
 main_named above = refl
 
 -- these are the names of the functions of a whole text
@@ -96,7 +96,7 @@ pub record Named (size : ℕ) (names : List NotedName) : Type 0 where
   pub functions : (j : ℕ) → j < size → is_noted names (name_of j) ≡ true
   pub main : is_noted names (codes "main") ≡ true
 
-names_all : (size : ℕ) (all es : List NotedName) (number : ℕ) → size ≤ 1000 → ((j : ℕ) → j < 1000 → is_noted es (name_of j) ≡ nat_lt j size) → is_noted es (codes "main") ≡ false → all ≡ noted es (codes "main") number → Named size all
+names_all : (size : ℕ) (all es : List NotedName) (number : ℕ) → size ≤ 1000 → ((j : ℕ) → j < 1000 → is_noted es (name_of j) ≡ nat_lt j size) → is_noted es (codes "main") ≡ false → all ≡ with_name es (codes "main") number → Named size all
 names_all size all es number le names main e =
     let is : all ≡ es ++ noted_name_of (codes "main") number ∷ [] = e ∙ new_entry es (codes "main") number main in
     record {

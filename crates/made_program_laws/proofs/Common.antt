@@ -7,10 +7,10 @@ pub use Rattle.program_make.specs.Draws.{value_after, amount, garbage, rounds}
 pub use Rattle.program_make.specs.Text.{side, made_text, main_text, children_lines, first_functions, first_lines, function_text, last_lines, numbered, par_line}
 pub use Rattle.program_reader.proofs.Passing.{begins_none, new_entry, none_begin, Within, begin_free, end_free, has_place, is_instr, is_order, is_read, label_passes, not_last, orders_pass, passes, blank_free}
 pub use Rattle.program_reader.specs.Around.{begun_above, is_inside, noted_if, no_names, operands_of_line, orders_above, outline_above, outline_line, outline_of, outline_onto, head_of_line}
-pub use Rattle.program_reader.specs.Fault.{fault_from, spot_of, first_fault}
+pub use Rattle.program_reader.specs.Fault.{first_fault_from, spot_of, first_fault}
 pub use Rattle.program_reader.specs.Head.{operands_of}
 pub use Rattle.program_reader.specs.Laws.{turned}
-pub use Rattle.program_reader.specs.Names.{NotedName, noted_name_of, is_noted, is_name, noted, place_of, is_name_byte}
+pub use Rattle.program_reader.specs.Names.{NotedName, noted_name_of, is_noted, is_name, with_name, name_index, is_name_byte}
 pub use Rattle.program_reader.specs.Operands.{int_register}
 pub use Rattle.program_reader.specs.Program.{program_of, unless_refused}
 pub use Rattle.program_reader.specs.Sense.{only_name, fork, plain, sense_of, two, call}

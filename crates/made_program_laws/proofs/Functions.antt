@@ -1,5 +1,5 @@
 -- The lines of each function of a made text, and of main, have no fault.
-use Rattle.made_program_laws.proofs.Common.{◌≡◌, ◌≤◌, ◌<◌, ◌+◌, ◌*◌, ◌++◌, ℕ, zero, suc, Bool, true, false, List, [], ◌∷◌, length, arith, refl, ap, ◌∙◌, append_assoc, nat_lt, ◌&&◌, Option, Some, codes, nat_le, pos, ℤ, decimal, is_utf8, AllByRecursion, list_all, All-from_recursion, is_utf8-from_IsUtf8, IsUtf8-from_ascii, IsAscii-from_all, and_parts, ltb-true, and_from, is_last, signed_number, spaced, AreProper, words_spaced, spaced_utf8, amount, garbage, rounds, value_after, side, NotedName, noted_name_of, is_name, is_noted, place_of, int_register, fork, plain, sense_of, two, operands_of, head_of_line, operands_of_line, orders_above, outline_of, fault_from, spot_of, turned, Within, begin_free, end_free, has_place, is_instr, is_order, is_read, label_passes, not_last, orders_pass, passes, amount_small, garbage_small, rounds_small, side_small}
+use Rattle.made_program_laws.proofs.Common.{◌≡◌, ◌≤◌, ◌<◌, ◌+◌, ◌*◌, ◌++◌, ℕ, zero, suc, Bool, true, false, List, [], ◌∷◌, length, arith, refl, ap, ◌∙◌, append_assoc, nat_lt, ◌&&◌, Option, Some, codes, nat_le, pos, ℤ, decimal, is_utf8, AllByRecursion, list_all, All-from_recursion, is_utf8-from_IsUtf8, IsUtf8-from_ascii, IsAscii-from_all, and_parts, ltb-true, and_from, is_last, signed_number, spaced, AreProper, words_spaced, spaced_utf8, amount, garbage, rounds, value_after, side, NotedName, noted_name_of, is_name, is_noted, name_index, int_register, fork, plain, sense_of, two, operands_of, head_of_line, operands_of_line, orders_above, outline_of, first_fault_from, spot_of, turned, Within, begin_free, end_free, has_place, is_instr, is_order, is_read, label_passes, not_last, orders_pass, passes, amount_small, garbage_small, rounds_small, side_small}
 use Rattle.hh_lang.specs.declared.instr.Instr.TheVariants as does
 use Rattle.made_program_laws.proofs.Names.{is_a_name, name_of, number_again}
 use Rattle.made_program_laws.proofs.Rows.{Lines, after_rows, before_rows, begin_words, body_rows, cell_rows, children_rows, first_rows, function_by, function_rows, i3, i4, i5, i7, loop_rows, par_words, proper_begin, proper_par, proper_set, result_rows, rows_of, set_words, sum_rows}
@@ -32,7 +32,7 @@ set_reads_i7 text labels n lt = reads text labels (set_words (codes "i7") n) (pr
 set_reads_i4 : (text : List ℕ) (labels : List NotedName) (n : ℕ) → n < 1000 → is_read (outline_of text) labels (spaced (set_words (codes "i4") n)) ≡ true
 set_reads_i4 text labels n lt = reads text labels (set_words (codes "i4") n) (proper_set (codes "i4") n i4 lt) refl (sets (int_register (codes "i4")) (signed_number (decimal n)) 4 refl (pos n) (number_again n lt))
 
-forks : (text : List ℕ) (a b : List ℕ) (f g : ℕ) → is_name a ≡ true → is_name b ≡ true → place_of (outline_of text).functions a ≡ Some f → place_of (outline_of text).functions b ≡ Some g → is_instr (fork (outline_of text) a b) ≡ true
+forks : (text : List ℕ) (a b : List ℕ) (f g : ℕ) → is_name a ≡ true → is_name b ≡ true → name_index (outline_of text).functions a ≡ Some f → name_index (outline_of text).functions b ≡ Some g → is_instr (fork (outline_of text) a b) ≡ true
 forks text a b f g na nb ea eb = rw (na, nb, ea, eb) refl
 
 par_reads : (text : List ℕ) (labels : List NotedName) (left right : ℕ) → left < 1000 → right < 1000 → is_noted (outline_of text).functions (name_of left) ≡ true → is_noted (outline_of text).functions (name_of right) ≡ true → is_read (outline_of text) labels (spaced (par_words left right)) ≡ true
@@ -134,7 +134,7 @@ module _ (text : List ℕ) (a b : ℕ) (above before after rest : Lines) (begun 
 
   body_passes : list_all (is_read (outline_of text) (two_labels a b)) before ≡ true → list_all (is_read (outline_of text) (two_labels a b)) after ≡ true
       → Within (two_labels a b) [] open_at (before ++ from_first) → orders_above open_at + length before + 5 + length after ≤ 65536 → is_last rest ≡ false
-      → fault_from (outline_of text) open_at (before ++ from_first) ≡ fault_from (outline_of text) (codes "end" ∷ at_end) rest
+      → first_fault_from (outline_of text) open_at (before ++ from_first) ≡ first_fault_from (outline_of text) (codes "end" ∷ at_end) rest
   body_passes read_before read_after w few last =
       let one = orders_pass (outline_of text) (two_labels a b) [] before open_at from_first (orders_above open_at + length before) read_before w (omega arith) (omega (arith, few)) refl in
       let first = label_passes (outline_of text) (two_labels a b) [] (codes "a") (turned open_at before) (codes "lab a") (loop_rows ++ from_second) (ascii_utf8 (codes "lab a") refl) refl refl one.within refl refl in
@@ -149,7 +149,7 @@ begin_count : (k : ℕ) → k < 1000 → nat_le 1024 k ≡ false
 begin_count k lt = grind (arith, lt)
 
 -- the line that begins it
-begin_passes : (text : List ℕ) (k : ℕ) (above rest : Lines) → k < 1000 → Between k above → is_last rest ≡ false → fault_from (outline_of text) above (spaced (begin_words k) ∷ rest) ≡ fault_from (outline_of text) (spaced (begin_words k) ∷ above) rest
+begin_passes : (text : List ℕ) (k : ℕ) (above rest : Lines) → k < 1000 → Between k above → is_last rest ≡ false → first_fault_from (outline_of text) above (spaced (begin_words k) ∷ rest) ≡ first_fault_from (outline_of text) (spaced (begin_words k) ∷ above) rest
 begin_passes text k above rest lt b last =
     passes (outline_of text) above (spaced (begin_words k)) rest
     (begin_free (outline_of text) (spot_of above (spaced (begin_words k)) rest) (spaced (begin_words k)) (spaced_utf8 (begin_words k) (proper_begin k lt)) (name_of k) refl (begun_name_is k lt) b.outside last
@@ -159,7 +159,7 @@ begin_passes text k above rest lt b last =
     none n = grind arith
 
 function_passes : (has : Bool) (text : List ℕ) (size k x : ℕ) (above rest : Lines) → nat_lt (2 * k + 2) size ≡ has → k < size → size ≤ 1000 → Named size (outline_of text).functions → Between k above → is_last rest ≡ false
-    → fault_from (outline_of text) above (function_by has k x ++ rest) ≡ fault_from (outline_of text) (turned above (function_by has k x)) rest
+    → first_fault_from (outline_of text) above (function_by has k x ++ rest) ≡ first_fault_from (outline_of text) (turned above (function_by has k x)) rest
 function_passes true text size k x above rest e lt le named b last =
     let small : k < 1000 = omega (arith, lt, le) in
     let before : length (before_rows true k (amount x) (garbage x) (rounds x)) ≡ 20 = refl in
@@ -183,9 +183,9 @@ function_passes false text size k x above rest e lt le named b last =
     (record { inside = refl; known = refl; behind = refl })
     (omega (arith, none, b.orders, small, before, behind)) last
 
-pub functions_pass : (text : List ℕ) (seed size k : ℕ) (rest : Lines) → k ≤ size → size ≤ 1000 → Named size (outline_of text).functions → is_last rest ≡ false → fault_from (outline_of text) [] (rows_of seed size k ++ rest) ≡ fault_from (outline_of text) (above_of seed size k) rest
+pub functions_pass : (text : List ℕ) (seed size k : ℕ) (rest : Lines) → k ≤ size → size ≤ 1000 → Named size (outline_of text).functions → is_last rest ≡ false → first_fault_from (outline_of text) [] (rows_of seed size k ++ rest) ≡ first_fault_from (outline_of text) (above_of seed size k) rest
 functions_pass text seed size zero rest le ls named last = refl
 functions_pass text seed size (suc k) rest le ls named last =
-    ap (fault_from (outline_of text) []) (append_assoc (rows_of seed size k) (function_rows size k (value_after seed k)) rest)
+    ap (first_fault_from (outline_of text) []) (append_assoc (rows_of seed size k) (function_rows size k (value_after seed k)) rest)
     ∙ functions_pass text seed size k (function_rows size k (value_after seed k) ++ rest) (omega (arith, le)) ls named (not_last (function_rows size k (value_after seed k)) rest last)
     ∙ function_passes (nat_lt (2 * k + 2) size) text size k (value_after seed k) (above_of seed size k) rest refl (omega (arith, le)) ls named (between seed size k (omega (arith, le, ls))) last

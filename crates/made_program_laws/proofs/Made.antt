@@ -1,5 +1,5 @@
 -- Made texts are programs.
-use Rattle.made_program_laws.proofs.Common.{◌≡◌, ◌≤◌, ◌+◌, ◌++◌, ℕ, true, false, List, [], ◌∷◌, length, arith, refl, ap, sym, ◌∙◌, Some, None, codes, nat_le, list_all, is_utf8, decimal_digit, lines_of, made_text, main_text, NotedName, is_noted, place_of, call, orders_above, outline_of, fault_from, first_fault, spot_of, turned, program_of, unless_refused, begin_free, blank_free, end_free, has_place, is_instr, is_read, orders_pass, passes, MadeArePrograms}
+use Rattle.made_program_laws.proofs.Common.{◌≡◌, ◌≤◌, ◌+◌, ◌++◌, ℕ, true, false, List, [], ◌∷◌, length, arith, refl, ap, sym, ◌∙◌, Some, None, codes, nat_le, list_all, is_utf8, decimal_digit, lines_of, made_text, main_text, NotedName, is_noted, name_index, call, orders_above, outline_of, first_fault_from, first_fault, spot_of, turned, program_of, unless_refused, begin_free, blank_free, end_free, has_place, is_instr, is_read, orders_pass, passes, MadeArePrograms}
 use Rattle.made_program_laws.proofs.Names.{name_of}
 use Rattle.made_program_laws.proofs.Rows.{Lines, functions_have, main_lines, main_order_rows, main_rows, rows_of}
 use Rattle.made_program_laws.proofs.Between.{Between, Named, above_of, between, named_all}
@@ -7,7 +7,7 @@ use Rattle.made_program_laws.proofs.Functions.{all_read, ascii_utf8, both_read, 
 
 -- MAIN
 
-calls : (text : List ℕ) (f : ℕ) → place_of (outline_of text).functions (codes "f0") ≡ Some f → is_instr (call (outline_of text) (codes "f0")) ≡ true
+calls : (text : List ℕ) (f : ℕ) → name_index (outline_of text).functions (codes "f0") ≡ Some f → is_instr (call (outline_of text) (codes "f0")) ≡ true
 calls text f e = rw e refl
 
 first_name : name_of 0 ≡ codes "f0"
@@ -30,7 +30,7 @@ main_read text labels h =
 last_count : (k : ℕ) → k ≤ 1000 → nat_le 1024 k ≡ false
 last_count k le = grind (arith, le)
 
-main_passes : (text : List ℕ) (size : ℕ) (above : Lines) → 1 ≤ size → size ≤ 1000 → Named size (outline_of text).functions → Between size above → fault_from (outline_of text) above main_rows ≡ None
+main_passes : (text : List ℕ) (size : ℕ) (above : Lines) → 1 ≤ size → size ≤ 1000 → Named size (outline_of text).functions → Between size above → first_fault_from (outline_of text) above main_rows ≡ None
 main_passes text size above some le named b =
     let none : orders_above (codes "fn main" ∷ above) ≡ orders_above above + 0 = refl in
     let ten : length main_order_rows ≡ 10 = refl in
@@ -50,7 +50,7 @@ no_fault : (seed size : ℕ) → 1 ≤ size → size ≤ 1000 → first_fault (m
 no_fault seed size some le =
     let lines = made_lines seed size le in
     let named = named_all seed size (made_text seed size) le lines in
-    ap (fault_from (outline_of (made_text seed size)) []) lines
+    ap (first_fault_from (outline_of (made_text seed size)) []) lines
     ∙ functions_pass (made_text seed size) seed size size main_rows (omega arith) le named refl
     ∙ main_passes (made_text seed size) size (above_of seed size size) some le named (between seed size size le)
 

@@ -1,6 +1,6 @@
 -- Lists of addresses: tests, and lists of distinct addresses.
 use Rattle.mark_sweep_gc.proofs.Common.{◌≡◌, ℕ, suc, ◌≤◌, Bool, true, false, cond, List, [], ◌∷◌, ◌++◌, length, refl, sym, ap, ◌∙◌, subst, arith, ◌⊎◌, inl, inr, false≢true, append-nil, IsDistinct, Addr, Once, distinct_from, once_from, once_push, same_is, same_self, In, any_from_in, in_from_any, in_append_left, in_append_right, in_append_cases, contains_from_in}
-use Rattle.mark_sweep_gc.specs.MarkingValue.{has_address, noted, same_address}
+use Rattle.mark_sweep_gc.specs.MarkingValue.{has_address, with_address, same_address}
 
 pub has_in : (xs : List Addr) (a : Addr) → has_address xs a ≡ true → In xs a
 has_in xs a h = let f = in_from_any (same_address a) xs h in subst (λ (x : Addr). In xs x) (sym (same_is a f.0 f.2)) f.1
@@ -33,7 +33,7 @@ noted_by xs a false e = record {
   once = λ o. distinct_from (xs ++ a ∷ []) (once_push xs a (once_from xs o) (λ i. false≢true (sym e ∙ in_has xs a i)));
 }
 
-pub noted_is : (xs : List Addr) (a : Addr) → Noted xs a (noted xs a)
+pub noted_is : (xs : List Addr) (a : Addr) → Noted xs a (with_address xs a)
 noted_is xs a = noted_by xs a (has_address xs a) refl
 
 -- ---- at most as many as there are

@@ -1,13 +1,14 @@
 -- The names of lower crates and of the specifications that these proofs use. Declares nothing.
 pub use Rattle.chunk_pool.specs.PoolValue.{PoolValue, Releases, slot_at, slot_units}
-pub use Rattle.leaf_heap.proofs.HeapLemmas.{fresh_behind, fresh_cons, fresh_front, fresh_head, fresh_tail, fresh_at, none_there, apart_before}
+pub use Rattle.leaf_heap.proofs.HeapLemmas.{none_there}
+pub use Rattle.leaf_heap.proofs.ChunkAdded.{fresh_behind, fresh_cons, fresh_front, fresh_head, fresh_tail, fresh_at, apart_before}
 pub use Rattle.leaf_heap.specs.Counted.{AreCounted}
 pub use Rattle.leaf_heap.specs.LeafHeapValue.{HaveDistinctNumbers, IsFresh, IsCurrent, IsReserved, IsSettled, IsTidy, units, LeafHeapValue}
 pub use Rattle.leaf_heap.specs.Units.{counted32, unit_count}
 pub use Rattle.mark_sweep_gc.specs.Laws.{MarkingGoesOn, MarkingStaysOf, SnapshotIsOfRoots, AllMarkedIsDone, SweptChunksHold, SweptAreRead, SweptIsSnapshot}
-pub use Rattle.mark_sweep_gc.specs.MarkingValue.{FindsMore, HasCapacityForAll, MarkingValue, noted, has_address, marked_of, IsAllMarked, IsMarking, IsOf}
+pub use Rattle.mark_sweep_gc.specs.MarkingValue.{FindsMore, HasCapacityForAll, MarkingValue, with_address, has_address, marked_of, IsAllMarked, IsMarking, IsOf}
 pub use Rattle.mark_sweep_gc.specs.Snapshot.{object_count, Fork, IsInSnapshot, Starts, IsSince}
-pub use Rattle.mark_sweep_gc.specs.Swept.{AreGiven, units_in_slots, has_number, has_object, number_at, place_at, stays, swept, swept_cell, swept_cells, swept_chunk, is_object, goes}
+pub use Rattle.mark_sweep_gc.specs.Swept.{AreGiven, units_in_slots, has_number, has_object, chunk_number_at, place_at, stays, swept, swept_cell, swept_cells, swept_chunk, is_object, goes}
 pub use Rattle.object_layout.proofs.Distinct.{Once, distinct_from, once_from, once_push, same_is, same_self}
 pub use Rattle.object_layout.specs.Cell.{Born, Cell, Hole, IsObject, Mark, Moved, no_cell, size_of, IsBorn, as_object, marked_object, moved_to, with_mark}
 pub use Rattle.object_layout.specs.ChunkValue.{ChunkValue}

@@ -1,5 +1,5 @@
 -- What is found, step by step.
-use Rattle.mark_sweep_gc.proofs.Common.{◌≡◌, ℕ, ◌+◌, ◌<◌, ◌≤◌, List, [], ◌++◌, length, get_or, take, refl, sym, ap, ◌∙◌, subst, arith, ◌⊎◌, inl, inr, Contains, All, Some, None, slice_get, append-nil, append_assoc, take_all, length-drop, Bool, true, false, nat_lt, drop, ◌-◌, is_some, if◌then◌else◌, false≢true, IsDistinct, slice_get-get_or, place_in, place_of, same_address, distinct_from, Addr, ChunkValue, HasObjectAt, IsSoundReference, In, in_append_left, contains_from_in, in_from_contains, all_from, got_in_take, in_take_more, take_more_in, FindsMore, HasCapacityForAll, MarkingValue, noted, object_count}
+use Rattle.mark_sweep_gc.proofs.Common.{◌≡◌, ℕ, ◌+◌, ◌<◌, ◌≤◌, List, [], ◌++◌, length, get_or, take, refl, sym, ap, ◌∙◌, subst, arith, ◌⊎◌, inl, inr, Contains, All, Some, None, slice_get, append-nil, append_assoc, take_all, length-drop, Bool, true, false, nat_lt, drop, ◌-◌, is_some, if◌then◌else◌, false≢true, IsDistinct, slice_get-get_or, place_in, place_of, same_address, distinct_from, Addr, ChunkValue, HasObjectAt, IsSoundReference, In, in_append_left, contains_from_in, in_from_contains, all_from, got_in_take, in_take_more, take_more_in, FindsMore, HasCapacityForAll, MarkingValue, with_address, object_count}
 use Rattle.object_layout.proofs.ChunkLaws as laws
 use Rattle.mark_sweep_gc.proofs.Addresses.{noted_is}
 use Rattle.mark_sweep_gc.proofs.Counting.{found_within}
@@ -43,7 +43,7 @@ module _ (P : Addr → Type 0) (m : MarkingValue) where
   }
 
 -- one object noted
-pub finds_noted : (P : Addr → Type 0) (old new : MarkingValue) (a : Addr) → P a → ((x : Addr) → P x → a ≡ x) → new.found ≡ noted old.found a → new.marked ≡ old.marked → new.followed ≡ old.followed → FindsMore P old new
+pub finds_noted : (P : Addr → Type 0) (old new : MarkingValue) (a : Addr) → P a → ((x : Addr) → P x → a ≡ x) → new.found ≡ with_address old.found a → new.marked ≡ old.marked → new.followed ≡ old.followed → FindsMore P old new
 finds_noted P old new a p only e m f =
     let n = noted_is old.found a in
     record {
@@ -57,7 +57,7 @@ finds_noted P old new a p only e m f =
       followed = f;
     }
 
-pub room_noted : (h : List ChunkValue) (old new : MarkingValue) (a : Addr) → HasCapacityForAll h old → HasObjectAt h a → new.found ≡ noted old.found a
+pub room_noted : (h : List ChunkValue) (old new : MarkingValue) (a : Addr) → HasCapacityForAll h old → HasObjectAt h a → new.found ≡ with_address old.found a
     → length old.found + old.slots ≤ length new.found + new.slots → length old.found + old.spare ≤ length new.found + new.spare → new.places ≡ old.places → HasCapacityForAll h new
 room_noted h old new a r held e s p q =
     let n = noted_is old.found a in

@@ -1,5 +1,5 @@
 -- The chunks after a sweep: what they are, and what is read in them.
-use Rattle.mark_sweep_gc.proofs.Common.{◌≡◌, ℕ, zero, suc, ◌+◌, ◌*◌, ◌<◌, ◌≤◌, Bool, true, false, cond, one-add, List, [], ◌∷◌, length, map, filter, refl, sym, ap, ◌∙◌, subst, arith, ◌⊎◌, inl, inr, eqb, Option, Some, None, All, ◌||◌, nat_lt, cases_Bool, eq-eqb, eqb-true, ne_eqb, or_parts, length-map, All-cons, All-filter, All-head, All-map, All-tail, All-weaker, Addr, Cell, IsBorn, IsObject, Mark, Born, Moved, Hole, as_object, marked_object, moved_to, no_cell, size_of, ChunkValue, cell_at, cell_of, chunk_at, object_of, place_of, HasObjectAt, In, contains_from_in, in_from_contains, in_take, HaveDistinctNumbers, IsCurrent, IsFresh, IsReserved, IsSettled, IsTidy, units, fresh_at, fresh_cons, fresh_head, fresh_tail, none_there, AllMarkedIsDone, SweptChunksHold, SweptAreRead, SweptIsSnapshot, has_address, marked_of, IsInSnapshot, has_number, has_object, number_at, place_at, stays, swept, swept_cell, swept_cells, swept_chunk}
+use Rattle.mark_sweep_gc.proofs.Common.{◌≡◌, ℕ, zero, suc, ◌+◌, ◌*◌, ◌<◌, ◌≤◌, Bool, true, false, cond, one-add, List, [], ◌∷◌, length, map, filter, refl, sym, ap, ◌∙◌, subst, arith, ◌⊎◌, inl, inr, eqb, Option, Some, None, All, ◌||◌, nat_lt, cases_Bool, eq-eqb, eqb-true, ne_eqb, or_parts, length-map, All-cons, All-filter, All-head, All-map, All-tail, All-weaker, Addr, Cell, IsBorn, IsObject, Mark, Born, Moved, Hole, as_object, marked_object, moved_to, no_cell, size_of, ChunkValue, cell_at, cell_of, chunk_at, object_of, place_of, HasObjectAt, In, contains_from_in, in_from_contains, in_take, HaveDistinctNumbers, IsCurrent, IsFresh, IsReserved, IsSettled, IsTidy, units, fresh_at, fresh_cons, fresh_head, fresh_tail, none_there, AllMarkedIsDone, SweptChunksHold, SweptAreRead, SweptIsSnapshot, has_address, marked_of, IsInSnapshot, has_number, has_object, chunk_number_at, place_at, stays, swept, swept_cell, swept_cells, swept_chunk}
 use Rattle.object_layout.proofs.ChunkLaws as laws
 use Rattle.mark_sweep_gc.proofs.Addresses.{has_in, in_has}
 use Rattle.mark_sweep_gc.proofs.Giving.{apart_filtered, fresh_filtered}
@@ -80,7 +80,7 @@ module _ (kept : List Addr) (reserved : Option ℕ) (ks : List ChunkValue) (sett
       (there, ap (λ (k : ChunkValue). k.size) (at_number (swept_chunk kept) (λ k. refl) (stays kept reserved) ks settled.apart i l there) ∙ s)
   current_by i l s false e = tt
 
-  pub now_current : (o : Option ℕ) → IsCurrent ks o → IsCurrent (map (swept_chunk kept) (filter (stays kept reserved) ks)) (place_at (map (swept_chunk kept) (filter (stays kept reserved) ks)) (number_at ks o))
+  pub now_current : (o : Option ℕ) → IsCurrent ks o → IsCurrent (map (swept_chunk kept) (filter (stays kept reserved) ks)) (place_at (map (swept_chunk kept) (filter (stays kept reserved) ks)) (chunk_number_at ks o))
   now_current None c = tt
   now_current (Some i) c = current_by i c.0 c.1 (nat_lt (place_of Now (chunk_at ks i).number) (length Now)) refl
 
@@ -91,7 +91,7 @@ module _ (kept : List Addr) (reserved : Option ℕ) (ks : List ChunkValue) (sett
       (there, (subst (λ (n : ℕ). 1024 < n) (sym (ap (λ (k : ChunkValue). k.size) same)) s, ap (λ (k : ChunkValue). k.cells) same ∙ ap (swept_cells kept (chunk_at ks i).number 0) none))
   reserved_by i l s none false e = tt
 
-  pub now_reserved : (o : Option ℕ) → IsReserved ks o → IsReserved (map (swept_chunk kept) (filter (stays kept reserved) ks)) (place_at (map (swept_chunk kept) (filter (stays kept reserved) ks)) (number_at ks o))
+  pub now_reserved : (o : Option ℕ) → IsReserved ks o → IsReserved (map (swept_chunk kept) (filter (stays kept reserved) ks)) (place_at (map (swept_chunk kept) (filter (stays kept reserved) ks)) (chunk_number_at ks o))
   now_reserved None c = tt
   now_reserved (Some i) c = reserved_by i c.0 c.1.0 c.1.1 (nat_lt (place_of Now (chunk_at ks i).number) (length Now)) refl
 
@@ -180,7 +180,7 @@ module _ (kept : List Addr) (reserved : Option ℕ) (a : Addr) where
       other e rest false = rest
 
 pub swept_are_read : SweptAreRead
-swept_are_read h kept apart a = read_left kept (number_at h.chunks h.reserved) a h.chunks apart
+swept_are_read h kept apart a = read_left kept (chunk_number_at h.chunks h.reserved) a h.chunks apart
 
 object_held : (c : Cell) → IsBorn (as_object c).mark → IsBorn c.mark
 object_held c = by_mark c.mark refl
@@ -234,4 +234,4 @@ each_left kept reserved (x ∷ ks) k i = step (each_left kept reserved ks k) (st
     step rest false q j = rest j
 
 pub swept_chunks_hold : SweptChunksHold
-swept_chunks_hold h kept k c = each_left kept (number_at h.chunks h.reserved) h.chunks k (in_from_contains _ k c)
+swept_chunks_hold h kept k c = each_left kept (chunk_number_at h.chunks h.reserved) h.chunks k (in_from_contains _ k c)

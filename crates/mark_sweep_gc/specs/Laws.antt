@@ -3,7 +3,7 @@ use Rattle.std.specs.Prelude.{◌≡◌, ◌≤◌, ◌↔◌, ◌⊎◌, true, 
 use Rattle.mark_sweep_gc.specs.Common.{Addr, IsObject, no_cell, ChunkValue, cell_of, object_of, HasObjectAt, HaveDistinctNumbers, LeafHeapValue}
 use Rattle.mark_sweep_gc.specs.Snapshot.{Fork, IsInSnapshot, Starts, object_count}
 use Rattle.mark_sweep_gc.specs.MarkingValue.{has_address, marked_of, IsAllMarked, IsDone, IsMarking, IsOf, MarkingValue}
-use Rattle.mark_sweep_gc.specs.Swept.{has_number, has_object, staying_of, number_at, swept}
+use Rattle.mark_sweep_gc.specs.Swept.{has_number, has_object, staying_of, chunk_number_at, swept}
 
 -- the snapshot of a marking, from the roots as they are when it begins and what was kept, is what the roots at the fork
 -- lead to: provided each start is among that, and each root at the fork is still a root or was kept
@@ -52,4 +52,4 @@ SweptIsSnapshot =
 abbrev pub SweptChunksHold : Type 0
 SweptChunksHold =
     (h : LeafHeapValue) (marked : List Addr) (k : ChunkValue) → Contains (staying_of h marked) k
-    → (has_object k.cells ≡ true) ⊎ (has_number (number_at h.chunks h.reserved) k ≡ true)
+    → (has_object k.cells ≡ true) ⊎ (has_number (chunk_number_at h.chunks h.reserved) k ≡ true)

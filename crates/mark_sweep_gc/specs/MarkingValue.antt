@@ -20,8 +20,8 @@ abbrev pub has_address : List Addr → Addr → Bool
 has_address xs a = list_any (same_address a) xs
 
 -- the addresses with one more, if it isn't there yet
-abbrev pub noted : List Addr → Addr → List Addr
-noted xs a = if has_address xs a then xs else xs ++ a ∷ []
+abbrev pub with_address : List Addr → Addr → List Addr
+with_address xs a = if has_address xs a then xs else xs ++ a ∷ []
 
 -- the objects that are marked
 abbrev pub marked_of : MarkingValue → List Addr

@@ -26,9 +26,9 @@ has_object cs = list_any (λ c. is_object c.mark) cs
 -- ---- a heap
 
 -- the number of the chunk at a position
-abbrev pub number_at : List ChunkValue → Option ℕ → Option ℕ
-number_at ks None = None
-number_at ks (Some i) = Some (chunk_at ks i).number
+abbrev pub chunk_number_at : List ChunkValue → Option ℕ → Option ℕ
+chunk_number_at ks None = None
+chunk_number_at ks (Some i) = Some (chunk_at ks i).number
 
 -- the position of the chunk of a number
 abbrev pub place_at : List ChunkValue → Option ℕ → Option ℕ
@@ -48,18 +48,18 @@ goes marked reserved k = not (stays marked reserved k)
 
 -- the chunks that stay, in order, and those that are released
 abbrev pub staying_of : LeafHeapValue → List Addr → List ChunkValue
-staying_of h marked = map (swept_chunk marked) (filter (stays marked (number_at h.chunks h.reserved)) h.chunks)
+staying_of h marked = map (swept_chunk marked) (filter (stays marked (chunk_number_at h.chunks h.reserved)) h.chunks)
 
 abbrev pub gone_of : LeafHeapValue → List Addr → List ChunkValue
-gone_of h marked = filter (goes marked (number_at h.chunks h.reserved)) h.chunks
+gone_of h marked = filter (goes marked (chunk_number_at h.chunks h.reserved)) h.chunks
 
 -- the heap with exactly the marked objects, each at its address; it goes on filling its chunk, if that stays, and keeps
 -- the reserved one
 abbrev pub swept : LeafHeapValue → List Addr → LeafHeapValue
 swept h marked = record h {
   chunks = staying_of h marked;
-  current = place_at (staying_of h marked) (number_at h.chunks h.current);
-  reserved = place_at (staying_of h marked) (number_at h.chunks h.reserved);
+  current = place_at (staying_of h marked) (chunk_number_at h.chunks h.current);
+  reserved = place_at (staying_of h marked) (chunk_number_at h.chunks h.reserved);
 }
 
 -- ---- the pool

@@ -6,7 +6,7 @@ ghost use Rattle.object_layout.specs.ChunkValue.{ChunkValue};
 ghost use Rattle.object_layout.specs.Chunks.{object_count};
 ghost use Rattle.object_layout.specs.Graph.{IsClosed, HasObjectAt, IsSoundReference, RefersTo};
 ghost use Rattle.mark_sweep_gc.specs.Snapshot.{IsSince, Fork};
-ghost use Rattle.mark_sweep_gc.specs.MarkingValue.{has_address, marked_of, noted, FindsMore, HasCapacityForAll, IsAllMarked, IsDone, IsMarking, IsOf};
+ghost use Rattle.mark_sweep_gc.specs.MarkingValue.{has_address, marked_of, with_address, FindsMore, HasCapacityForAll, IsAllMarked, IsDone, IsMarking, IsOf};
 
 use crate::room::MarkingRoom;
 use leaf_heap::LeafHeap;
@@ -191,7 +191,7 @@ impl Marking {
     fn note(&mut self, address: Addr)
         requires slots { 0 < self.old.slots }
         requires spare { 0 < self.old.spare }
-        ensures found { self.new.found ≡ noted self.old.found address }
+        ensures found { self.new.found ≡ with_address self.old.found address }
         ensures marked { self.new.marked ≡ self.old.marked }
         ensures followed { self.new.followed ≡ self.old.followed }
         ensures slots { length self.old.found + self.old.slots ≤ length self.new.found + self.new.slots }

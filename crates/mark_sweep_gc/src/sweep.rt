@@ -7,7 +7,7 @@ ghost use Rattle.leaf_heap.specs.LeafHeapValue.{units, with_places, HaveDistinct
 ghost use Rattle.leaf_heap.specs.Units.{counted32, unit_count};
 ghost use Rattle.chunk_pool.specs.PoolValue.{slot_at};
 ghost use Rattle.mark_sweep_gc.specs.MarkingValue.{has_address, marked_of, HasCapacityForAll, IsDone};
-ghost use Rattle.mark_sweep_gc.specs.Swept.{gone_of, goes, has_number, has_object, is_object, number_at, place_at, stays, swept, swept_cell, swept_chunk, AreGiven};
+ghost use Rattle.mark_sweep_gc.specs.Swept.{gone_of, goes, has_number, has_object, is_object, chunk_number_at, place_at, stays, swept, swept_cell, swept_chunk, AreGiven};
 
 use crate::marking::Marking;
 use crate::room::MarkingRoom;
@@ -198,7 +198,7 @@ impl Marking {
 // The number of the chunk at a position.
 fn number_of(chunks: &[Chunk], place: Option<usize>) -> Option<u32>
     requires { IfSome place (λ i. i < length chunks.now) }
-    ensures { result ≡ number_at chunks.now place }
+    ensures { result ≡ chunk_number_at chunks.now place }
 {
     match place {
         None => None,

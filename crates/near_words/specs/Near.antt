@@ -3,10 +3,10 @@ use Rattle.std.specs.Prelude.{ℕ, ◌==◌, ◌&&◌, ◌||◌, Bool, false, Op
 use Rattle.std.specs.Str.{bytes_eq}
 
 -- what is left of two words after their common prefix
-abbrev pub left_of : List ℕ → List ℕ → List ℕ
-left_of [] ys = []
-left_of (x ∷ xs) [] = x ∷ xs
-left_of (x ∷ xs) (y ∷ ys) = if x == y then left_of xs ys else x ∷ xs
+abbrev pub differing_rests : List ℕ → List ℕ → List ℕ
+differing_rests [] ys = []
+differing_rests (x ∷ xs) [] = x ∷ xs
+differing_rests (x ∷ xs) (y ∷ ys) = if x == y then differing_rests xs ys else x ∷ xs
 
 -- both begin with the same two letters, swapped
 abbrev pub is_turned : List ℕ → List ℕ → Bool
@@ -22,11 +22,11 @@ is_edited agree xs ys =
 
 -- the words are the same but for at most one edit
 abbrev pub is_within_one : List ℕ → List ℕ → Bool
-is_within_one xs ys = is_edited bytes_eq (left_of xs ys) (left_of ys xs)
+is_within_one xs ys = is_edited bytes_eq (differing_rests xs ys) (differing_rests ys xs)
 
 -- the words are the same but for at most two
 abbrev pub is_within_two : List ℕ → List ℕ → Bool
-is_within_two xs ys = is_edited is_within_one (left_of xs ys) (left_of ys xs)
+is_within_two xs ys = is_edited is_within_one (differing_rests xs ys) (differing_rests ys xs)
 
 -- THE NEAREST of some words: the first within one edit, or else the first within two. A word of one letter is near to
 -- none, and one of fewer than five letters to none by two edits

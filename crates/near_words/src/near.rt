@@ -1,11 +1,11 @@
 // Edits, and the nearest word.
 
 ghost use Rattle.std.specs.Prelude.{◌≡◌, ◌≤◌, length, drop, map, option_map};
-ghost use Rattle.near_words.specs.Near.{left_of, is_turned, is_within_one, is_within_two, first_such, nearest};
+ghost use Rattle.near_words.specs.Near.{differing_rests, is_turned, is_within_one, is_within_two, first_such, nearest};
 
 // What is left of a word after the prefix that it shares with another.
-fn left_of<'a>(word: &'a [u8], other: &[u8]) -> &'a [u8]
-    ensures { result.now ≡ left_of word.now other.now }
+fn differing_rests<'a>(word: &'a [u8], other: &[u8]) -> &'a [u8]
+    ensures { result.now ≡ differing_rests word.now other.now }
 {
     let mut left = word;
     let mut right = other;
@@ -47,8 +47,8 @@ fn is_turned(word: &[u8], other: &[u8]) -> bool
 fn is_within_one(word: &[u8], other: &[u8]) -> bool
     ensures { result ≡ is_within_one word.now other.now }
 {
-    let left = left_of(word, other);
-    let right = left_of(other, word);
+    let left = differing_rests(word, other);
+    let right = differing_rests(other, word);
     behind_first(left, 1) == behind_first(right, 1)
         || behind_first(left, 1) == right
         || left == behind_first(right, 1)
@@ -59,8 +59,8 @@ fn is_within_one(word: &[u8], other: &[u8]) -> bool
 fn is_within_two(word: &[u8], other: &[u8]) -> bool
     ensures { result ≡ is_within_two word.now other.now }
 {
-    let left = left_of(word, other);
-    let right = left_of(other, word);
+    let left = differing_rests(word, other);
+    let right = differing_rests(other, word);
     is_within_one(behind_first(left, 1), behind_first(right, 1))
         || is_within_one(behind_first(left, 1), right)
         || is_within_one(left, behind_first(right, 1))

@@ -68,9 +68,9 @@ instr_word (Par f g) = codes "par"
 instr_word Ret = codes "ret"
 instr_word (Out a) = codes "out"
 
-abbrev pub flag : Bool → List ℕ
-flag true = 49 ∷ []
-flag false = 48 ∷ []
+abbrev pub flag_digit : Bool → List ℕ
+flag_digit true = 49 ∷ []
+flag_digit false = 48 ∷ []
 
 -- what a step does: the object's name; then the field and the value that is read or written, or would be
 abbrev pub deed : Option Deed → List ℕ
@@ -79,7 +79,7 @@ deed (Some (Allocates n)) = more (name n)
 deed (Some (Reads n at v)) = more (name n) ++ more_number at ++ more (value v)
 deed (Some (Counts n)) = more (name n)
 deed (Some (Writes n at v)) = more (name n) ++ more_number at ++ more (value v)
-deed (Some (Swaps n at r swapped)) = more (name n) ++ more_number at ++ more (reference r) ++ more (flag swapped)
+deed (Some (Swaps n at r swapped)) = more (name n) ++ more_number at ++ more (reference r) ++ more (flag_digit swapped)
 deed (Some (Freezes n)) = more (name n)
 deed (Some (Prints k)) = []
 
@@ -114,7 +114,7 @@ fields b = if b.mutable then [] else flat_map (λ r. more (reference r)) b.refs 
 -- what a step changes: a word, and then what is new
 abbrev pub change : Change → List ℕ
 change (New b) =
-    codes "[\"new\"," ++ name b.name ++ more (flag b.mutable) ++ more_number (length b.refs) ++ more_number (length b.ints) ++ fields b ++ 93 ∷ []
+    codes "[\"new\"," ++ name b.name ++ more (flag_digit b.mutable) ++ more_number (length b.refs) ++ more_number (length b.ints) ++ fields b ++ 93 ∷ []
 change (IsSet w) = codes "[\"set\"," ++ name w.name ++ more_number w.field ++ more (value w.value) ++ 93 ∷ []
 change (Froze n) = codes "[\"froze\"," ++ name n ++ 93 ∷ []
 change (Print k) = codes "[\"print\"," ++ number k ++ 93 ∷ []
@@ -134,8 +134,8 @@ kind_numbers (More t n) = more_number t ++ more_number n
 kind_numbers (Sweep t given) = more_number t ++ more_number given
 kind_numbers Fuel = []
 
-unfoldable pub head : EntryValue → List ℕ
-head e = codes "{\"e\":[" ++ decimal e.worker ++ more (word (kind_name e.kind)) ++ kind_numbers e.kind ++ 93 ∷ []
+unfoldable pub entry_head : EntryValue → List ℕ
+entry_head e = codes "{\"e\":[" ++ decimal e.worker ++ more (word (kind_name e.kind)) ++ kind_numbers e.kind ++ 93 ∷ []
 
 -- what an entry changes, member by member
 unfoldable pub members : ProgramText → Delta → List ℕ
@@ -147,4 +147,4 @@ members p d =
 
 -- an entry with its delta, on a line of its own behind what stands before it; it isn't ended yet
 unfoldable pub opening : ProgramText → EntryValue → Delta → List ℕ
-opening p e d = 44 ∷ 10 ∷ (head e ++ members p d)
+opening p e d = 44 ∷ 10 ∷ (entry_head e ++ members p d)

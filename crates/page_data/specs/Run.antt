@@ -20,16 +20,16 @@ use Rattle.page_data.specs.Deltas.{word, more_number, task_now, opening}
 use Rattle.page_data.specs.Heaps.{closing}
 
 -- some bytes with a number behind them
-unfoldable pub named : List ℕ → ℕ → List ℕ
-named bytes n = bytes ++ decimal n
+unfoldable pub word_with_number : List ℕ → ℕ → List ℕ
+word_with_number bytes n = bytes ++ decimal n
 
 unfoldable pub limits_text : SettingsValue → List ℕ
-limits_text s = named (codes "{\"workers\":") s.workers ++ named (codes ",\"fuel\":") s.fuel ++ named (codes ",\"chunks\":") s.chunks
+limits_text s = word_with_number (codes "{\"workers\":") s.workers ++ word_with_number (codes ",\"fuel\":") s.fuel ++ word_with_number (codes ",\"chunks\":") s.chunks
 
 unfoldable pub settings_text : SettingsValue → List ℕ
 settings_text s =
-    limits_text s ++ named (codes ",\"leaf\":") s.leaf ++ named (codes ",\"inner\":") s.inner
-    ++ named (codes ",\"version\":") (version_number s.version) ++ 125 ∷ []
+    limits_text s ++ word_with_number (codes ",\"leaf\":") s.leaf ++ word_with_number (codes ",\"inner\":") s.inner
+    ++ word_with_number (codes ",\"version\":") (version_number s.version) ++ 125 ∷ []
 
 -- where the run starts: an entry of no worker
 unfoldable pub start_text : ProgramText → ℕ → List ℕ
@@ -59,5 +59,5 @@ end_text (Machine e) = machine_end e
 end_text (Fuel steps) = word (codes "fuel") ++ more_number steps
 end_text (Pool chunks) = word (codes "pool") ++ more_number chunks
 
-abbrev pub ending : RunEnd → List ℕ
-ending e = codes "],\n\"end\":[" ++ end_text e ++ codes "]}"
+abbrev pub end_data : RunEnd → List ℕ
+end_data e = codes "],\n\"end\":[" ++ end_text e ++ codes "]}"

@@ -3,7 +3,7 @@
 ghost use Rattle.std.specs.Prelude.{◌≡◌, ◌++◌, OnOk, Some};
 ghost use Rattle.std.specs.Fmt.{decimal};
 ghost use Rattle.page_data.specs.Values.{name, value, more};
-ghost use Rattle.page_data.specs.Deltas.{word, more_number, operator_word, instr_word, flag, deed, last};
+ghost use Rattle.page_data.specs.Deltas.{word, more_number, operator_word, instr_word, flag_digit, deed, last};
 
 use crate::values::{add_name, add_reference, add_value};
 use hh_lang::{Instr, Operator};
@@ -39,7 +39,7 @@ pub(crate) fn more_word(text: &mut Vec<u8>, of: &[u8]) -> Result<(), AllocError>
 
 /// Adds a further 1 or 0.
 pub(crate) fn more_flag(text: &mut Vec<u8>, of: bool) -> Result<(), AllocError>
-    ensures { OnOk result (text.new.items ≡ text.old.items ++ more (flag of)) }
+    ensures { OnOk result (text.new.items ≡ text.old.items ++ more (flag_digit of)) }
 {
     if of {
         text.extend_from_slice(b",1")

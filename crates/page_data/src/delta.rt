@@ -4,7 +4,7 @@ ghost use Rattle.std.specs.Prelude.{◌≡◌, ◌∷◌, ◌++◌, [], codes, l
 ghost use Rattle.std.specs.List.{flat_map};
 ghost use Rattle.std.specs.Fmt.{decimal};
 ghost use Rattle.page_data.specs.Values.{name, reference, number, value, more, member};
-ghost use Rattle.page_data.specs.Deltas.{more_number, word, flag, child, standing_word, task_now, fields, change, kind_numbers, head, members, opening};
+ghost use Rattle.page_data.specs.Deltas.{more_number, word, flag_digit, child, standing_word, task_now, fields, change, kind_numbers, entry_head, members, opening};
 
 use crate::act::{add_count, add_last, more_flag, more_number, more_word};
 use crate::heap::more_names;
@@ -114,7 +114,7 @@ fn add_fields(alloc: Global, text: &mut Vec<u8>, of: &NewObject) -> Result<(), A
 
 // Adds a new object.
 fn add_birth(alloc: Global, text: &mut Vec<u8>, of: &NewObject) -> Result<(), AllocError>
-    ensures { OnOk result (text.new.items ≡ text.old.items ++ (name of.now.name ++ more (flag of.now.mutable) ++ more_number (length of.now.refs) ++ more_number (length of.now.ints) ++ fields of.now)) }
+    ensures { OnOk result (text.new.items ≡ text.old.items ++ (name of.now.name ++ more (flag_digit of.now.mutable) ++ more_number (length of.now.refs) ++ more_number (length of.now.ints) ++ fields of.now)) }
 {
     add_name(alloc, text, of.name)?;
     more_flag(text, of.mutable)?;
@@ -355,7 +355,7 @@ fn add_numbers(alloc: Global, text: &mut Vec<u8>, kind: Kind) -> Result<(), Allo
 #[tactic(auto, unfolding(crate::specs::Deltas::head))]
 // Adds an entry without what it changes.
 fn add_head(alloc: Global, text: &mut Vec<u8>, of: Entry) -> Result<(), AllocError>
-    ensures { OnOk result (text.new.items ≡ text.old.items ++ head of) }
+    ensures { OnOk result (text.new.items ≡ text.old.items ++ entry_head of) }
 {
     text.extend_from_slice(b"{\"e\":[")?;
     add_count(alloc, text, of.worker() as u64)?;

@@ -5,7 +5,7 @@ ghost use Rattle.run_trace.specs.Settings.{field_limit};
 ghost use Rattle.run_ledger.specs.Text.{trap_word};
 ghost use Rattle.hh_model.specs.Step.{start};
 ghost use Rattle.page_data.specs.Deltas.{word, more_number};
-ghost use Rattle.page_data.specs.Run.{named, limits_text, settings_text, start_text, settings_and_start, machine_end, end_text, ending};
+ghost use Rattle.page_data.specs.Run.{word_with_number, limits_text, settings_text, start_text, settings_and_start, machine_end, end_text, end_data};
 
 use crate::act::{add_count, more_number, more_word};
 use crate::delta::{add_bytes, add_tasks};
@@ -19,7 +19,7 @@ use std::alloc::{AllocError, Global};
 #[tactic(auto, unfolding(crate::specs::Run::named))]
 // Adds some bytes, and a number behind them.
 fn add_named(alloc: Global, text: &mut Vec<u8>, name: &[u8], of: u64) -> Result<(), AllocError>
-    ensures { OnOk result (text.new.items ≡ text.old.items ++ named name.now of) }
+    ensures { OnOk result (text.new.items ≡ text.old.items ++ word_with_number name.now of) }
 {
     text.extend_from_slice(name)?;
     add_count(alloc, text, of)
@@ -33,7 +33,7 @@ fn add_three(
     fuel: u64,
     chunks: u64,
 ) -> Result<(), AllocError>
-    ensures { OnOk result (text.new.items ≡ text.old.items ++ (named (codes "{\"workers\":") workers ++ named (codes ",\"fuel\":") fuel ++ named (codes ",\"chunks\":") chunks)) }
+    ensures { OnOk result (text.new.items ≡ text.old.items ++ (word_with_number (codes "{\"workers\":") workers ++ word_with_number (codes ",\"fuel\":") fuel ++ word_with_number (codes ",\"chunks\":") chunks)) }
 {
     add_named(alloc, text, b"{\"workers\":", workers)?;
     add_named(alloc, text, b",\"fuel\":", fuel)?;
@@ -159,7 +159,7 @@ fn add_end(alloc: Global, text: &mut Vec<u8>, end: RunEnd) -> Result<(), AllocEr
 
 /// Adds what stands behind the entries: how the run ended.
 pub fn add_ending(alloc: Global, text: &mut Vec<u8>, end: RunEnd) -> Result<(), AllocError>
-    ensures { OnOk result (text.new.items ≡ text.old.items ++ ending end) }
+    ensures { OnOk result (text.new.items ≡ text.old.items ++ end_data end) }
 {
     text.extend_from_slice(b"],\n\"end\":[")?;
     add_end(alloc, text, end)?;

@@ -1,7 +1,7 @@
 // What stands before the settings and the entries of a run, and after them.
 
 ghost use Rattle.std.specs.Prelude.{◌≡◌, ◌++◌, OnOk};
-ghost use Rattle.page_frame.specs.Frame.{head, tail};
+ghost use Rattle.page_frame.specs.Frame.{frame_head, tail};
 
 use crate::program::add_beginning;
 use page_text::{add_after, add_before};
@@ -11,7 +11,7 @@ use std::alloc::AllocError;
 /// text with a trace after it is the input.
 #[tactic(auto, unfolding(crate::specs::Frame::head))]
 pub fn add_head(text: &mut Vec<u8>, title: &[u8], input: &[u8]) -> Result<(), AllocError>
-    ensures { OnOk result (text.new.items ≡ text.old.items ++ head title.now input.now) }
+    ensures { OnOk result (text.new.items ≡ text.old.items ++ frame_head title.now input.now) }
 {
     add_before(text)?;
     add_beginning(text, title, input)

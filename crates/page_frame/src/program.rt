@@ -5,7 +5,7 @@ ghost use Rattle.std.specs.List.{flat_map};
 ghost use Rattle.text_lines.specs.Lines.{lines_of};
 ghost use Rattle.trace_input.specs.Cut.{is_trace_line, lines_above};
 ghost use Rattle.quoted_text.specs.Guarded.{guarded};
-ghost use Rattle.page_frame.specs.Frame.{beginning, listed, program_lines, titled};
+ghost use Rattle.page_frame.specs.Frame.{beginning, listed, program_lines, title_line};
 
 use quoted_text::add_guarded;
 use std::alloc::AllocError;
@@ -60,7 +60,7 @@ fn add_program(text: &mut Vec<u8>, input: &[u8]) -> Result<(), AllocError>
 // Adds the member with the title.
 #[tactic(auto, unfolding(crate::specs::Frame::titled))]
 fn add_titled(text: &mut Vec<u8>, title: &[u8]) -> Result<(), AllocError>
-    ensures { OnOk result (text.new.items ≡ text.old.items ++ titled title.now) }
+    ensures { OnOk result (text.new.items ≡ text.old.items ++ title_line title.now) }
 {
     text.extend_from_slice(b"{\"run\":1,\"title\":")?;
     add_guarded(text, title)

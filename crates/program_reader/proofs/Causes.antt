@@ -1,5 +1,5 @@
 -- Which cause comes first.
-use Rattle.program_reader.proofs.Common.{◌≡◌, ℕ, Bool, true, false, cond, List, refl, ap, sym, ◌∙◌, Option, Some, None, is_utf8, Cause, NotUtf8, Word, Operand, NoEnd, TwoNames, NoName, NoLabel, NoMain, TooMany, Head, Sense, Outline, LineContext, is_misplaced, has_wrong_operand, leaves_open, is_second, names_no_function, names_no_label, lacks_main, is_too_many, first_cause, fault_by, fault_on, sense_of, head_of_line, operands_of_line}
+use Rattle.program_reader.proofs.Common.{◌≡◌, ℕ, Bool, true, false, cond, List, refl, ap, sym, ◌∙◌, Option, Some, None, is_utf8, Cause, NotUtf8, Word, Operand, NoEnd, TwoNames, NoName, NoLabel, NoMain, TooMany, Head, Sense, Outline, LineContext, is_misplaced, has_wrong_operand, leaves_open, is_second, names_no_function, names_no_label, lacks_main, is_too_many, first_cause, line_cause, fault_on, sense_of, head_of_line, operands_of_line}
 
 by_word : (a b c d e f g h : Bool) → a ≡ true → ◌≡◌ {A = Option Cause} (Some Word) (first_cause a b c d e f g h)
 by_word a b c d e f g h pa = rw pa refl
@@ -31,28 +31,28 @@ by_none a b c d e f g h pa pb pc pd pe pf pg ph = rw (pa, pb, pc, pd, pe, pf, pg
 -- the first cause on a line, by its tests
 
 module _ (o : Outline) (s : LineContext) (h : Head) (ws : List (List ℕ)) (x : Sense) where
-  pub gives_word : is_misplaced s.inside h ≡ true → ◌≡◌ {A = Option Cause} (Some Word) (fault_by o s h ws x)
+  pub gives_word : is_misplaced s.inside h ≡ true → ◌≡◌ {A = Option Cause} (Some Word) (line_cause o s h ws x)
   gives_word = by_word (is_misplaced s.inside h) (has_wrong_operand x) (leaves_open s h) (is_second s h ws) (names_no_function x) (names_no_label x) (lacks_main o s) (is_too_many s h)
 
-  pub gives_no_end : is_misplaced s.inside h ≡ false → has_wrong_operand x ≡ false → leaves_open s h ≡ true → ◌≡◌ {A = Option Cause} (Some NoEnd) (fault_by o s h ws x)
+  pub gives_no_end : is_misplaced s.inside h ≡ false → has_wrong_operand x ≡ false → leaves_open s h ≡ true → ◌≡◌ {A = Option Cause} (Some NoEnd) (line_cause o s h ws x)
   gives_no_end = by_no_end (is_misplaced s.inside h) (has_wrong_operand x) (leaves_open s h) (is_second s h ws) (names_no_function x) (names_no_label x) (lacks_main o s) (is_too_many s h)
 
-  pub gives_two_names : is_misplaced s.inside h ≡ false → has_wrong_operand x ≡ false → leaves_open s h ≡ false → is_second s h ws ≡ true → ◌≡◌ {A = Option Cause} (Some TwoNames) (fault_by o s h ws x)
+  pub gives_two_names : is_misplaced s.inside h ≡ false → has_wrong_operand x ≡ false → leaves_open s h ≡ false → is_second s h ws ≡ true → ◌≡◌ {A = Option Cause} (Some TwoNames) (line_cause o s h ws x)
   gives_two_names = by_two_names (is_misplaced s.inside h) (has_wrong_operand x) (leaves_open s h) (is_second s h ws) (names_no_function x) (names_no_label x) (lacks_main o s) (is_too_many s h)
 
-  pub gives_no_name : is_misplaced s.inside h ≡ false → has_wrong_operand x ≡ false → leaves_open s h ≡ false → is_second s h ws ≡ false → names_no_function x ≡ true → ◌≡◌ {A = Option Cause} (Some NoName) (fault_by o s h ws x)
+  pub gives_no_name : is_misplaced s.inside h ≡ false → has_wrong_operand x ≡ false → leaves_open s h ≡ false → is_second s h ws ≡ false → names_no_function x ≡ true → ◌≡◌ {A = Option Cause} (Some NoName) (line_cause o s h ws x)
   gives_no_name = by_no_name (is_misplaced s.inside h) (has_wrong_operand x) (leaves_open s h) (is_second s h ws) (names_no_function x) (names_no_label x) (lacks_main o s) (is_too_many s h)
 
-  pub gives_no_label : is_misplaced s.inside h ≡ false → has_wrong_operand x ≡ false → leaves_open s h ≡ false → is_second s h ws ≡ false → names_no_function x ≡ false → names_no_label x ≡ true → ◌≡◌ {A = Option Cause} (Some NoLabel) (fault_by o s h ws x)
+  pub gives_no_label : is_misplaced s.inside h ≡ false → has_wrong_operand x ≡ false → leaves_open s h ≡ false → is_second s h ws ≡ false → names_no_function x ≡ false → names_no_label x ≡ true → ◌≡◌ {A = Option Cause} (Some NoLabel) (line_cause o s h ws x)
   gives_no_label = by_no_label (is_misplaced s.inside h) (has_wrong_operand x) (leaves_open s h) (is_second s h ws) (names_no_function x) (names_no_label x) (lacks_main o s) (is_too_many s h)
 
-  pub gives_no_main : is_misplaced s.inside h ≡ false → has_wrong_operand x ≡ false → leaves_open s h ≡ false → is_second s h ws ≡ false → names_no_function x ≡ false → names_no_label x ≡ false → lacks_main o s ≡ true → ◌≡◌ {A = Option Cause} (Some NoMain) (fault_by o s h ws x)
+  pub gives_no_main : is_misplaced s.inside h ≡ false → has_wrong_operand x ≡ false → leaves_open s h ≡ false → is_second s h ws ≡ false → names_no_function x ≡ false → names_no_label x ≡ false → lacks_main o s ≡ true → ◌≡◌ {A = Option Cause} (Some NoMain) (line_cause o s h ws x)
   gives_no_main = by_no_main (is_misplaced s.inside h) (has_wrong_operand x) (leaves_open s h) (is_second s h ws) (names_no_function x) (names_no_label x) (lacks_main o s) (is_too_many s h)
 
-  pub gives_too_many : is_misplaced s.inside h ≡ false → has_wrong_operand x ≡ false → leaves_open s h ≡ false → is_second s h ws ≡ false → names_no_function x ≡ false → names_no_label x ≡ false → lacks_main o s ≡ false → is_too_many s h ≡ true → ◌≡◌ {A = Option Cause} (Some TooMany) (fault_by o s h ws x)
+  pub gives_too_many : is_misplaced s.inside h ≡ false → has_wrong_operand x ≡ false → leaves_open s h ≡ false → is_second s h ws ≡ false → names_no_function x ≡ false → names_no_label x ≡ false → lacks_main o s ≡ false → is_too_many s h ≡ true → ◌≡◌ {A = Option Cause} (Some TooMany) (line_cause o s h ws x)
   gives_too_many = by_too_many (is_misplaced s.inside h) (has_wrong_operand x) (leaves_open s h) (is_second s h ws) (names_no_function x) (names_no_label x) (lacks_main o s) (is_too_many s h)
 
-  pub gives_none : is_misplaced s.inside h ≡ false → has_wrong_operand x ≡ false → leaves_open s h ≡ false → is_second s h ws ≡ false → names_no_function x ≡ false → names_no_label x ≡ false → lacks_main o s ≡ false → is_too_many s h ≡ false → ◌≡◌ {A = Option Cause} None (fault_by o s h ws x)
+  pub gives_none : is_misplaced s.inside h ≡ false → has_wrong_operand x ≡ false → leaves_open s h ≡ false → is_second s h ws ≡ false → names_no_function x ≡ false → names_no_label x ≡ false → lacks_main o s ≡ false → is_too_many s h ≡ false → ◌≡◌ {A = Option Cause} None (line_cause o s h ws x)
   gives_none = by_none (is_misplaced s.inside h) (has_wrong_operand x) (leaves_open s h) (is_second s h ws) (names_no_function x) (names_no_label x) (lacks_main o s) (is_too_many s h)
 
 -- a line without a fault passes every test
@@ -74,7 +74,7 @@ pub record IsFaultless (o : Outline) (s : LineContext) (h : Head) (ws : List (Li
   pub no_main : lacks_main o s ≡ false
   pub too_many : is_too_many s h ≡ false
 
-pub faultless : (o : Outline) (s : LineContext) (h : Head) (ws : List (List ℕ)) (x : Sense) → fault_by o s h ws x ≡ None → IsFaultless o s h ws x
+pub faultless : (o : Outline) (s : LineContext) (h : Head) (ws : List (List ℕ)) (x : Sense) → line_cause o s h ws x ≡ None → IsFaultless o s h ws x
 faultless o s h ws x e =
     let e0 = passed (is_misplaced s.inside h) Word (cond (has_wrong_operand x) (Some Operand) (cond (leaves_open s h) (Some NoEnd) (cond (is_second s h ws) (Some TwoNames) (cond (names_no_function x) (Some NoName) (cond (names_no_label x) (Some NoLabel) (cond (lacks_main o s) (Some NoMain) (cond (is_too_many s h) (Some TooMany) None))))))) e in
     let e1 = passed (has_wrong_operand x) Operand (cond (leaves_open s h) (Some NoEnd) (cond (is_second s h ws) (Some TwoNames) (cond (names_no_function x) (Some NoName) (cond (names_no_label x) (Some NoLabel) (cond (lacks_main o s) (Some NoMain) (cond (is_too_many s h) (Some TooMany) None)))))) e0.1 in
@@ -87,11 +87,11 @@ faultless o s h ws x e =
     record { known = e0.0; operand = e1.0; no_end = e2.0; two_names = e3.0; no_name = e4.0; no_label = e5.0; no_main = e6.0; too_many = e7.0 }
 
 pub gives_not_utf8 : (o : Outline) (s : LineContext) (line : List ℕ) → is_utf8 line ≡ false → ◌≡◌ {A = Option Cause} (Some NotUtf8) (fault_on o s line)
-gives_not_utf8 o s line e = ap (λ b. cond b (fault_by o s (head_of_line line) (operands_of_line line) (sense_of o s.labels (head_of_line line) (operands_of_line line))) (Some NotUtf8)) (sym e)
+gives_not_utf8 o s line e = ap (λ b. cond b (line_cause o s (head_of_line line) (operands_of_line line) (sense_of o s.labels (head_of_line line) (operands_of_line line))) (Some NotUtf8)) (sym e)
 
-pub gives_fault : (o : Outline) (s : LineContext) (line : List ℕ) (r : Option Cause) (h : Head) (ws : List (List ℕ)) (x : Sense) → is_utf8 line ≡ true → h ≡ head_of_line line → ws ≡ operands_of_line line → x ≡ sense_of o s.labels h ws → r ≡ fault_by o s h ws x → r ≡ fault_on o s line
+pub gives_fault : (o : Outline) (s : LineContext) (line : List ℕ) (r : Option Cause) (h : Head) (ws : List (List ℕ)) (x : Sense) → is_utf8 line ≡ true → h ≡ head_of_line line → ws ≡ operands_of_line line → x ≡ sense_of o s.labels h ws → r ≡ line_cause o s h ws x → r ≡ fault_on o s line
 gives_fault o s line r h ws x e eh ews ex er =
-    let e1 : fault_by o s h ws x ≡ fault_by o s h ws (sense_of o s.labels h ws) = ap (λ y. fault_by o s h ws y) ex in
-    let e2 : fault_by o s h ws (sense_of o s.labels h ws) ≡ fault_by o s (head_of_line line) ws (sense_of o s.labels (head_of_line line) ws) = ap (λ y. fault_by o s y ws (sense_of o s.labels y ws)) eh in
-    let e3 : fault_by o s (head_of_line line) ws (sense_of o s.labels (head_of_line line) ws) ≡ fault_by o s (head_of_line line) (operands_of_line line) (sense_of o s.labels (head_of_line line) (operands_of_line line)) = ap (λ y. fault_by o s (head_of_line line) y (sense_of o s.labels (head_of_line line) y)) ews in
-    er ∙ e1 ∙ e2 ∙ e3 ∙ ap (λ b. cond b (fault_by o s (head_of_line line) (operands_of_line line) (sense_of o s.labels (head_of_line line) (operands_of_line line))) (Some NotUtf8)) (sym e)
+    let e1 : line_cause o s h ws x ≡ line_cause o s h ws (sense_of o s.labels h ws) = ap (λ y. line_cause o s h ws y) ex in
+    let e2 : line_cause o s h ws (sense_of o s.labels h ws) ≡ line_cause o s (head_of_line line) ws (sense_of o s.labels (head_of_line line) ws) = ap (λ y. line_cause o s y ws (sense_of o s.labels y ws)) eh in
+    let e3 : line_cause o s (head_of_line line) ws (sense_of o s.labels (head_of_line line) ws) ≡ line_cause o s (head_of_line line) (operands_of_line line) (sense_of o s.labels (head_of_line line) (operands_of_line line)) = ap (λ y. line_cause o s (head_of_line line) y (sense_of o s.labels (head_of_line line) y)) ews in
+    er ∙ e1 ∙ e2 ∙ e3 ∙ ap (λ b. cond b (line_cause o s (head_of_line line) (operands_of_line line) (sense_of o s.labels (head_of_line line) (operands_of_line line))) (Some NotUtf8)) (sym e)

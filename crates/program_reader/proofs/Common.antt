@@ -14,14 +14,14 @@ pub use Rattle.plain_vec.proofs.Numbers.{above_zero}
 pub use Rattle.plain_vec.proofs.Options.{none_of}
 pub use Rattle.plain_vec.proofs.Places.{got_some}
 pub use Rattle.program_reader.specs.Around.{head_of_line, operands_of_line, outline_of, label_line, labels_onto, ends_body, begun_name, noted_if, outline_line, outline_above, outline_onto, no_labels, looped_name, is_inside, is_open_after, labels_above, labels_after, begins, begun_above, orders, orders_above}
-pub use Rattle.program_reader.specs.Fault.{LineContext, is_misplaced, has_wrong_operand, leaves_open, is_second, names_no_function, names_no_label, lacks_main, is_too_many, first_cause, fault_by, fault_on, first_fault, spot_of, fault_from, or_later, is_named_in, is_begin}
+pub use Rattle.program_reader.specs.Fault.{LineContext, is_misplaced, has_wrong_operand, leaves_open, is_second, names_no_function, names_no_label, lacks_main, is_too_many, first_cause, line_cause, fault_on, first_fault, spot_of, first_fault_from, or_later_fault, is_named_in, is_begin}
 pub use Rattle.program_reader.specs.Laws.{turned}
 pub use Rattle.program_reader.specs.LoopLaw.{LoopsAreRead}
-pub use Rattle.program_reader.specs.Names.{is_noted, NotedName, noted, place_of, noted_name_of, is_name, numbered_of}
+pub use Rattle.program_reader.specs.Names.{is_noted, NotedName, with_name, name_index, noted_name_of, is_name, numbered_of}
 pub use Rattle.program_reader.specs.Operands.{field_count, int_register, ref_register}
-pub use Rattle.program_reader.specs.Program.{functions_from, program_of, unless_refused, reading_of, loop_functions, loops_from, on_line, function_of, loop_from, number_of, with_function, code_from, line_of, code_by}
+pub use Rattle.program_reader.specs.Program.{functions_from, program_of, unless_refused, reading_of, loop_functions, loops_from, on_line, function_of, loop_from, function_number, with_function, code_from, line_of, code_by}
 pub use Rattle.program_reader.specs.Reading.{spot_in, after_begin, after_line, line_taken, program_in, after_order, nothing_read, after_end}
-pub use Rattle.program_reader.specs.Sense.{sense_of, IsSmall, only_name, loop_function, looping, named, one, two, three, five, plain, plain_one, plain_two, plain_three, plain_five, at_label, jump_on_zero, calling, forking, order_alone, order_one, order_two, order_of, alone}
+pub use Rattle.program_reader.specs.Sense.{sense_of, IsSmall, only_name, loop_function, looping, sense_of_name, one, two, three, five, plain, plain_one, plain_two, plain_three, plain_five, at_label, jump_on_zero, calling, forking, order_alone, order_one, order_two, ordered_sense, alone}
 pub use Rattle.program_reader.specs.declared.cause.Cause.{Cause}
 pub use Rattle.program_reader.specs.declared.cause.Cause.TheVariants.{NotUtf8, Word, Operand, NoEnd, TwoNames, NoName, NoLabel, NoMain, TooMany}
 pub use Rattle.program_reader.specs.declared.cause.TextFault.{TextFault}

@@ -1,18 +1,18 @@
 -- The first fault, of all lines.
-use Rattle.program_reader.proofs.Common.{◌≡◌, ◌<◌, ◌+◌, ◌++◌, ℕ, List, [], ◌∷◌, length, arith, refl, ap, sym, ◌∙◌, Option, Some, None, Cause, TextFault, Outline, spot_of, fault_on, fault_from, or_later, turned}
+use Rattle.program_reader.proofs.Common.{◌≡◌, ◌<◌, ◌+◌, ◌++◌, ℕ, List, [], ◌∷◌, length, arith, refl, ap, sym, ◌∙◌, Option, Some, None, Cause, TextFault, Outline, spot_of, fault_on, first_fault_from, or_later_fault, turned}
 use Rattle.program_reader.proofs.Passing.{Lines}
 
 -- the first cause on a line below others
 abbrev cause_at : Outline → Lines → List ℕ → Lines → Option Cause
 cause_at o above line below = fault_on o (spot_of above line below) line
 
-none_here : (c : Option Cause) (n : ℕ) (later : Option TextFault) → or_later c n later ≡ None → (c ≡ None) × (later ≡ None)
+none_here : (c : Option Cause) (n : ℕ) (later : Option TextFault) → or_later_fault c n later ≡ None → (c ≡ None) × (later ≡ None)
 none_here None n later e = (refl, e)
 none_here (Some c) n later e = absurd (cc)
 
-pub no_faults : (o : Outline) (above : Lines) (before : Lines) (line : List ℕ) (below : Lines) → fault_from o above (before ++ line ∷ below) ≡ None → cause_at o (turned above before) line below ≡ None
-no_faults o above [] line below e = (none_here (cause_at o above line below) (length above + 1) (fault_from o (line ∷ above) below) e).0
-no_faults o above (l ∷ ls) line below e = no_faults o (l ∷ above) ls line below (none_here (cause_at o above l (ls ++ line ∷ below)) (length above + 1) (fault_from o (l ∷ above) (ls ++ line ∷ below)) e).1
+pub no_faults : (o : Outline) (above : Lines) (before : Lines) (line : List ℕ) (below : Lines) → first_fault_from o above (before ++ line ∷ below) ≡ None → cause_at o (turned above before) line below ≡ None
+no_faults o above [] line below e = (none_here (cause_at o above line below) (length above + 1) (first_fault_from o (line ∷ above) below) e).0
+no_faults o above (l ∷ ls) line below e = no_faults o (l ∷ above) ls line below (none_here (cause_at o above l (ls ++ line ∷ below)) (length above + 1) (first_fault_from o (l ∷ above) (ls ++ line ∷ below)) e).1
 
 pub record IsFirst (o : Outline) (above ls : Lines) (r : TextFault) : Type 0 where
   pub before : Lines
@@ -59,10 +59,10 @@ fault_of_cause o above l ls r c some e = record {
   first = λ earlier other later d lt. absurd (let t : length earlier < 0 = lt in omega arith);
 }
 
-by_first : (o : Outline) (above : Lines) (l : List ℕ) (ls : Lines) (r : TextFault) (c : Option Cause) → cause_at o above l ls ≡ c → (fault_from o (l ∷ above) ls ≡ Some r → IsFirst o (l ∷ above) ls r) → or_later c (length above + 1) (fault_from o (l ∷ above) ls) ≡ Some r → IsFirst o above (l ∷ ls) r
+by_first : (o : Outline) (above : Lines) (l : List ℕ) (ls : Lines) (r : TextFault) (c : Option Cause) → cause_at o above l ls ≡ c → (first_fault_from o (l ∷ above) ls ≡ Some r → IsFirst o (l ∷ above) ls r) → or_later_fault c (length above + 1) (first_fault_from o (l ∷ above) ls) ≡ Some r → IsFirst o above (l ∷ ls) r
 by_first o above l ls r None e next some = after o above l ls r e (next some)
 by_first o above l ls r (Some c) e next some = fault_of_cause o above l ls r c e (some_is (record { line = length above + 1; cause = c }) r some)
 
-pub is_first : (o : Outline) (above ls : Lines) (r : TextFault) → fault_from o above ls ≡ Some r → IsFirst o above ls r
+pub is_first : (o : Outline) (above ls : Lines) (r : TextFault) → first_fault_from o above ls ≡ Some r → IsFirst o above ls r
 is_first o above [] r e = absurd (cc)
 is_first o above (l ∷ ls) r e = by_first o above l ls r (cause_at o above l ls) refl (is_first o (l ∷ above) ls r) e

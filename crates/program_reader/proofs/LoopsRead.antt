@@ -1,5 +1,5 @@
 -- A text without a fault has the functions of its loops after those that its lines begin.
-use Rattle.program_reader.proofs.Common.{◌≡◌, ◌<◌, ◌+◌, ◌*◌, ◌++◌, ℕ, zero, suc, Bool, true, false, cond, List, [], ◌∷◌, length, arith, refl, ap, sym, ◌∙◌, get_or, length-append, Option, Some, None, map, slice_get, codes, bytes_eq, is_utf8, unwrap_or, position-Some, get_or_from_slice_get, bytes_eq-Decides, got_back, got_front, got_some, Instr, Line, Fun, code_of, lines_of, instrs_of, whole_code, left_code, right_code, Cause, NotUtf8, TextFault, Head, Begin, WrongOperand, Outline, NotedName, is_noted, noted, place_of, sense_of, loop_function, looping, only_name, head_of_line, operands_of_line, begun_name, noted_if, outline_line, outline_above, outline_onto, outline_of, no_labels, labels_onto, spot_of, is_misplaced, has_wrong_operand, leaves_open, is_named_in, is_second, names_no_function, names_no_label, lacks_main, is_too_many, first_cause, fault_by, fault_on, or_later, fault_from, on_line, function_of, loop_from, loop_functions, loops_from, number_of, with_function, functions_from, code_from, LoopsAreRead}
+use Rattle.program_reader.proofs.Common.{◌≡◌, ◌<◌, ◌+◌, ◌*◌, ◌++◌, ℕ, zero, suc, Bool, true, false, cond, List, [], ◌∷◌, length, arith, refl, ap, sym, ◌∙◌, get_or, length-append, Option, Some, None, map, slice_get, codes, bytes_eq, is_utf8, unwrap_or, position-Some, get_or_from_slice_get, bytes_eq-Decides, got_back, got_front, got_some, Instr, Line, Fun, code_of, lines_of, instrs_of, whole_code, left_code, right_code, Cause, NotUtf8, TextFault, Head, Begin, WrongOperand, Outline, NotedName, is_noted, with_name, name_index, sense_of, loop_function, looping, only_name, head_of_line, operands_of_line, begun_name, noted_if, outline_line, outline_above, outline_onto, outline_of, no_labels, labels_onto, spot_of, is_misplaced, has_wrong_operand, leaves_open, is_named_in, is_second, names_no_function, names_no_label, lacks_main, is_too_many, first_cause, line_cause, fault_on, or_later_fault, first_fault_from, on_line, function_of, loop_from, loop_functions, loops_from, function_number, with_function, functions_from, code_from, LoopsAreRead}
 
 -- AS MANY FUNCTIONS AS NAMES
 
@@ -22,13 +22,13 @@ not_second o above l ls e =
     let ws = operands_of_line l in
     let sense = sense_of o s.labels h ws in
     no_second (is_misplaced s.inside h) (has_wrong_operand sense) (leaves_open s h) (is_second s h ws) (names_no_function sense) (names_no_label sense) (lacks_main o s) (is_too_many s h)
-    (no_fault_by (is_utf8 l) (fault_by o s h ws sense) NotUtf8 e)
+    (no_fault_by (is_utf8 l) (line_cause o s h ws sense) NotUtf8 e)
 
 abbrev one_if : Option (List ℕ) → ℕ
 one_if None = 0
 one_if (Some name) = 1
 
-noted_new : (es : List NotedName) (name : List ℕ) (number : ℕ) → is_noted es name ≡ false → length (noted es name number) ≡ length es + 1
+noted_new : (es : List NotedName) (name : List ℕ) (number : ℕ) → is_noted es name ≡ false → length (with_name es name number) ≡ length es + 1
 noted_new es name number new = ap (λ b. length (cond b es (es ++ record { name = name; number = number } ∷ []))) new ∙ length-append es (record { name = name; number = number } ∷ [])
 
 noted_if_new : (es : List NotedName) (name : Option (List ℕ)) (number : ℕ) → is_named_in es name ≡ false → length (noted_if es name number) ≡ length es + one_if name
@@ -45,22 +45,22 @@ line_begins : (name : Option (List ℕ)) (code : List Line) (rest : List Fun) �
 line_begins None code rest = omega arith
 line_begins (Some name) code rest = let e : length (with_function (Some name) code rest) ≡ suc (length rest) = refl in omega arith
 
-first_part : (c : Option Cause) (n : ℕ) (later : Option TextFault) → or_later c n later ≡ None → c ≡ None
+first_part : (c : Option Cause) (n : ℕ) (later : Option TextFault) → or_later_fault c n later ≡ None → c ≡ None
 first_part None n later e = refl
 first_part (Some cause) n later e = absurd cc
 
-later_part : (c : Option Cause) (n : ℕ) (later : Option TextFault) → or_later c n later ≡ None → later ≡ None
+later_part : (c : Option Cause) (n : ℕ) (later : Option TextFault) → or_later_fault c n later ≡ None → later ≡ None
 later_part None n later e = e
 later_part (Some cause) n later e = absurd cc
 
-as_many : (o : Outline) (above ls : List (List ℕ)) (number : ℕ) → number ≡ length above + 1 → fault_from o above ls ≡ None
+as_many : (o : Outline) (above ls : List (List ℕ)) (number : ℕ) → number ≡ length above + 1 → first_fault_from o above ls ≡ None
     → length (functions_from o number ls) + length (outline_above above).functions ≡ length (outline_onto number (outline_above above) ls).functions
 as_many o above [] number e none = let z : length (functions_from o number []) ≡ 0 = refl in omega arith
 as_many o above (l ∷ ls) number e none =
     let name = begun_name (head_of_line l) (operands_of_line l) in
     let fault = fault_on o (spot_of above l ls) l in
-    let here = first_part fault (length above + 1) (fault_from o (l ∷ above) ls) none in
-    let below = later_part fault (length above + 1) (fault_from o (l ∷ above) ls) none in
+    let here = first_part fault (length above + 1) (first_fault_from o (l ∷ above) ls) none in
+    let below = later_part fault (length above + 1) (first_fault_from o (l ∷ above) ls) none in
     let next : number + 1 ≡ length (l ∷ above) + 1 = let s : length (l ∷ above) ≡ suc (length above) = refl in omega arith in
     let rest = as_many o (l ∷ above) ls (number + 1) next below in
     let notes = line_notes above l ls (head_of_line l) (operands_of_line l) (length above + 1) (not_second o above l ls here) in
@@ -100,7 +100,7 @@ module _ (o : Outline) where
 
 -- THE LAW
 
-place_names : (es : List NotedName) (name : List ℕ) (k : ℕ) → place_of es name ≡ Some k → (e : NotedName) × (slice_get es k ≡ Some e) × (e.name ≡ name)
+place_names : (es : List NotedName) (name : List ℕ) (k : ℕ) → name_index es name ≡ Some k → (e : NotedName) × (slice_get es k ≡ Some e) × (e.name ≡ name)
 place_names es name k place =
     let d : NotedName = record { name = []; number = 0 } in
     let within = position-Some (λ (e : NotedName). bytes_eq name e.name) es k d place in
@@ -115,18 +115,18 @@ loops_are_read text name f k none is_name_of is_f is_k =
     let fs = functions_from o 1 (lines_of text) in
     let long : length fs ≡ length o.functions = let h = as_many o [] (lines_of text) 1 refl none in omega arith in
     let e = place_names o.loops name k is_k in
-    let body : number_of o e.0.name ≡ f = ap (λ n. number_of o n) e.2 ∙ ap (λ z. unwrap_or z 0) is_f in
+    let body : function_number o e.0.name ≡ f = ap (λ n. function_number o n) e.2 ∙ ap (λ z. unwrap_or z 0) is_f in
     let first = loop_function o k in
     let d : NotedName = record { name = []; number = 0 } in
     let within = position-Some (λ (e : NotedName). bytes_eq name e.name) o.functions f d is_f in
     let few : f < length o.functions = within.0 in
-    let main = number_of o (codes "main") in (
+    let main = function_number o (codes "main") in (
       loop_from f first,
       record {
-        instr = ap (λ b. cond b (looping o (place_of o.functions name) (place_of o.loops name)) WrongOperand) is_name_of ∙ (λ z. looping o (is_f z) (is_k z));
+        instr = ap (λ b. cond b (looping o (name_index o.functions name) (name_index o.loops name)) WrongOperand) is_name_of ∙ (λ z. looping o (is_f z) (is_k z));
         body = is_f;
         runs = record {
-          whole = instrs_at o fs main long k e.0 e.1 0 _ (whole_code (loop_from (number_of o e.0.name) first)) refl (omega arith) first (omega arith) ∙ ap (λ b. whole_code (loop_from b first)) body;
+          whole = instrs_at o fs main long k e.0 e.1 0 _ (whole_code (loop_from (function_number o e.0.name) first)) refl (omega arith) first (omega arith) ∙ ap (λ b. whole_code (loop_from b first)) body;
           left = instrs_at o fs main long k e.0 e.1 1 _ (left_code first) refl (omega arith) (first + 1) refl;
           right = instrs_at o fs main long k e.0 e.1 2 _ (right_code first) refl (omega arith) (first + 2) refl;
           apart = λ h. omega arith;

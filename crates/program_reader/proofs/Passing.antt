@@ -1,5 +1,5 @@
 -- Lines without a fault, and the lines that follow them: what the crates above say of texts by their lines.
-use Rattle.program_reader.proofs.Common.{◌≡◌, ◌≤◌, ◌<◌, ◌+◌, ◌++◌, ℕ, Bool, true, false, cond, List, [], ◌∷◌, length, arith, refl, ap, sym, ◌∙◌, ◌&&◌, ◌||◌, true≢false, Option, Some, None, not, nat_le, codes, is_utf8, list_all, and_parts, and_left, take_all, is_last, Instr, Head, Blank, Begin, End, Label, Order, Unknown, Verb, Sense, Fits, Does, WrongOperand, NoSuchFunction, NoSuchLabel, Outline, Labels, NotedName, noted_name_of, is_noted, noted, place_of, sense_of, only_name, named, head_of_line, operands_of_line, is_inside, is_open_after, ends_body, label_line, labels_above, labels_after, labels_onto, noted_if, begins, begun_above, begun_name, orders, orders_above, outline_above, LineContext, spot_of, is_named_in, is_begin, is_misplaced, fault_by, fault_on, fault_from, or_later, turned}
+use Rattle.program_reader.proofs.Common.{◌≡◌, ◌≤◌, ◌<◌, ◌+◌, ◌++◌, ℕ, Bool, true, false, cond, List, [], ◌∷◌, length, arith, refl, ap, sym, ◌∙◌, ◌&&◌, ◌||◌, true≢false, Option, Some, None, not, nat_le, codes, is_utf8, list_all, and_parts, and_left, take_all, is_last, Instr, Head, Blank, Begin, End, Label, Order, Unknown, Verb, Sense, Fits, Does, WrongOperand, NoSuchFunction, NoSuchLabel, Outline, Labels, NotedName, noted_name_of, is_noted, with_name, name_index, sense_of, only_name, sense_of_name, head_of_line, operands_of_line, is_inside, is_open_after, ends_body, label_line, labels_above, labels_after, labels_onto, noted_if, begins, begun_above, begun_name, orders, orders_above, outline_above, LineContext, spot_of, is_named_in, is_begin, is_misplaced, line_cause, fault_on, first_fault_from, or_later_fault, turned}
 use Rattle.program_reader.proofs.Causes.{gives_none, gives_fault}
 use Rattle.program_reader.proofs.Steps.{new_name}
 use Rattle.program_reader.proofs.Tables.{comes_before, noted_before}
@@ -8,12 +8,12 @@ abbrev pub Lines : Type 0
 Lines = List (List ℕ)
 
 -- a line without a fault is passed
-pub passes : (o : Outline) (above : Lines) (l : List ℕ) (ls : Lines) → fault_on o (spot_of above l ls) l ≡ None → fault_from o above (l ∷ ls) ≡ fault_from o (l ∷ above) ls
-passes o above l ls e = ap (λ c. or_later c (length above + 1) (fault_from o (l ∷ above) ls)) e
+pub passes : (o : Outline) (above : Lines) (l : List ℕ) (ls : Lines) → fault_on o (spot_of above l ls) l ≡ None → first_fault_from o above (l ∷ ls) ≡ first_fault_from o (l ∷ above) ls
+passes o above l ls e = ap (λ c. or_later_fault c (length above + 1) (first_fault_from o (l ∷ above) ls)) e
 
 -- what a line says, and that it is no fault there
 module _ (o : Outline) (s : LineContext) (l : List ℕ) (utf8 : is_utf8 l ≡ true) where
-  by_sense : (h : Head) (ws : Lines) (x : Sense) → head_of_line l ≡ h → operands_of_line l ≡ ws → sense_of o s.labels h ws ≡ x → fault_by o s h ws x ≡ None → fault_on o s l ≡ None
+  by_sense : (h : Head) (ws : Lines) (x : Sense) → head_of_line l ≡ h → operands_of_line l ≡ ws → sense_of o s.labels h ws ≡ x → line_cause o s h ws x ≡ None → fault_on o s l ≡ None
   by_sense h ws x eh ew ex ef = sym (gives_fault o s l None h ws x utf8 (sym eh) (sym ew) (sym ex) (sym ef))
 
   shut : (i t : Bool) → i ≡ true → t ≡ false → ((i && false) || (t && i)) ≡ false
@@ -38,7 +38,7 @@ module _ (o : Outline) (s : LineContext) (l : List ℕ) (utf8 : is_utf8 l ≡ tr
   -- a label in a function
   pub label_free : (name : List ℕ) → head_of_line l ≡ Label → only_name (operands_of_line l) ≡ Some name → s.inside ≡ true → s.last ≡ false → is_noted s.labeled name ≡ false → fault_on o s l ≡ None
   label_free name eh en inside last new =
-      by_sense Label (operands_of_line l) Fits eh refl (ap named en)
+      by_sense Label (operands_of_line l) Fits eh refl (ap sense_of_name en)
       (sym (gives_none o s Label (operands_of_line l) Fits (ap (λ b. is_misplaced b Label) inside) refl (shut s.inside s.last inside last) (ap (λ n. is_named_in s.labeled n) en ∙ new) refl refl (and_left s.last (not (is_noted o.functions (codes "main"))) last) refl))
 
   -- the end of a function
@@ -50,7 +50,7 @@ module _ (o : Outline) (s : LineContext) (l : List ℕ) (utf8 : is_utf8 l ≡ tr
   -- the start of a function
   pub begin_free : (name : List ℕ) → head_of_line l ≡ Begin → only_name (operands_of_line l) ≡ Some name → s.inside ≡ false → s.last ≡ false → is_noted s.named name ≡ false → nat_le 1024 s.begun ≡ false → fault_on o s l ≡ None
   begin_free name eh en outside last new few =
-      by_sense Begin (operands_of_line l) Fits eh refl (ap named en)
+      by_sense Begin (operands_of_line l) Fits eh refl (ap sense_of_name en)
       (sym (gives_none o s Begin (operands_of_line l) Fits (ap (λ b. is_misplaced b Begin) outside) refl (shut_begin s.inside s.last outside last) (ap (λ n. is_named_in s.named n) en ∙ new) refl refl (and_left s.last (not (is_noted o.functions (codes "main"))) last) few))
 
   -- an empty line after all functions
@@ -146,7 +146,7 @@ not_last (l ∷ ls) rest e = refl
 pub record Passed (o : Outline) (labels passed : List NotedName) (above ls rest : Lines) (most : ℕ) : Type 0 where
   pub within : Within labels passed (turned above ls) rest
   pub orders : orders_above (turned above ls) ≤ most
-  pub faults : fault_from o above (ls ++ rest) ≡ fault_from o (turned above ls) rest
+  pub faults : first_fault_from o above (ls ++ rest) ≡ first_fault_from o (turned above ls) rest
 
 pub orders_pass : (o : Outline) (labels passed : List NotedName) (ls above rest : Lines) (most : ℕ) → list_all (is_read o labels) ls ≡ true → Within labels passed above (ls ++ rest) → orders_above above + length ls ≤ most → most ≤ 65536
     → is_last rest ≡ false → Passed o labels passed above ls rest most
@@ -165,9 +165,9 @@ orders_pass o labels passed (l ∷ ls) above rest most all w few le last =
 
 pub record Marked (o : Outline) (labels passed : List NotedName) (name : List ℕ) (above : Lines) (l : List ℕ) (rest : Lines) : Type 0 where
   pub number : ℕ
-  pub within : Within labels (noted passed name number) (l ∷ above) rest
+  pub within : Within labels (with_name passed name number) (l ∷ above) rest
   pub orders : orders_above (l ∷ above) ≤ orders_above above
-  pub faults : fault_from o above (l ∷ rest) ≡ fault_from o (l ∷ above) rest
+  pub faults : first_fault_from o above (l ∷ rest) ≡ first_fault_from o (l ∷ above) rest
 
 pub label_passes : (o : Outline) (labels passed : List NotedName) (name : List ℕ) (above : Lines) (l : List ℕ) (rest : Lines) → is_utf8 l ≡ true → head_of_line l ≡ Label → only_name (operands_of_line l) ≡ Some name
     → Within labels passed above (l ∷ rest) → is_noted passed name ≡ false → is_last rest ≡ false → Marked o labels passed name above l rest
@@ -179,7 +179,7 @@ label_passes o labels passed name above l rest utf8 eh en w new last = record {
     behind =
         ap (λ h. (labels_after h (operands_of_line l) (labels_above above)).entries) eh
         ∙ ap (λ n. noted_if (labels_above above).entries n (labels_above above).next) en
-        ∙ ap (λ es. noted es name (labels_above above).next) w.behind;
+        ∙ ap (λ es. with_name es name (labels_above above).next) w.behind;
   };
   orders = let none : orders (head_of_line l) ≡ 0 = ap orders eh in omega (arith, none);
   faults = passes o above l rest (label_free o (spot_of above l rest) l utf8 name eh en w.inside last (ap (λ es. is_noted es name) w.behind ∙ new));
@@ -239,10 +239,10 @@ pub some_place : (r : Option ℕ) (n : ℕ) → comes_before r n ≡ true → (k
 some_place None n e = absurd (true≢false (sym e))
 some_place (Some k) n e = (k, refl)
 
-pub has_place : (es : List NotedName) (name : List ℕ) → is_noted es name ≡ true → (k : ℕ) × (place_of es name ≡ Some k)
+pub has_place : (es : List NotedName) (name : List ℕ) → is_noted es name ≡ true → (k : ℕ) × (name_index es name ≡ Some k)
 has_place es name h =
-    some_place (place_of es name) (length es) (noted_before es name (length es) ∙ ap (λ xs. is_noted xs name) (take_all (length es) es (omega arith)) ∙ h)
+    some_place (name_index es name) (length es) (noted_before es name (length es) ∙ ap (λ xs. is_noted xs name) (take_all (length es) es (omega arith)) ∙ h)
 
 -- a name that isn't noted yet is noted after the others
-pub new_entry : (es : List NotedName) (name : List ℕ) (number : ℕ) → is_noted es name ≡ false → noted es name number ≡ es ++ noted_name_of name number ∷ []
+pub new_entry : (es : List NotedName) (name : List ℕ) (number : ℕ) → is_noted es name ≡ false → with_name es name number ≡ es ++ noted_name_of name number ∷ []
 new_entry es name number e = new_name es name number e

@@ -1,5 +1,5 @@
 -- Instructions name existing functions and places.
-use Rattle.program_reader.proofs.Common.{◌≡◌, ◌<◌, ◌≤◌, ◌+◌, ◌*◌, ℕ, Bool, true, false, cond, List, [], ◌∷◌, ◌++◌, length, arith, refl, subst, Option, Some, None, ◌&&◌, nat_le, bytes_eq, digits_value, and_parts, position-Some, Instr, NamesExist, signed_number, is_numeral, Verb, Set, Mov, Movr, Nil, Calc, Same, Jmp, Jz, Newm, Pack, Getr, Geti, Putr, Puti, Cntr, Cnti, Freeze, Cas, Call, Par, Pfor, Out, Head, Begin, Label, Order, Sense, Fits, Does, WrongOperand, Outline, Labels, NotedName, is_name, is_noted, place_of, numbered_of, int_register, ref_register, field_count, one, two, three, five, plain, plain_one, plain_two, plain_three, plain_five, at_label, jump_on_zero, calling, forking, looping, order_alone, order_one, order_two, order_of, only_name, head_of_line, operands_of_line, noted_if, label_line, labels_after, labels_above, labels_onto, ends_body}
+use Rattle.program_reader.proofs.Common.{◌≡◌, ◌<◌, ◌≤◌, ◌+◌, ◌*◌, ℕ, Bool, true, false, cond, List, [], ◌∷◌, ◌++◌, length, arith, refl, subst, Option, Some, None, ◌&&◌, nat_le, bytes_eq, digits_value, and_parts, position-Some, Instr, NamesExist, signed_number, is_numeral, Verb, Set, Mov, Movr, Nil, Calc, Same, Jmp, Jz, Newm, Pack, Getr, Geti, Putr, Puti, Cntr, Cnti, Freeze, Cas, Call, Par, Pfor, Out, Head, Begin, Label, Order, Sense, Fits, Does, WrongOperand, Outline, Labels, NotedName, is_name, is_noted, name_index, numbered_of, int_register, ref_register, field_count, one, two, three, five, plain, plain_one, plain_two, plain_three, plain_five, at_label, jump_on_zero, calling, forking, looping, order_alone, order_one, order_two, ordered_sense, only_name, head_of_line, operands_of_line, noted_if, label_line, labels_after, labels_above, labels_onto, ends_body}
 use Rattle.hh_lang.specs.declared.instr.Instr.TheVariants as does
 use Rattle.program_reader.specs.declared.head.Verb.TheVariants.{Ret}
 
@@ -29,7 +29,7 @@ numbered_at_most : (b : ℕ) (es : List NotedName) (name : List ℕ) (p : ℕ) �
 numbered_at_most b [] name p h e = absurd (cc)
 numbered_at_most b (e ∷ es) name p h eq = at_most_by b p e.number (numbered_of es name) (bytes_eq name e.name) h.0 (numbered_at_most b es name p h.1) eq
 
-pub place_below : (es : List NotedName) (name : List ℕ) (k : ℕ) → place_of es name ≡ Some k → k < length es
+pub place_below : (es : List NotedName) (name : List ℕ) (k : ℕ) → name_index es name ≡ Some k → k < length es
 place_below es name k e = (position-Some (λ x. bytes_eq name x.name) es k (record { name = []; number = 0 }) e).0
 
 either : (f p : ℕ) (b : Bool) (s t : Sense) → IsInRange f p s → IsInRange f p t → IsInRange f p (cond b s t)
@@ -122,11 +122,11 @@ module _ (o : Outline) (labels : List NotedName) (p : ℕ) (b : AreAtMost p labe
   jump_on_zero_in None c = tt
   jump_on_zero_in (Some a) c = either (all_functions o) (p + 1) (is_name c) (at_label (numbered_of labels c) (λ q. does.Jz a q)) WrongOperand (to_label_on_zero a (numbered_of labels c) c refl) tt
 
-  calling_in : (r : Option ℕ) (name : List ℕ) → place_of o.functions name ≡ r → In (calling r)
+  calling_in : (r : Option ℕ) (name : List ℕ) → name_index o.functions name ≡ r → In (calling r)
   calling_in None name e = tt
   calling_in (Some k) name e = let lt = place_below o.functions name k e in omega (arith, lt)
 
-  forking_in : (r s : Option ℕ) (a c : List ℕ) → place_of o.functions a ≡ r → place_of o.functions c ≡ s → In (forking r s)
+  forking_in : (r s : Option ℕ) (a c : List ℕ) → name_index o.functions a ≡ r → name_index o.functions c ≡ s → In (forking r s)
   forking_in None s a c e f = tt
   forking_in (Some k) None a c e f = tt
   forking_in (Some k) (Some m) a c e f =
@@ -134,15 +134,15 @@ module _ (o : Outline) (labels : List NotedName) (p : ℕ) (b : AreAtMost p labe
       let mt : m < all_functions o = omega (arith, place_below o.functions c m f) in
       (lt, mt)
 
-  looping_in : (r s : Option ℕ) (a : List ℕ) → place_of o.loops a ≡ s → In (looping o r s)
+  looping_in : (r s : Option ℕ) (a : List ℕ) → name_index o.loops a ≡ s → In (looping o r s)
   looping_in None s a e = tt
   looping_in (Some f) None a e = tt
   looping_in (Some f) (Some k) a e = let lt = place_below o.loops a k e in omega (arith, lt)
 
   one_operand : (v : Verb) (a : List ℕ) → In (order_one o labels v a)
   one_operand Jmp a = either (all_functions o) (p + 1) (is_name a) (at_label (numbered_of labels a) (λ q. does.Jmp q)) WrongOperand (to_label (numbered_of labels a) a refl) tt
-  one_operand Call a = either (all_functions o) (p + 1) (is_name a) (calling (place_of o.functions a)) WrongOperand (calling_in (place_of o.functions a) a refl) tt
-  one_operand Pfor a = either (all_functions o) (p + 1) (is_name a) (looping o (place_of o.functions a) (place_of o.loops a)) WrongOperand (looping_in (place_of o.functions a) (place_of o.loops a) a refl) tt
+  one_operand Call a = either (all_functions o) (p + 1) (is_name a) (calling (name_index o.functions a)) WrongOperand (calling_in (name_index o.functions a) a refl) tt
+  one_operand Pfor a = either (all_functions o) (p + 1) (is_name a) (looping o (name_index o.functions a) (name_index o.loops a)) WrongOperand (looping_in (name_index o.functions a) (name_index o.loops a) a refl) tt
   one_operand Nil a = plain_one_in Nil a
   one_operand Freeze a = plain_one_in Freeze a
   one_operand Out a = plain_one_in Out a
@@ -150,7 +150,7 @@ module _ (o : Outline) (labels : List NotedName) (p : ℕ) (b : AreAtMost p labe
 
   two_operands : (v : Verb) (a c : List ℕ) → In (order_two o labels v a c)
   two_operands Jz a c = jump_on_zero_in (int_register a) c
-  two_operands Par a c = either (all_functions o) (p + 1) (is_name a && is_name c) (forking (place_of o.functions a) (place_of o.functions c)) WrongOperand (forking_in (place_of o.functions a) (place_of o.functions c) a c refl refl) tt
+  two_operands Par a c = either (all_functions o) (p + 1) (is_name a && is_name c) (forking (name_index o.functions a) (name_index o.functions c)) WrongOperand (forking_in (name_index o.functions a) (name_index o.functions c) a c refl refl) tt
   two_operands Set a c = plain_two_in Set a c
   two_operands Mov a c = plain_two_in Mov a c
   two_operands Movr a c = plain_two_in Movr a c
@@ -163,7 +163,7 @@ module _ (o : Outline) (labels : List NotedName) (p : ℕ) (b : AreAtMost p labe
   no_operand _ = tt
 
   -- what an instruction names exists, and its operands yield an instruction or a fault
-  pub order_in : (v : Verb) (ws : List (List ℕ)) → IsInRange (all_functions o) (p + 1) (order_of o labels v ws)
+  pub order_in : (v : Verb) (ws : List (List ℕ)) → IsInRange (all_functions o) (p + 1) (ordered_sense o labels v ws)
   order_in v [] = no_operand v
   order_in v (a ∷ []) = one_operand v a
   order_in v (a ∷ c ∷ []) = two_operands v a c

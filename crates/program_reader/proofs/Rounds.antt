@@ -1,5 +1,5 @@
 -- Reading a text, line by line.
-use Rattle.program_reader.proofs.Common.{◌≡◌, ◌<◌, ◌≤◌, ◌+◌, ◌++◌, ◌^◌, ℕ, suc, Bool, true, false, cond, List, [], ◌∷◌, length, arith, refl, ap, sym, subst, ◌∙◌, Option, Some, None, ◌&&◌, ◌||◌, not, codes, is_utf8, append-nil, All-nil, both_ways, IsFunction, is_last, lines_of, Cause, NotUtf8, TextFault, Head, Blank, Begin, End, Label, Order, Unknown, Sense, Does, is_noted, Outline, Labels, Reader, sense_of, only_name, named, begun_name, head_of_line, operands_of_line, is_open_after, outline_of, outline_onto, outline_above, outline_line, no_labels, labels_above, labels_onto, ends_body, label_line, is_misplaced, is_begin, fault_by, fault_on, fault_from, first_fault, or_later, has_wrong_operand, code_from, functions_from, spot_in, after_line, after_begin, after_order, line_taken, nothing_read}
+use Rattle.program_reader.proofs.Common.{◌≡◌, ◌<◌, ◌≤◌, ◌+◌, ◌++◌, ◌^◌, ℕ, suc, Bool, true, false, cond, List, [], ◌∷◌, length, arith, refl, ap, sym, subst, ◌∙◌, Option, Some, None, ◌&&◌, ◌||◌, not, codes, is_utf8, append-nil, All-nil, both_ways, IsFunction, is_last, lines_of, Cause, NotUtf8, TextFault, Head, Blank, Begin, End, Label, Order, Unknown, Sense, Does, is_noted, Outline, Labels, Reader, sense_of, only_name, sense_of_name, begun_name, head_of_line, operands_of_line, is_open_after, outline_of, outline_onto, outline_above, outline_line, no_labels, labels_above, labels_onto, ends_body, label_line, is_misplaced, is_begin, line_cause, fault_on, first_fault_from, first_fault, or_later_fault, has_wrong_operand, code_from, functions_from, spot_in, after_line, after_begin, after_order, line_taken, nothing_read}
 use Rattle.program_reader.proofs.Causes.{IsFaultless, faultless}
 use Rattle.program_reader.proofs.LabelSteps.{goes_on}
 use Rattle.program_reader.proofs.Ranges.{all_functions, order_in, AreInside, onto_inside, above_inside}
@@ -30,7 +30,7 @@ module _ (o : Outline) (r : Reader) (above : List (List ℕ)) (l : List ℕ) (ls
   x = sense_of o r.labels.entries h ws
 
   fine : IsFaultless o (spot_in o r last) h ws x
-  fine = faultless o (spot_in o r last) h ws x (utf8_by (is_utf8 l) (fault_by o (spot_in o r last) h ws x) none)
+  fine = faultless o (spot_in o r last) h ws x (utf8_by (is_utf8 l) (line_cause o (spot_in o r last) h ws x) none)
 
   told : (k : Head) (vs : List (List ℕ)) → is_misplaced r.inside k ≡ false → Told o r.labels k vs (sense_of o r.labels.entries k vs)
   told Blank vs e = refl
@@ -59,7 +59,7 @@ module _ (o : Outline) (r : Reader) (above : List (List ℕ)) (l : List ℕ) (ls
   pub next_sound : SoundAt o (line_taken o r n l ls) (l ∷ above)
   next_sound = subst (λ k. Sound o (line_taken o r n l ls) (outline_above (l ∷ above)).functions (labels_above (l ∷ above)).next k) (let e : length above + 1 ≡ suc (length above) = omega arith in e) (sound_more o r above l ls n last f g few ws x h (stops l ls (labels_above above)) (told h ws fine.known) fine)
 
-  begin_kept : (name : Option (List ℕ)) (y : Sense) → y ≡ named name → has_wrong_operand y ≡ false → code_from o (labels_onto no_labels ls).entries (n + 1) ls ≡ code_from o (after_begin r name ls).labels.entries (n + 1) ls
+  begin_kept : (name : Option (List ℕ)) (y : Sense) → y ≡ sense_of_name name → has_wrong_operand y ≡ false → code_from o (labels_onto no_labels ls).entries (n + 1) ls ≡ code_from o (after_begin r name ls).labels.entries (n + 1) ls
   begin_kept None y e w = absurd (wrong_none y e w)
   begin_kept (Some name) y e w = refl
 
@@ -80,8 +80,8 @@ module _ (o : Outline) (r : Reader) (above : List (List ℕ)) (l : List ℕ) (ls
       made_more o r ls n last ws x (code_from o (labels_onto no_labels ls).entries (n + 1) ls) (code_from o r.labels.entries (n + 1) ls) (functions_from o (n + 1) ls) h (told h ws fine.known) fine
       ∙ ap (λ c. made (line_taken o r n l ls) c (functions_from o (n + 1) ls)) (code_kept h ws x (told h ws fine.known) fine.operand))
 
-  pub next_fault : last ≡ is_last ls → fault_from o (l ∷ above) ls ≡ fault_from o above (l ∷ ls)
-  next_fault e = ap (λ c. or_later c (length above + 1) (fault_from o (l ∷ above) ls)) (sym (sym (same_fault o r above ls l last f e) ∙ none))
+  pub next_fault : last ≡ is_last ls → first_fault_from o (l ∷ above) ls ≡ first_fault_from o above (l ∷ ls)
+  next_fault e = ap (λ c. or_later_fault c (length above + 1) (first_fault_from o (l ∷ above) ls)) (sym (sym (same_fault o r above ls l last f e) ∙ none))
 
   closed_by : (b c : Bool) → (b || (true && c)) ≡ false → c ≡ false
   closed_by true c e = absurd (cc)
@@ -104,7 +104,7 @@ pub record IsReading (o : Outline) (text : List ℕ) (r : Reader) (number : ℕ)
   pub counted : number ≡ length above + 1
   pub follows : Follows o r above rest
   pub sound : SoundAt o r above
-  pub fault : fault_from o above rest ≡ first_fault text
+  pub fault : first_fault_from o above rest ≡ first_fault text
   pub functions : made r (code_from o r.labels.entries number rest) (functions_from o number rest) ≡ functions_from o 1 (lines_of text)
 
 pub at_first : (text : List ℕ) (o : Outline) → o ≡ outline_of text → IsReading o text nothing_read 1 (lines_of text)
@@ -113,7 +113,7 @@ at_first text o e = record {
   counted = refl;
   follows = record { inside = refl; begun = refl; named = refl; whole = sym e; orders = refl; opened = λ t. absurd (both_ways false refl t) };
   sound = record { names = refl; done = All-nil (IsFunction (all_functions o)); code = λ t. absurd (both_ways false refl t); placed = λ t. absurd (both_ways false refl t); short = omega arith; begun = omega arith; labeled = omega arith; orders = omega arith };
-  fault = ap (λ p. fault_from p [] (lines_of text)) e;
+  fault = ap (λ p. first_fault_from p [] (lines_of text)) e;
   functions = refl;
 }
 
@@ -135,7 +135,7 @@ next_line o text r s n l ls last h le e none same =
 pub refused_at : (o : Outline) (text : List ℕ) (r : Reader) (n : ℕ) (l : List ℕ) (ls : List (List ℕ)) (last : Bool) (cause : Cause) → IsReading o text r n (l ∷ ls) → last ≡ is_last ls → fault_on o (spot_in o r last) l ≡ Some cause → first_fault text ≡ Some (record { line = n; cause = cause })
 refused_at o text r n l ls last cause h e some =
     sym h.fault
-    ∙ ap (λ c. or_later c (length h.above + 1) (fault_from o (l ∷ h.above) ls)) (sym (same_fault o r h.above ls l last h.follows e) ∙ some)
+    ∙ ap (λ c. or_later_fault c (length h.above + 1) (first_fault_from o (l ∷ h.above) ls)) (sym (same_fault o r h.above ls l last h.follows e) ∙ some)
     ∙ ap (λ k. let x : TextFault = record { line = k; cause = cause } in Some x) (sym h.counted)
 
 -- the last line

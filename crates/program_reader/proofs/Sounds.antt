@@ -1,5 +1,5 @@
 -- What was read so far is in range, and has the names that the lines give.
-use Rattle.program_reader.proofs.Common.{◌≡◌, ◌<◌, ◌≤◌, ◌+◌, ◌++◌, ◌^◌, ℕ, Bool, true, false, cond, List, [], ◌∷◌, length, map, take, arith, refl, ap, sym, subst, ◌∙◌, Option, Some, None, ◌&&◌, All, All-nil, All-push, both_ways, map-append, length_push, Ret, Line, Fun, NamesExist, IsFunction, EndsWithReturn, Head, Blank, Begin, End, Label, Order, Unknown, Sense, Fits, Does, WrongOperand, NoSuchFunction, NoSuchLabel, Outline, Reader, NotedName, is_noted, only_name, named, noted_if, begun_name, outline_above, labels_after, labels_above, labels_onto, ends_body, is_named_in, has_wrong_operand, names_no_function, names_no_label, line_of, spot_in, after_begin, after_end, after_order, after_line}
+use Rattle.program_reader.proofs.Common.{◌≡◌, ◌<◌, ◌≤◌, ◌+◌, ◌++◌, ◌^◌, ℕ, Bool, true, false, cond, List, [], ◌∷◌, length, map, take, arith, refl, ap, sym, subst, ◌∙◌, Option, Some, None, ◌&&◌, All, All-nil, All-push, both_ways, map-append, length_push, Ret, Line, Fun, NamesExist, IsFunction, EndsWithReturn, Head, Blank, Begin, End, Label, Order, Unknown, Sense, Fits, Does, WrongOperand, NoSuchFunction, NoSuchLabel, Outline, Reader, NotedName, is_noted, only_name, sense_of_name, noted_if, begun_name, outline_above, labels_after, labels_above, labels_onto, ends_body, is_named_in, has_wrong_operand, names_no_function, names_no_label, line_of, spot_in, after_begin, after_end, after_order, after_line}
 use Rattle.program_reader.proofs.Causes.{IsFaultless}
 use Rattle.program_reader.proofs.Ranges.{all_functions, IsInRange}
 use Rattle.program_reader.proofs.Spots.{Follows, first_named}
@@ -38,7 +38,7 @@ ends (l ∷ []) n = tt
 ends (l ∷ m ∷ ls) n = ends (m ∷ ls) n
 
 module _ (o : Outline) (r : Reader) (above : List (List ℕ)) (l : List ℕ) (ls : List (List ℕ)) (n : ℕ) (last : Bool) (f : Follows o r above (l ∷ ls)) (g : SoundAt o r above) (few : length above < 2 ^ 31) (ws : List (List ℕ)) (x : Sense) where
-  begin_sound : (name : Option (List ℕ)) → r.inside ≡ false → x ≡ named name → has_wrong_operand x ≡ false → is_named_in (take r.begun o.functions) name ≡ false → Sound o (after_begin r name ls) (noted_if (outline_above above).functions name (length above + 1)) 0 (length above + 1)
+  begin_sound : (name : Option (List ℕ)) → r.inside ≡ false → x ≡ sense_of_name name → has_wrong_operand x ≡ false → is_named_in (take r.begun o.functions) name ≡ false → Sound o (after_begin r name ls) (noted_if (outline_above above).functions name (length above + 1)) 0 (length above + 1)
   begin_sound None i e w a = absurd (wrong_none x e w)
   begin_sound (Some name) i e w a =
       let fresh : is_noted (outline_above above).functions name ≡ false = ap (λ es. is_noted es name) (sym (first_named o r above (l ∷ ls) f)) ∙ a in
@@ -62,8 +62,8 @@ module _ (o : Outline) (r : Reader) (above : List (List ℕ)) (l : List ℕ) (ls
       let before : fun_names r.done ++ r.name ∷ [] ≡ entry_names (outline_above above).functions = ap (λ b. cond b (fun_names r.done ++ r.name ∷ []) (fun_names r.done)) (sym i) ∙ g.names in
       let size : length code ≡ length r.code + 1 = length_push r.code (line_of Ret n) in
       let next : r.labels.next + 1 ≡ length code = ap (λ s. s.next + 1) stop ∙ ap (λ k. k + 1) (sym (g.placed i)) ∙ sym size in
-      let named : All (λ m. NamesExist (all_functions o) (length code) m.instr) code = subst (λ k. All (λ m. NamesExist (all_functions o) k m.instr) code) next (All-push (InRange o r) r.code (line_of Ret n) (g.code i) tt) in
-      let function : IsFunction (all_functions o) fun = record { sized = omega (arith, size, g.short, few); names = named; ends = ends r.code n } in
+      let sense_of_name : All (λ m. NamesExist (all_functions o) (length code) m.instr) code = subst (λ k. All (λ m. NamesExist (all_functions o) k m.instr) code) next (All-push (InRange o r) r.code (line_of Ret n) (g.code i) tt) in
+      let function : IsFunction (all_functions o) fun = record { sized = omega (arith, size, g.short, few); names = sense_of_name; ends = ends r.code n } in
       record {
         names = map-append (λ (u : Fun). u.name) r.done (fun ∷ []) ∙ before;
         done = All-push (IsFunction (all_functions o)) r.done fun g.done function;

@@ -1,5 +1,5 @@
 -- The reader's state agrees with its line's.
-use Rattle.program_reader.proofs.Common.{◌≡◌, ◌+◌, ℕ, Bool, true, false, cond, List, [], ◌∷◌, length, take, refl, ap, sym, ◌∙◌, Some, is_utf8, is_last, NotUtf8, Word, Head, Blank, Begin, End, Label, Order, Unknown, Sense, Outline, Reader, sense_of, only_name, named, alone, head_of_line, operands_of_line, is_inside, outline_above, outline_onto, labels_above, labels_onto, begun_above, orders_above, LineContext, spot_of, is_misplaced, fault_by, fault_on, spot_in}
+use Rattle.program_reader.proofs.Common.{◌≡◌, ◌+◌, ℕ, Bool, true, false, cond, List, [], ◌∷◌, length, take, refl, ap, sym, ◌∙◌, Some, is_utf8, is_last, NotUtf8, Word, Head, Blank, Begin, End, Label, Order, Unknown, Sense, Outline, Reader, sense_of, only_name, sense_of_name, alone, head_of_line, operands_of_line, is_inside, outline_above, outline_onto, labels_above, labels_onto, begun_above, orders_above, LineContext, spot_of, is_misplaced, line_cause, fault_on, spot_in}
 use Rattle.program_reader.proofs.Causes.{gives_word}
 use Rattle.program_reader.proofs.Prefixes.{functions_on, labels_on, first_are}
 
@@ -25,13 +25,13 @@ first_labeled r above rest f = ap (λ l. take r.labeled l.entries) f.labels ∙ 
 
 -- OUTSIDE A FUNCTION LABELS DO NOT MATTER
 
-inside_false : (h : Head) (o : Outline) (s : LineContext) (ws : List (List ℕ)) (x : Sense) → is_misplaced s.inside h ≡ true → fault_by o s h ws x ≡ Some Word
+inside_false : (h : Head) (o : Outline) (s : LineContext) (ws : List (List ℕ)) (x : Sense) → is_misplaced s.inside h ≡ true → line_cause o s h ws x ≡ Some Word
 inside_false h o s ws x e = sym (gives_word o s h ws x e)
 
 module _ (o : Outline) (s t : LineContext) (ws : List (List ℕ)) (i : s.inside ≡ false) (k : t.inside ≡ false) (l : s.last ≡ t.last) (n : s.named ≡ t.named) (b : s.begun ≡ t.begun) (d : s.orders ≡ t.orders) where
-  pub outside : (h : Head) → fault_by o s h ws (sense_of o s.labels h ws) ≡ fault_by o t h ws (sense_of o t.labels h ws)
-  outside Blank = λ j. fault_by o (record { inside = (i ∙ sym k) j; last = l j; named = n j; begun = b j; orders = d j; labeled = []; labels = [] }) Blank ws (alone ws)
-  outside Begin = λ j. fault_by o (record { inside = (i ∙ sym k) j; last = l j; named = n j; begun = b j; orders = d j; labeled = []; labels = [] }) Begin ws (named (only_name ws))
+  pub outside : (h : Head) → line_cause o s h ws (sense_of o s.labels h ws) ≡ line_cause o t h ws (sense_of o t.labels h ws)
+  outside Blank = λ j. line_cause o (record { inside = (i ∙ sym k) j; last = l j; named = n j; begun = b j; orders = d j; labeled = []; labels = [] }) Blank ws (alone ws)
+  outside Begin = λ j. line_cause o (record { inside = (i ∙ sym k) j; last = l j; named = n j; begun = b j; orders = d j; labeled = []; labels = [] }) Begin ws (sense_of_name (only_name ws))
   outside End = inside_false End o s ws (sense_of o s.labels End ws) (ap (λ v. is_misplaced v End) i) ∙ sym (inside_false End o t ws (sense_of o t.labels End ws) (ap (λ v. is_misplaced v End) k))
   outside Label = inside_false Label o s ws (sense_of o s.labels Label ws) (ap (λ v. is_misplaced v Label) i) ∙ sym (inside_false Label o t ws (sense_of o t.labels Label ws) (ap (λ v. is_misplaced v Label) k))
   outside (Order v) = inside_false (Order v) o s ws (sense_of o s.labels (Order v) ws) (ap (λ u. is_misplaced u (Order v)) i) ∙ sym (inside_false (Order v) o t ws (sense_of o t.labels (Order v) ws) (ap (λ u. is_misplaced u (Order v)) k))

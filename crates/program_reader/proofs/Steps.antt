@@ -1,15 +1,15 @@
 -- One more line without a fault.
-use Rattle.program_reader.proofs.Common.{◌≡◌, ◌+◌, ◌++◌, ℕ, Bool, true, false, cond, List, [], ◌∷◌, length, take, arith, refl, ap, sym, ◌∙◌, append_assoc, Option, Some, None, ◌&&◌, ◌||◌, both_ways, length_push, Instr, Ret, Line, Fun, Head, Blank, Begin, End, Label, Order, Unknown, Sense, Fits, Does, WrongOperand, NoSuchFunction, NoSuchLabel, Outline, Labels, Reader, NotedName, is_noted, noted, only_name, named, alone, is_inside, is_open_after, noted_if, begun_name, outline_above, label_line, labels_after, labels_above, labels_onto, ends_body, begins, begun_above, orders, orders_above, is_misplaced, has_wrong_operand, is_begin, is_named_in, names_no_function, names_no_label, line_of, code_by, with_function, spot_in, after_begin, after_end, after_order, after_line}
+use Rattle.program_reader.proofs.Common.{◌≡◌, ◌+◌, ◌++◌, ℕ, Bool, true, false, cond, List, [], ◌∷◌, length, take, arith, refl, ap, sym, ◌∙◌, append_assoc, Option, Some, None, ◌&&◌, ◌||◌, both_ways, length_push, Instr, Ret, Line, Fun, Head, Blank, Begin, End, Label, Order, Unknown, Sense, Fits, Does, WrongOperand, NoSuchFunction, NoSuchLabel, Outline, Labels, Reader, NotedName, is_noted, with_name, only_name, sense_of_name, alone, is_inside, is_open_after, noted_if, begun_name, outline_above, label_line, labels_after, labels_above, labels_onto, ends_body, begins, begun_above, orders, orders_above, is_misplaced, has_wrong_operand, is_begin, is_named_in, names_no_function, names_no_label, line_of, code_by, with_function, spot_in, after_begin, after_end, after_order, after_line}
 use Rattle.program_reader.proofs.Causes.{IsFaultless}
 use Rattle.program_reader.proofs.Ranges.{all_functions, IsInRange}
 use Rattle.program_reader.proofs.Spots.{IsOpen, Follows, first_named, first_labeled}
 
 -- ---- small facts
 
-pub wrong_none : (x : Sense) → x ≡ named None → has_wrong_operand x ≡ false → ⊥
+pub wrong_none : (x : Sense) → x ≡ sense_of_name None → has_wrong_operand x ≡ false → ⊥
 wrong_none x e f = both_ways (has_wrong_operand x) f (ap has_wrong_operand e)
 
-fits_named : (x : Sense) (name : Option (List ℕ)) → x ≡ named name → has_wrong_operand x ≡ false → x ≡ Fits
+fits_named : (x : Sense) (name : Option (List ℕ)) → x ≡ sense_of_name name → has_wrong_operand x ≡ false → x ≡ Fits
 fits_named x None e f = absurd (wrong_none x e f)
 fits_named x (Some name) e f = e
 
@@ -30,14 +30,14 @@ unknown_never true e = cc
 unknown_never false e = cc
 
 -- a new name is noted after the others
-pub new_name : (es : List NotedName) (name : List ℕ) (n : ℕ) → is_noted es name ≡ false → noted es name n ≡ es ++ record { name = name; number = n } ∷ []
+pub new_name : (es : List NotedName) (name : List ℕ) (n : ℕ) → is_noted es name ≡ false → with_name es name n ≡ es ++ record { name = name; number = n } ∷ []
 new_name es name n e = ap (λ b. cond b es (es ++ record { name = name; number = n } ∷ [])) e
 
 -- what a line of this kind says, as far as it matters
 abbrev pub Told : Outline → Labels → Head → List (List ℕ) → Sense → Type 0
 Told o labels (Order v) ws x = IsInRange (all_functions o) (labels.next + 1) x
-Told o labels Begin ws x = x ≡ named (only_name ws)
-Told o labels Label ws x = x ≡ named (only_name ws)
+Told o labels Begin ws x = x ≡ sense_of_name (only_name ws)
+Told o labels Label ws x = x ≡ sense_of_name (only_name ws)
 Told o labels _ ws x = x ≡ alone ws
 
 -- ---- what the lines say, with one more
@@ -50,7 +50,7 @@ pub record After (r : Reader) (above : List (List ℕ)) (h : Head) (ws : List (L
   pub opened : r.inside ≡ true → (r.labels ≡ labels_onto (labels_after h ws (labels_above above)) ls) × (length (labels_after h ws (labels_above above)).entries ≡ r.labeled)
 
 module _ (o : Outline) (r : Reader) (above : List (List ℕ)) (l : List ℕ) (ls : List (List ℕ)) (n : ℕ) (last : Bool) (f : Follows o r above (l ∷ ls)) (ws : List (List ℕ)) (x : Sense) where
-  begin_after : (name : Option (List ℕ)) → x ≡ named name → has_wrong_operand x ≡ false → is_named_in (take r.begun o.functions) name ≡ false → After (after_begin r name ls) above Begin ws name ls
+  begin_after : (name : Option (List ℕ)) → x ≡ sense_of_name name → has_wrong_operand x ≡ false → is_named_in (take r.begun o.functions) name ≡ false → After (after_begin r name ls) above Begin ws name ls
   begin_after None e w a = absurd (wrong_none x e w)
   begin_after (Some name) e w a =
       let fresh : is_noted (outline_above above).functions name ≡ false = ap (λ es. is_noted es name) (sym (first_named o r above (l ∷ ls) f)) ∙ a in
@@ -72,13 +72,13 @@ module _ (o : Outline) (r : Reader) (above : List (List ℕ)) (l : List ℕ) (ls
     opened = λ t. absurd (both_ways false refl t);
   }
 
-  label_labeled : (p : IsOpen r above (l ∷ ls)) (name : Option (List ℕ)) → x ≡ named name → has_wrong_operand x ≡ false → is_named_in (take r.labeled r.labels.entries) name ≡ false → length (noted_if (labels_above above).entries name (labels_above above).next) ≡ r.labeled + 1
+  label_labeled : (p : IsOpen r above (l ∷ ls)) (name : Option (List ℕ)) → x ≡ sense_of_name name → has_wrong_operand x ≡ false → is_named_in (take r.labeled r.labels.entries) name ≡ false → length (noted_if (labels_above above).entries name (labels_above above).next) ≡ r.labeled + 1
   label_labeled p None e w a = absurd (wrong_none x e w)
   label_labeled p (Some name) e w a =
       let fresh : is_noted (labels_above above).entries name ≡ false = ap (λ es. is_noted es name) (sym (first_labeled r above (l ∷ ls) p)) ∙ a in
       ap length (new_name (labels_above above).entries name (labels_above above).next fresh) ∙ length_push (labels_above above).entries (record { name = name; number = (labels_above above).next }) ∙ ap (λ k. k + 1) p.labeled
 
-  label_after : (ends_body Label ≡ false → labels_onto (labels_above above) (l ∷ ls) ≡ labels_onto (label_line Label ws (labels_above above)) ls) → x ≡ named (only_name ws) → has_wrong_operand x ≡ false → is_named_in (take r.labeled r.labels.entries) (only_name ws) ≡ false → After (record r { labeled = r.labeled + 1 }) above Label ws None ls
+  label_after : (ends_body Label ≡ false → labels_onto (labels_above above) (l ∷ ls) ≡ labels_onto (label_line Label ws (labels_above above)) ls) → x ≡ sense_of_name (only_name ws) → has_wrong_operand x ≡ false → is_named_in (take r.labeled r.labels.entries) (only_name ws) ≡ false → After (record r { labeled = r.labeled + 1 }) above Label ws None ls
   label_after on e w a = record {
     inside = f.inside;
     begun = omega (arith, f.begun);
@@ -129,7 +129,7 @@ abbrev pub made : Reader → List Line → List Fun → List Fun
 made r code rest = cond r.inside (r.done ++ record { name = r.name; code = r.code ++ code } ∷ rest) (r.done ++ rest)
 
 module _ (o : Outline) (r : Reader) (ls : List (List ℕ)) (n : ℕ) (last : Bool) (ws : List (List ℕ)) (x : Sense) (new code : List Line) (rest : List Fun) where
-  begin_made : (name : Option (List ℕ)) → r.inside ≡ false → x ≡ named name → has_wrong_operand x ≡ false → made r [] (with_function name new rest) ≡ made (after_begin r name ls) new rest
+  begin_made : (name : Option (List ℕ)) → r.inside ≡ false → x ≡ sense_of_name name → has_wrong_operand x ≡ false → made r [] (with_function name new rest) ≡ made (after_begin r name ls) new rest
   begin_made None i e w = absurd (wrong_none x e w)
   begin_made (Some name) i e w = ap (λ b. cond b (r.done ++ record { name = r.name; code = r.code ++ [] } ∷ record { name = name; code = new } ∷ rest) (r.done ++ record { name = name; code = new } ∷ rest)) i
 

@@ -1,5 +1,5 @@
 -- A table's names, as its map has them.
-use Rattle.program_reader.proofs.Common.{◌≡◌, ℕ, zero, suc, ◌+◌, Bool, true, false, cond, List, [], ◌∷◌, ◌++◌, length, take, map, refl, ap, sym, ◌∙◌, arith, Bor, nat_lt, ◌||◌, ◌&&◌, Option, Some, None, is_some, position, not, list_any, position_or_len, keys_of, lookup, bytes_eq, IndexMap, insert_entry, insert_entry-new, none_of, above_zero, NotedName, noted_name_of, is_noted, noted, place_of, numbered_of}
+use Rattle.program_reader.proofs.Common.{◌≡◌, ℕ, zero, suc, ◌+◌, Bool, true, false, cond, List, [], ◌∷◌, ◌++◌, length, take, map, refl, ap, sym, ◌∙◌, arith, Bor, nat_lt, ◌||◌, ◌&&◌, Option, Some, None, is_some, position, not, list_any, position_or_len, keys_of, lookup, bytes_eq, IndexMap, insert_entry, insert_entry-new, none_of, above_zero, NotedName, noted_name_of, is_noted, with_name, name_index, numbered_of}
 
 abbrev pub Pairs : Type 0
 Pairs = List (Bor (List ℕ) × ℕ)
@@ -19,7 +19,7 @@ same_length : (es : Pairs) → length (keys_of es) ≡ length (shown es)
 same_length [] = refl
 same_length (e ∷ es) = ap (λ n. suc n) (same_length es)
 
-pub found_place : (name : List ℕ) (es : Pairs) → position (is_key name) (keys_of es) ≡ place_of (shown es) name
+pub found_place : (name : List ℕ) (es : Pairs) → position (is_key name) (keys_of es) ≡ name_index (shown es) name
 found_place name es = rw (place_or_end name es, same_length es) refl
 
 pub found_number : (name : List ℕ) (es : Pairs) → lookup (is_key name) es ≡ numbered_of (shown es) name
@@ -38,13 +38,13 @@ shown_last : (es : Pairs) (k : Bor (List ℕ)) (number : ℕ) → shown (es ++ (
 shown_last [] k number = refl
 shown_last (e ∷ es) k number = ap (λ xs. noted_name_of e.0.now e.1 ∷ xs) (shown_last es k number)
 
-pub added_last : {S : Type 0} (k : Bor (List ℕ)) (number : ℕ) (m : IndexMap (Bor (List ℕ)) ℕ S) → is_some (lookup (is_key k.now) m.entries) ≡ false → shown (insert_entry (λ x y. bytes_eq x.now y.now) m.entries k number) ≡ noted (shown m.entries) k.now number
+pub added_last : {S : Type 0} (k : Bor (List ℕ)) (number : ℕ) (m : IndexMap (Bor (List ℕ)) ℕ S) → is_some (lookup (is_key k.now) m.entries) ≡ false → shown (insert_entry (λ x y. bytes_eq x.now y.now) m.entries k number) ≡ with_name (shown m.entries) k.now number
 added_last k number m h =
     ap shown (insert_entry-new (λ x y. bytes_eq x.now y.now) m k number (none_of (lookup (is_key k.now) m.entries) h))
     ∙ shown_last m.entries k number
     ∙ ap (λ t. cond t (shown m.entries) (shown m.entries ++ noted_name_of k.now number ∷ [])) (sym (sym (found_any k.now m.entries) ∙ h))
 
-pub kept_all : (name : List ℕ) (number : ℕ) (es : Pairs) → is_some (lookup (is_key name) es) ≡ true → shown es ≡ noted (shown es) name number
+pub kept_all : (name : List ℕ) (number : ℕ) (es : Pairs) → is_some (lookup (is_key name) es) ≡ true → shown es ≡ with_name (shown es) name number
 kept_all name number es h = ap (λ t. cond t (shown es) (shown es ++ noted_name_of name number ∷ [])) (sym h ∙ found_any name es)
 
 -- ONE OF THE FIRST n
@@ -78,5 +78,5 @@ at_first : (i n l : ℕ) (b : Bool) → nat_lt i l ≡ b → comes_before (cond 
 at_first i n l true e = grind arith
 at_first i n l false e = grind arith
 
-pub noted_before : (es : List NotedName) (name : List ℕ) (n : ℕ) → comes_before (place_of es name) n ≡ is_noted (take n es) name
+pub noted_before : (es : List NotedName) (name : List ℕ) (n : ℕ) → comes_before (name_index es name) n ≡ is_noted (take n es) name
 noted_before es name n = let p : NotedName → Bool = λ e. bytes_eq name e.name in at_first (position_or_len p es) n (length es) (nat_lt (position_or_len p es) (length es)) refl ∙ sym (any_first p es n)

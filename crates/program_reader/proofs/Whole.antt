@@ -1,5 +1,5 @@
 -- The functions of a text and those of its loops are a program.
-use Rattle.program_reader.proofs.Common.{◌≡◌, ◌<◌, ◌≤◌, ◌+◌, ◌*◌, ◌++◌, ℕ, zero, suc, true, List, [], ◌∷◌, length, get_or, arith, refl, ap, sym, subst, ◌∙◌, length-append, Option, Some, None, IsSomeAnd, slice_get, codes, unwrap_or, All, bytes_eq, take_all, All-append, All-nil, position-Some, bytes_eq-Decides, Fun, NamesExist, IsFunction, IsProgram, whole_code, left_code, right_code, Outline, NotedName, is_noted, place_of, IsSmall, loop_function, number_of, loop_from, on_line, loop_functions, loops_from, program_in}
+use Rattle.program_reader.proofs.Common.{◌≡◌, ◌<◌, ◌≤◌, ◌+◌, ◌*◌, ◌++◌, ℕ, zero, suc, true, List, [], ◌∷◌, length, get_or, arith, refl, ap, sym, subst, ◌∙◌, length-append, Option, Some, None, IsSomeAnd, slice_get, codes, unwrap_or, All, bytes_eq, take_all, All-append, All-nil, position-Some, bytes_eq-Decides, Fun, NamesExist, IsFunction, IsProgram, whole_code, left_code, right_code, Outline, NotedName, is_noted, name_index, IsSmall, loop_function, function_number, loop_from, on_line, loop_functions, loops_from, program_in}
 use Rattle.program_reader.proofs.Ranges.{all_functions, place_below}
 use Rattle.program_reader.proofs.Sounds.{fun_names, entry_names}
 use Rattle.program_reader.proofs.Tables.{noted_before}
@@ -35,23 +35,23 @@ half_in n first all a = (tt, (tt, (tt, (tt, (a, (tt, tt))))))
 other_half_in : (n first all : ℕ) → first < all → Each (λ l. NamesExist all 6 l.instr) (on_line n (right_code first))
 other_half_in n first all a = (tt, (tt, (tt, (tt, (a, (tt, tt))))))
 
-loop_in : (o : Outline) (first : ℕ) (e : NotedName) → number_of o e.name < all_functions o → first + 2 < all_functions o → Each (IsFunction (all_functions o)) (loop_functions o first e)
+loop_in : (o : Outline) (first : ℕ) (e : NotedName) → function_number o e.name < all_functions o → first + 2 < all_functions o → Each (IsFunction (all_functions o)) (loop_functions o first e)
 loop_in o first e a b =
     let one : first + 1 < all_functions o = omega (arith, b) in
     let none : first < all_functions o = omega (arith, b) in (
-      record { sized = omega arith; names = each_all (λ l. NamesExist (all_functions o) 16 l.instr) (on_line e.number (whole_code (loop_from (number_of o e.name) first))) (whole_in e.number (number_of o e.name) first (all_functions o) a one b); ends = tt },
+      record { sized = omega arith; names = each_all (λ l. NamesExist (all_functions o) 16 l.instr) (on_line e.number (whole_code (loop_from (function_number o e.name) first))) (whole_in e.number (function_number o e.name) first (all_functions o) a one b); ends = tt },
       (
         record { sized = omega arith; names = each_all (λ l. NamesExist (all_functions o) 6 l.instr) (on_line e.number (left_code first)) (half_in e.number first (all_functions o) none); ends = tt },
         (record { sized = omega arith; names = each_all (λ l. NamesExist (all_functions o) 6 l.instr) (on_line e.number (right_code first)) (other_half_in e.number first (all_functions o) none); ends = tt }, tt),
       ),
     )
 
-number_by : (o : Outline) (name : List ℕ) (r : Option ℕ) → 0 < length o.functions → place_of o.functions name ≡ r → unwrap_or r 0 < length o.functions
+number_by : (o : Outline) (name : List ℕ) (r : Option ℕ) → 0 < length o.functions → name_index o.functions name ≡ r → unwrap_or r 0 < length o.functions
 number_by o name None h e = h
 number_by o name (Some k) h e = place_below o.functions name k e
 
-number_in_range : (o : Outline) (name : List ℕ) → 0 < length o.functions → number_of o name < all_functions o
-number_in_range o name h = let lt = number_by o name (place_of o.functions name) h refl in omega (arith, lt)
+number_in_range : (o : Outline) (name : List ℕ) → 0 < length o.functions → function_number o name < all_functions o
+number_in_range o name h = let lt = number_by o name (name_index o.functions name) h refl in omega (arith, lt)
 
 loops_in : (o : Outline) (k : ℕ) (es : List NotedName) → 0 < length o.functions → k + length es ≤ length o.loops → All (IsFunction (all_functions o)) (loops_from o k es)
 loops_in o k [] h le = All-nil (IsFunction (all_functions o))
@@ -85,8 +85,8 @@ renamed None a b e h = h
 renamed (Some f) a b e h = h ∙ e
 
 -- a name that is noted has an index
-main_place : (o : Outline) → is_noted o.functions (codes "main") ≡ true → (k : ℕ) × (place_of o.functions (codes "main") ≡ Some k)
-main_place o h = some_place (place_of o.functions (codes "main")) (length o.functions) (noted_before o.functions (codes "main") (length o.functions) ∙ ap (λ es. is_noted es (codes "main")) (take_all (length o.functions) o.functions (omega arith)) ∙ h)
+main_place : (o : Outline) → is_noted o.functions (codes "main") ≡ true → (k : ℕ) × (name_index o.functions (codes "main") ≡ Some k)
+main_place o h = some_place (name_index o.functions (codes "main")) (length o.functions) (noted_before o.functions (codes "main") (length o.functions) ∙ ap (λ es. is_noted es (codes "main")) (take_all (length o.functions) o.functions (omega arith)) ∙ h)
 
 same_bytes : (xs ys : List ℕ) → bytes_eq xs ys ≡ true → ys ≡ xs
 same_bytes xs ys e = sym ((bytes_eq-Decides xs ys).0 e)
@@ -100,7 +100,7 @@ is_program o fs names done main small =
     let some : 0 < length o.functions = omega (arith, at.0) in
     let long : length (fs ++ loops_from o 0 o.loops) ≡ all_functions o = omega (arith, length-append fs (loops_from o 0 o.loops), names_length fs o.functions names, loops_length o 0 o.loops) in
     let each : All (IsFunction (all_functions o)) (fs ++ loops_from o 0 o.loops) = All-append (IsFunction (all_functions o)) fs (loops_from o 0 o.loops) done (loops_in o 0 o.loops some (omega arith)) in
-    let number : number_of o (codes "main") ≡ found.0 = ap (λ r. unwrap_or r 0) found.1 in
+    let number : function_number o (codes "main") ≡ found.0 = ap (λ r. unwrap_or r 0) found.1 in
     record {
       sized = omega (arith, long, small);
       each = subst (λ k. All (IsFunction k) (fs ++ loops_from o 0 o.loops)) (sym long) each;

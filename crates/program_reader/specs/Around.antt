@@ -7,7 +7,7 @@ use Rattle.program_reader.specs.declared.head.Head.TheVariants.{Begin, End, Labe
 use Rattle.program_reader.specs.declared.sense.Outline.{Outline}
 use Rattle.program_reader.specs.declared.labels.Labels.{Labels}
 use Rattle.text_lines.specs.Lines.{lines_of, words_of}
-use Rattle.program_reader.specs.Names.{NotedName, noted}
+use Rattle.program_reader.specs.Names.{NotedName, with_name}
 use Rattle.program_reader.specs.Head.{head_of_words, operands_of}
 use Rattle.program_reader.specs.Sense.{only_name}
 
@@ -32,7 +32,7 @@ is_inside (l ∷ above) = is_open_after (head_of_line l) (is_inside above)
 -- ---- the names of functions and of loops, each with the line on which it first occurs
 
 abbrev pub noted_if : List NotedName → Option (List ℕ) → ℕ → List NotedName
-noted_if es (Some name) number = noted es name number
+noted_if es (Some name) number = with_name es name number
 noted_if es None number = es
 
 -- the name of a line whose words are `fn` and a name

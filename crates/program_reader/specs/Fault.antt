@@ -115,8 +115,8 @@ first_cause word operand no_end two_names no_name no_label no_main too_many =
     else None
 
 -- the first cause on a line that is UTF-8
-abbrev pub fault_by : Outline → LineContext → Head → List (List ℕ) → Sense → Option Cause
-fault_by o s h ws sense = first_cause
+abbrev pub line_cause : Outline → LineContext → Head → List (List ℕ) → Sense → Option Cause
+line_cause o s h ws sense = first_cause
     (is_misplaced s.inside h)
     (has_wrong_operand sense)
     (leaves_open s h)
@@ -130,18 +130,18 @@ fault_by o s h ws sense = first_cause
 abbrev pub fault_on : Outline → LineContext → List ℕ → Option Cause
 fault_on o s line =
     if is_utf8 line
-    then fault_by o s (head_of_line line) (operands_of_line line) (sense_of o s.labels (head_of_line line) (operands_of_line line))
+    then line_cause o s (head_of_line line) (operands_of_line line) (sense_of o s.labels (head_of_line line) (operands_of_line line))
     else Some NotUtf8
 
-abbrev pub or_later : Option Cause → ℕ → Option TextFault → Option TextFault
-or_later (Some cause) number later = Some (record { line = number; cause = cause })
-or_later None number later = later
+abbrev pub or_later_fault : Option Cause → ℕ → Option TextFault → Option TextFault
+or_later_fault (Some cause) number later = Some (record { line = number; cause = cause })
+or_later_fault None number later = later
 
 -- the first line with a fault, of the lines that follow those above
-abbrev pub fault_from : Outline → List (List ℕ) → List (List ℕ) → Option TextFault
-fault_from o above [] = None
-fault_from o above (l ∷ ls) = or_later (fault_on o (spot_of above l ls) l) (length above + 1) (fault_from o (l ∷ above) ls)
+abbrev pub first_fault_from : Outline → List (List ℕ) → List (List ℕ) → Option TextFault
+first_fault_from o above [] = None
+first_fault_from o above (l ∷ ls) = or_later_fault (fault_on o (spot_of above l ls) l) (length above + 1) (first_fault_from o (l ∷ above) ls)
 
 -- the first fault of a text
 abbrev pub first_fault : List ℕ → Option TextFault
-first_fault text = fault_from (outline_of text) [] (lines_of text)
+first_fault text = first_fault_from (outline_of text) [] (lines_of text)

@@ -29,12 +29,12 @@ abbrev pub is_noted : List NotedName → List ℕ → Bool
 is_noted es name = list_any (λ e. bytes_eq name e.name) es
 
 -- a new name is noted after the others
-abbrev pub noted : List NotedName → List ℕ → ℕ → List NotedName
-noted es name number = if is_noted es name then es else es ++ record { name = name; number = number } ∷ []
+abbrev pub with_name : List NotedName → List ℕ → ℕ → List NotedName
+with_name es name number = if is_noted es name then es else es ++ record { name = name; number = number } ∷ []
 
 -- the index of a name
-abbrev pub place_of : List NotedName → List ℕ → Option ℕ
-place_of es name = position (λ e. bytes_eq name e.name) es
+abbrev pub name_index : List NotedName → List ℕ → Option ℕ
+name_index es name = position (λ e. bytes_eq name e.name) es
 
 abbrev pub noted_name_of : List ℕ → ℕ → NotedName
 noted_name_of name number = record { name = name; number = number }

@@ -15,7 +15,7 @@ use Rattle.program_reader.specs.declared.sense.Outline.{Outline}
 use Rattle.program_reader.specs.declared.cause.TextFault.{TextFault}
 use Rattle.program_reader.specs.Fault.{first_fault}
 use Rattle.text_lines.specs.Lines.{lines_of}
-use Rattle.program_reader.specs.Names.{NotedName, place_of}
+use Rattle.program_reader.specs.Names.{NotedName, name_index}
 use Rattle.program_reader.specs.Sense.{sense_of, loop_function}
 use Rattle.program_reader.specs.Around.{head_of_line, operands_of_line, begun_name, no_labels, labels_onto, outline_of}
 
@@ -51,8 +51,8 @@ functions_from o number (l ∷ ls) =
 
 -- ---- the functions of loops: for each function that a `pfor` names, `f?`, `f<` and `f>`
 
-abbrev pub number_of : Outline → List ℕ → ℕ
-number_of o name = unwrap_or (place_of o.functions name) 0
+abbrev pub function_number : Outline → List ℕ → ℕ
+function_number o name = unwrap_or (name_index o.functions name) 0
 
 -- all instructions with one line
 abbrev pub on_line : ℕ → List Instr → List Line
@@ -68,7 +68,7 @@ function_of name number code = record { name = name; code = on_line number code 
 -- the three functions of a loop; the first one's number is `first`, and all lines are that of the first `pfor f`
 abbrev pub loop_functions : Outline → ℕ → NotedName → List Fun
 loop_functions o first e =
-    function_of (e.name ++ codes "?") e.number (whole_code (loop_from (number_of o e.name) first)) ∷
+    function_of (e.name ++ codes "?") e.number (whole_code (loop_from (function_number o e.name) first)) ∷
     function_of (e.name ++ codes "<") e.number (left_code first) ∷
     function_of (e.name ++ codes ">") e.number (right_code first) ∷ []
 
@@ -83,7 +83,7 @@ loops_from o k (e ∷ es) = loop_functions o (loop_function o k) e ++ loops_from
 abbrev pub program_of : List ℕ → ProgramText
 program_of text =
     let o = outline_of text in
-    record { functions = functions_from o 1 (lines_of text) ++ loops_from o 0 o.loops; main = number_of o (codes "main") }
+    record { functions = functions_from o 1 (lines_of text) ++ loops_from o 0 o.loops; main = function_number o (codes "main") }
 
 abbrev pub unless_refused : Option TextFault → ProgramText → Result ProgramText TextFault
 unless_refused None p = Ok p

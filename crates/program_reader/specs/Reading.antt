@@ -10,7 +10,7 @@ use Rattle.program_reader.specs.declared.reader.Reader.{Reader}
 use Rattle.program_reader.specs.Sense.{only_name, sense_of}
 use Rattle.program_reader.specs.Around.{head_of_line, operands_of_line, no_labels, labels_onto}
 use Rattle.program_reader.specs.Fault.{LineContext}
-use Rattle.program_reader.specs.Program.{line_of, loops_from, number_of}
+use Rattle.program_reader.specs.Program.{line_of, loops_from, function_number}
 use Rattle.hh_lang.specs.declared.program.Fun.{Fun}
 use Rattle.hh_lang.specs.Form.{ProgramText}
 
@@ -61,4 +61,4 @@ nothing_read = record { inside = false; begun = 0; labeled = 0; orders = 0; labe
 
 -- the program of these functions and those of the loops
 abbrev pub program_in : Outline → List Fun → ProgramText
-program_in o functions = record { functions = functions ++ loops_from o 0 o.loops; main = number_of o (codes "main") }
+program_in o functions = record { functions = functions ++ loops_from o 0 o.loops; main = function_number o (codes "main") }

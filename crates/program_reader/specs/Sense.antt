@@ -10,7 +10,7 @@ use Rattle.program_reader.specs.declared.head.Head.TheVariants.{Begin, Label, Or
 use Rattle.program_reader.specs.declared.sense.Sense.{Sense}
 use Rattle.program_reader.specs.declared.sense.Sense.TheVariants.{Fits, Does, WrongOperand, NoSuchFunction, NoSuchLabel}
 use Rattle.program_reader.specs.declared.sense.Outline.{Outline}
-use Rattle.program_reader.specs.Names.{NotedName, is_name, place_of, numbered_of}
+use Rattle.program_reader.specs.Names.{NotedName, is_name, name_index, numbered_of}
 use Rattle.program_reader.specs.Operands.{int_register, ref_register, field_count}
 
 abbrev pub one : {A : Type 0} → Option A → (A → Instr) → Option Instr
@@ -82,14 +82,14 @@ calling (Some f) = Does (does.Call f)
 calling None = NoSuchFunction
 
 abbrev pub call : Outline → List ℕ → Sense
-call o a = if is_name a then calling (place_of o.functions a) else WrongOperand
+call o a = if is_name a then calling (name_index o.functions a) else WrongOperand
 
 abbrev pub forking : Option ℕ → Option ℕ → Sense
 forking (Some f) (Some g) = Does (does.Par f g)
 forking _ _ = NoSuchFunction
 
 abbrev pub fork : Outline → List ℕ → List ℕ → Sense
-fork o a b = if is_name a && is_name b then forking (place_of o.functions a) (place_of o.functions b) else WrongOperand
+fork o a b = if is_name a && is_name b then forking (name_index o.functions a) (name_index o.functions b) else WrongOperand
 
 -- the functions of loops follow those of the text, three for each loop
 abbrev pub loop_function : Outline → ℕ → ℕ
@@ -100,7 +100,7 @@ looping o (Some f) (Some k) = Does (does.Call (loop_function o k))
 looping o _ _ = NoSuchFunction
 
 abbrev pub loop_over : Outline → List ℕ → Sense
-loop_over o a = if is_name a then looping o (place_of o.functions a) (place_of o.loops a) else WrongOperand
+loop_over o a = if is_name a then looping o (name_index o.functions a) (name_index o.loops a) else WrongOperand
 
 -- what the operands of an instruction say, by their number
 
@@ -119,23 +119,23 @@ order_two o labels Jz a b = jump_on_zero labels (int_register a) b
 order_two o labels Par a b = fork o a b
 order_two o labels v a b = plain (plain_two v a b)
 
-abbrev pub order_of : Outline → List NotedName → Verb → List (List ℕ) → Sense
-order_of o labels v [] = order_alone v
-order_of o labels v (a ∷ []) = order_one o labels v a
-order_of o labels v (a ∷ b ∷ []) = order_two o labels v a b
-order_of o labels v (a ∷ b ∷ c ∷ []) = plain (plain_three v a b c)
-order_of o labels v (a ∷ b ∷ c ∷ d ∷ []) = WrongOperand
-order_of o labels v (a ∷ b ∷ c ∷ d ∷ e ∷ []) = plain (plain_five v a b c d e)
-order_of o labels v (a ∷ b ∷ c ∷ d ∷ e ∷ f ∷ ws) = WrongOperand
+abbrev pub ordered_sense : Outline → List NotedName → Verb → List (List ℕ) → Sense
+ordered_sense o labels v [] = order_alone v
+ordered_sense o labels v (a ∷ []) = order_one o labels v a
+ordered_sense o labels v (a ∷ b ∷ []) = order_two o labels v a b
+ordered_sense o labels v (a ∷ b ∷ c ∷ []) = plain (plain_three v a b c)
+ordered_sense o labels v (a ∷ b ∷ c ∷ d ∷ []) = WrongOperand
+ordered_sense o labels v (a ∷ b ∷ c ∷ d ∷ e ∷ []) = plain (plain_five v a b c d e)
+ordered_sense o labels v (a ∷ b ∷ c ∷ d ∷ e ∷ f ∷ ws) = WrongOperand
 
 -- the name after `fn` or `lab`, which is the only operand
 abbrev pub only_name : List (List ℕ) → Option (List ℕ)
 only_name (a ∷ []) = if is_name a then Some a else None
 only_name _ = None
 
-abbrev pub named : Option (List ℕ) → Sense
-named (Some name) = Fits
-named None = WrongOperand
+abbrev pub sense_of_name : Option (List ℕ) → Sense
+sense_of_name (Some name) = Fits
+sense_of_name None = WrongOperand
 
 abbrev pub alone : List (List ℕ) → Sense
 alone [] = Fits
@@ -143,9 +143,9 @@ alone (w ∷ ws) = WrongOperand
 
 -- what the operands of a line of this kind say
 abbrev pub sense_of : Outline → List NotedName → Head → List (List ℕ) → Sense
-sense_of o labels Begin ws = named (only_name ws)
-sense_of o labels Label ws = named (only_name ws)
-sense_of o labels (Order v) ws = order_of o labels v ws
+sense_of o labels Begin ws = sense_of_name (only_name ws)
+sense_of o labels Label ws = sense_of_name (only_name ws)
+sense_of o labels (Order v) ws = ordered_sense o labels v ws
 sense_of o labels _ ws = alone ws
 
 -- the number of all functions, those of loops included, fits in 32 bits

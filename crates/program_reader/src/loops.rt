@@ -4,7 +4,7 @@ ghost use Rattle.std.specs.Prelude.{◌≡◌, ◌<◌, ◌+◌, ◌^◌, ◌++�
 ghost use Rattle.program_reader.specs.Names.{noted_name_of};
 ghost use Rattle.program_reader.specs.Sense.{IsSmall, loop_function};
 ghost use Rattle.hh_lang.specs.Loop.{whole_code, left_code, right_code};
-ghost use Rattle.program_reader.specs.Program.{function_of, loop_from, on_line, loop_functions, loops_from, number_of};
+ghost use Rattle.program_reader.specs.Program.{function_of, loop_from, on_line, loop_functions, loops_from, function_number};
 
 use crate::sense::Outline;
 use hh_lang::{Fun, Instr, IntReg, Line, Operator, RefReg};
@@ -121,7 +121,7 @@ fn right_function(alloc: Global, name: &[u8], number: u32, first: u32) -> Result
 /// The number of the function of this name.
 pub(crate) fn number_in(outline: &Outline<'_>, name: &[u8]) -> u32
     requires { IsSmall outline.now }
-    ensures { result ≡ number_of outline.now name.now }
+    ensures { result ≡ function_number outline.now name.now }
 {
     match outline.functions.find(name) {
         Some(place) => place as u32,

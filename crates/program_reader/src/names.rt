@@ -2,7 +2,7 @@
 
 ghost use Rattle.std.specs.Prelude.{◌≡◌, [], length, take, OnOk, OnErr, option_map, slice_get};
 ghost use Rattle.std.specs.List.{list_all};
-ghost use Rattle.program_reader.specs.Names.{is_letter, is_name_byte, is_name, begins_name, is_noted, noted, place_of, numbered_of, noted_name_of};
+ghost use Rattle.program_reader.specs.Names.{is_letter, is_name_byte, is_name, begins_name, is_noted, with_name, name_index, numbered_of, noted_name_of};
 
 use indexmap::IndexMap;
 use std::alloc::{AllocError, Global};
@@ -77,7 +77,7 @@ impl<'a> NameTable<'a> {
 
     /// The index of a name.
     pub(crate) fn find(&self, name: &[u8]) -> Option<usize>
-        ensures { result ≡ place_of self.now name.now }
+        ensures { result ≡ name_index self.now name.now }
     {
         self.numbers.get_index_of(name)
     }
@@ -116,7 +116,7 @@ impl<'a> NameTable<'a> {
 
     /// Notes a name with a number, unless the name is there.
     pub fn note(&mut self, name: &'a [u8], number: u32) -> Result<(), AllocError>
-        ensures ok { OnOk result (self.new ≡ noted self.old name.now number) }
+        ensures ok { OnOk result (self.new ≡ with_name self.old name.now number) }
         ensures err { OnErr result (self.new ≡ self.old) }
     {
         if self.numbers.get_index_of(name).is_none() {

@@ -6,7 +6,7 @@ ghost use Rattle.text_lines.specs.Lines.{lines_of, words_of, most_bytes};
 ghost use Rattle.program_reader.specs.Names.{is_noted};
 ghost use Rattle.program_reader.specs.Sense.{only_name, IsSmall};
 ghost use Rattle.program_reader.specs.Around.{is_open_after};
-ghost use Rattle.program_reader.specs.Fault.{fault_by, is_misplaced, has_wrong_operand, is_begin, names_no_function, names_no_label, fault_on};
+ghost use Rattle.program_reader.specs.Fault.{line_cause, is_misplaced, has_wrong_operand, is_begin, names_no_function, names_no_label, fault_on};
 
 use crate::cause::Cause;
 use crate::head::Head;
@@ -153,7 +153,7 @@ impl<'a> Reader<'a> {
         sense: &Sense,
         last: bool,
     ) -> Option<Cause>
-        ensures { result ≡ fault_by outline.now (spot_in outline.now self.now last) head (words_of rest.now) sense.now }
+        ensures { result ≡ line_cause outline.now (spot_in outline.now self.now last) head (words_of rest.now) sense.now }
     {
         if misplaced(self.inside, head) {
             Some(Cause::Word)

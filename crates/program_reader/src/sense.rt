@@ -2,7 +2,7 @@
 
 ghost use Rattle.std.specs.Prelude.{◌≡◌};
 ghost use Rattle.text_lines.specs.Lines.{words_of};
-ghost use Rattle.program_reader.specs.Sense.{plain, jump, jump_on_zero, call, fork, loop_over, order_alone, order_one, order_two, order_of, only_name, named, alone, sense_of, IsSmall};
+ghost use Rattle.program_reader.specs.Sense.{plain, jump, jump_on_zero, call, fork, loop_over, order_alone, order_one, order_two, ordered_sense, only_name, sense_of_name, alone, sense_of, IsSmall};
 
 use crate::head::{Head, Verb};
 use crate::names::{NameTable, is_name_word};
@@ -146,7 +146,7 @@ fn read_two(outline: &Outline<'_>, labels: &NameTable<'_>, verb: Verb, a: &[u8],
 // What the operands of an instruction say.
 fn read_order(outline: &Outline<'_>, labels: &NameTable<'_>, verb: Verb, rest: &[u8]) -> Sense
     requires { IsSmall outline.now }
-    ensures { result ≡ order_of outline.now labels.now verb (words_of rest.now) }
+    ensures { result ≡ ordered_sense outline.now labels.now verb (words_of rest.now) }
 {
     let Some((a, rest)) = next_word(rest) else {
         return read_alone(verb);
@@ -179,7 +179,7 @@ fn read_no_operand(rest: &[u8]) -> Sense
 }
 
 fn read_name_operand(rest: &[u8]) -> Sense
-    ensures { result ≡ named (only_name (words_of rest.now)) }
+    ensures { result ≡ sense_of_name (only_name (words_of rest.now)) }
 {
     match read_only_name(rest) {
         Some(_) => Sense::Fits,

@@ -1,5 +1,5 @@
 -- Gathering races one by one makes their groups.
-use Rattle.race_groups.proofs.Common.{◌≡◌, ℕ, zero, suc, ◌+◌, ◌<◌, ◌≤◌, ◌^◌, ◌==◌, ◌&&◌, ◌||◌, nat_lt, Bool, true, false, cond, List, [], ◌∷◌, ◌++◌, length, map, filter, fold, append-nil, append_assoc, inl, inr, arith, refl, ap, sym, ◌∙◌, true≢false, eqb-true, eq-eqb, Option, Some, None, not, count_by, position, slice_get, slice_set, slice_index_or, position_or_len, list_any, and_parts, slice_get-get_or, slice_get_cases, count_by-le-length, sum_by_push, insert_key, In, in_from_kept, got_in, Race, RaceGroup, Lines, lines_of_race, same_pair, same_lines, group_of, groups_of, with_race, lines_of_groups}
+use Rattle.race_groups.proofs.Common.{◌≡◌, ℕ, zero, suc, ◌+◌, ◌<◌, ◌≤◌, ◌^◌, ◌==◌, ◌&&◌, ◌||◌, nat_lt, Bool, true, false, cond, List, [], ◌∷◌, ◌++◌, length, map, filter, fold, append-nil, append_assoc, inl, inr, arith, refl, ap, sym, ◌∙◌, true≢false, eqb-true, eq-eqb, Option, Some, None, not, count_by, position, slice_get, slice_set, slice_index_or, position_or_len, list_any, and_parts, slice_get-get_or, slice_get_cases, count_by-le-length, sum_by_push, insert_key, In, in_from_kept, got_in, Race, RaceGroup, Lines, lines_of_race, same_pair, same_lines, group_of, groups_of, with_grouped_race, lines_of_groups}
 use borrow.Author.Tests.{ltb-true}
 
 -- SAME LINES
@@ -31,12 +31,12 @@ one_more g = record g { fields = g.fields + 1 }
 
 module _ (x r : Race) where
   -- on the lines of x a race changes nothing elsewhere
-  skipped : same_lines x r ≡ true → (gs : List RaceGroup) → filter (elsewhere x) (with_race gs r) ≡ filter (elsewhere x) gs
+  skipped : same_lines x r ≡ true → (gs : List RaceGroup) → filter (elsewhere x) (with_grouped_race gs r) ≡ filter (elsewhere x) gs
   skipped same [] = ap (λ b. cond (not b) (group_of r ∷ []) []) same
   skipped same (g ∷ gs) = skipped_by_cases (same_lines r g.example) refl (skipped same gs)
     where
-      skipped_by_cases : (b : Bool) → same_lines r g.example ≡ b → filter (elsewhere x) (with_race gs r) ≡ filter (elsewhere x) gs
-          → filter (elsewhere x) (cond b (one_more g ∷ gs) (g ∷ with_race gs r)) ≡ filter (elsewhere x) (g ∷ gs)
+      skipped_by_cases : (b : Bool) → same_lines r g.example ≡ b → filter (elsewhere x) (with_grouped_race gs r) ≡ filter (elsewhere x) gs
+          → filter (elsewhere x) (cond b (one_more g ∷ gs) (g ∷ with_grouped_race gs r)) ≡ filter (elsewhere x) (g ∷ gs)
       skipped_by_cases true e more =
           let here : same_lines x g.example ≡ true = same_left x r g.example same ∙ e in
           ap (λ b. cond (not b) (one_more g ∷ filter (elsewhere x) gs) (filter (elsewhere x) gs)) here
@@ -44,21 +44,21 @@ module _ (x r : Race) where
       skipped_by_cases false e more = ap (λ hs. cond (elsewhere x g) (g ∷ hs) hs) more
 
   -- on other lines it is added elsewhere
-  passed : same_lines x r ≡ false → (gs : List RaceGroup) → filter (elsewhere x) (with_race gs r) ≡ with_race (filter (elsewhere x) gs) r
+  passed : same_lines x r ≡ false → (gs : List RaceGroup) → filter (elsewhere x) (with_grouped_race gs r) ≡ with_grouped_race (filter (elsewhere x) gs) r
   passed other [] = ap (λ b. cond (not b) (group_of r ∷ []) []) other
   passed other (g ∷ gs) = passed_by_cases (same_lines r g.example) (same_lines x g.example) refl refl (passed other gs)
     where
-      passed_by_cases : (b c : Bool) → same_lines r g.example ≡ b → same_lines x g.example ≡ c → filter (elsewhere x) (with_race gs r) ≡ with_race (filter (elsewhere x) gs) r
-          → filter (elsewhere x) (cond b (one_more g ∷ gs) (g ∷ with_race gs r)) ≡ with_race (cond (not c) (g ∷ filter (elsewhere x) gs) (filter (elsewhere x) gs)) r
+      passed_by_cases : (b c : Bool) → same_lines r g.example ≡ b → same_lines x g.example ≡ c → filter (elsewhere x) (with_grouped_race gs r) ≡ with_grouped_race (filter (elsewhere x) gs) r
+          → filter (elsewhere x) (cond b (one_more g ∷ gs) (g ∷ with_grouped_race gs r)) ≡ with_grouped_race (cond (not c) (g ∷ filter (elsewhere x) gs) (filter (elsewhere x) gs)) r
       passed_by_cases true true e f more = absurd (true≢false (sym (same_right x r g.example e ∙ f) ∙ other))
       passed_by_cases true false e f more =
           ap (λ c. cond (not c) (one_more g ∷ filter (elsewhere x) gs) (filter (elsewhere x) gs)) f
-          ∙ sym (ap (λ b. cond b (one_more g ∷ filter (elsewhere x) gs) (g ∷ with_race (filter (elsewhere x) gs) r)) e)
-      passed_by_cases false true e f more = ap (λ c. cond (not c) (g ∷ filter (elsewhere x) (with_race gs r)) (filter (elsewhere x) (with_race gs r))) f ∙ more
+          ∙ sym (ap (λ b. cond b (one_more g ∷ filter (elsewhere x) gs) (g ∷ with_grouped_race (filter (elsewhere x) gs) r)) e)
+      passed_by_cases false true e f more = ap (λ c. cond (not c) (g ∷ filter (elsewhere x) (with_grouped_race gs r)) (filter (elsewhere x) (with_grouped_race gs r))) f ∙ more
       passed_by_cases false false e f more =
-          ap (λ c. cond (not c) (g ∷ filter (elsewhere x) (with_race gs r)) (filter (elsewhere x) (with_race gs r))) f
+          ap (λ c. cond (not c) (g ∷ filter (elsewhere x) (with_grouped_race gs r)) (filter (elsewhere x) (with_grouped_race gs r))) f
           ∙ ap (λ hs. g ∷ hs) more
-          ∙ sym (ap (λ b. cond b (one_more g ∷ filter (elsewhere x) gs) (g ∷ with_race (filter (elsewhere x) gs) r)) e)
+          ∙ sym (ap (λ b. cond b (one_more g ∷ filter (elsewhere x) gs) (g ∷ with_grouped_race (filter (elsewhere x) gs) r)) e)
 
 count_more : (p : Race → Bool) (rs : List Race) (r : Race) (b : Bool) → p r ≡ b → count_by p (rs ++ r ∷ []) ≡ count_by p rs + cond b 1 0
 count_more p rs r b e = sum_by_push (λ x. cond (p x) 1 0) rs r ∙ ap (λ c. count_by p rs + cond c 1 0) e
@@ -66,7 +66,7 @@ count_more p rs r b e = sum_by_push (λ x. cond (p x) 1 0) rs r ∙ ap (λ c. co
 abbrev group_with : Race → ℕ → RaceGroup
 group_with x n = record { example = x; fields = n }
 
-pub added : (rs : List Race) (r : Race) → with_race (groups_of rs) r ≡ groups_of (rs ++ r ∷ [])
+pub added : (rs : List Race) (r : Race) → with_grouped_race (groups_of rs) r ≡ groups_of (rs ++ r ∷ [])
 added [] r = refl
 added (x ∷ rs) r = by_lines (same_pair (lines_of_race r) (lines_of_race x)) refl (added rs r)
   where
@@ -78,8 +78,8 @@ added (x ∷ rs) r = by_lines (same_pair (lines_of_race r) (lines_of_race x)) re
         other false f = f
         other true f = absurd (true≢false (sym (ap (λ l. same_pair (lines_of_race r) l) (pair_is (lines_of_race x) (lines_of_race r) f) ∙ pair_itself (lines_of_race r)) ∙ e))
 
-    by_lines : (b : Bool) → same_lines r x ≡ b → with_race (groups_of rs) r ≡ groups_of (rs ++ r ∷ [])
-        → cond b (group_with x (count_by (same_lines x) rs + 1 + 1) ∷ filter (elsewhere x) (groups_of rs)) (group_with x (count_by (same_lines x) rs + 1) ∷ with_race (filter (elsewhere x) (groups_of rs)) r)
+    by_lines : (b : Bool) → same_lines r x ≡ b → with_grouped_race (groups_of rs) r ≡ groups_of (rs ++ r ∷ [])
+        → cond b (group_with x (count_by (same_lines x) rs + 1 + 1) ∷ filter (elsewhere x) (groups_of rs)) (group_with x (count_by (same_lines x) rs + 1) ∷ with_grouped_race (filter (elsewhere x) (groups_of rs)) r)
         ≡ group_with x (count_by (same_lines x) (rs ++ r ∷ []) + 1) ∷ filter (elsewhere x) (groups_of (rs ++ r ∷ []))
     by_lines true e later =
         let more = count_more (same_lines x) rs r true (turned true e) in
@@ -89,7 +89,7 @@ added (x ∷ rs) r = by_lines (same_pair (lines_of_race r) (lines_of_race x)) re
     by_lines false e later =
         let more = count_more (same_lines x) rs r false (turned false e) in
         let n : count_by (same_lines x) rs + 1 ≡ count_by (same_lines x) (rs ++ r ∷ []) + 1 = omega (arith, more) in
-        ap (λ k. group_with x k ∷ with_race (filter (elsewhere x) (groups_of rs)) r) n
+        ap (λ k. group_with x k ∷ with_grouped_race (filter (elsewhere x) (groups_of rs)) r) n
         ∙ ap (λ gs. group_with x (count_by (same_lines x) (rs ++ r ∷ []) + 1) ∷ gs) (sym (passed x r (turned false e) (groups_of rs)) ∙ ap (filter (elsewhere x)) later)
 
 -- A GROUP'S PLACE
@@ -105,7 +105,7 @@ no_place : (b : Bool) (n : ℕ) → ◌≡◌ {A = Option ℕ} (cond b (Some n) 
 no_place true n e = absurd cc
 no_place false n e = refl
 
-counted : (gs : List RaceGroup) (r : Race) (k : ℕ) (g : RaceGroup) → position_or_len (q_of r) (lines_of_groups gs) ≡ k → slice_get gs k ≡ Some g → slice_set gs k (one_more g) ≡ with_race gs r
+counted : (gs : List RaceGroup) (r : Race) (k : ℕ) (g : RaceGroup) → position_or_len (q_of r) (lines_of_groups gs) ≡ k → slice_get gs k ≡ Some g → slice_set gs k (one_more g) ≡ with_grouped_race gs r
 counted [] r k g e f = absurd cc
 counted (h ∷ gs) r k g e f = counted_by_cases (same_lines r h.example) k e f (λ i d at. counted gs r i g d at)
   where
@@ -113,28 +113,28 @@ counted (h ∷ gs) r k g e f = counted_by_cases (same_lines r h.example) k e f (
     first d = cc
 
     counted_by_cases : (b : Bool) (j : ℕ) → cond (not b) (1 + position_or_len (q_of r) (lines_of_groups gs)) 0 ≡ j → slice_get (h ∷ gs) j ≡ Some g
-        → ((i : ℕ) → position_or_len (q_of r) (lines_of_groups gs) ≡ i → slice_get gs i ≡ Some g → slice_set gs i (one_more g) ≡ with_race gs r) → slice_set (h ∷ gs) j (one_more g) ≡ cond b (one_more h ∷ gs) (h ∷ with_race gs r)
+        → ((i : ℕ) → position_or_len (q_of r) (lines_of_groups gs) ≡ i → slice_get gs i ≡ Some g → slice_set gs i (one_more g) ≡ with_grouped_race gs r) → slice_set (h ∷ gs) j (one_more g) ≡ cond b (one_more h ∷ gs) (h ∷ with_grouped_race gs r)
     counted_by_cases true zero d at later = ap (λ y. one_more y ∷ gs) (first at)
     counted_by_cases true (suc j) d at later = absurd (omega (arith, d))
     counted_by_cases false zero d at later = absurd (omega (arith, d))
     counted_by_cases false (suc j) d at later = ap (λ hs. h ∷ hs) (later j (omega (arith, d)) at)
 
-pub counted_at : (gs : List RaceGroup) (r : Race) (k : ℕ) (g : RaceGroup) → position (q_of r) (lines_of_groups gs) ≡ Some k → slice_get gs k ≡ Some g → slice_set gs k (one_more g) ≡ with_race gs r
+pub counted_at : (gs : List RaceGroup) (r : Race) (k : ℕ) (g : RaceGroup) → position (q_of r) (lines_of_groups gs) ≡ Some k → slice_get gs k ≡ Some g → slice_set gs k (one_more g) ≡ with_grouped_race gs r
 counted_at gs r k g e f = counted gs r k g (at_place (nat_lt (position_or_len (q_of r) (lines_of_groups gs)) (length (lines_of_groups gs))) (position_or_len (q_of r) (lines_of_groups gs)) k e).1 f
 
 less_more : (a b : ℕ) → nat_lt (1 + a) (suc b) ≡ nat_lt a b
 less_more a b = grind arith
 
-put : (gs : List RaceGroup) (r : Race) → nat_lt (position_or_len (q_of r) (lines_of_groups gs)) (length (lines_of_groups gs)) ≡ false → gs ++ group_of r ∷ [] ≡ with_race gs r
+put : (gs : List RaceGroup) (r : Race) → nat_lt (position_or_len (q_of r) (lines_of_groups gs)) (length (lines_of_groups gs)) ≡ false → gs ++ group_of r ∷ [] ≡ with_grouped_race gs r
 put [] r e = refl
 put (h ∷ gs) r e = put_by_cases (same_lines r h.example) e (put gs r)
   where
     put_by_cases : (b : Bool) → nat_lt (cond (not b) (1 + position_or_len (q_of r) (lines_of_groups gs)) 0) (suc (length (lines_of_groups gs))) ≡ false
-        → (nat_lt (position_or_len (q_of r) (lines_of_groups gs)) (length (lines_of_groups gs)) ≡ false → gs ++ group_of r ∷ [] ≡ with_race gs r) → h ∷ (gs ++ group_of r ∷ []) ≡ cond b (one_more h ∷ gs) (h ∷ with_race gs r)
+        → (nat_lt (position_or_len (q_of r) (lines_of_groups gs)) (length (lines_of_groups gs)) ≡ false → gs ++ group_of r ∷ [] ≡ with_grouped_race gs r) → h ∷ (gs ++ group_of r ∷ []) ≡ cond b (one_more h ∷ gs) (h ∷ with_grouped_race gs r)
     put_by_cases true d later = absurd (true≢false (sym (let z : nat_lt 0 (suc (length (lines_of_groups gs))) ≡ true = grind arith in z) ∙ d))
     put_by_cases false d later = ap (λ hs. h ∷ hs) (later (sym (less_more (position_or_len (q_of r) (lines_of_groups gs)) (length (lines_of_groups gs))) ∙ d))
 
-pub put_last : (gs : List RaceGroup) (r : Race) → position (q_of r) (lines_of_groups gs) ≡ None → gs ++ group_of r ∷ [] ≡ with_race gs r
+pub put_last : (gs : List RaceGroup) (r : Race) → position (q_of r) (lines_of_groups gs) ≡ None → gs ++ group_of r ∷ [] ≡ with_grouped_race gs r
 put_last gs r e = put gs r (no_place (nat_lt (position_or_len (q_of r) (lines_of_groups gs)) (length (lines_of_groups gs))) (position_or_len (q_of r) (lines_of_groups gs)) e)
 
 -- the lines of groups to which one is added, or of which one counts one more race
@@ -211,9 +211,9 @@ found_at gs r k e =
 
 -- ---- all races, one by one
 
-folded : (before rs : List Race) → fold with_race (groups_of before) rs ≡ groups_of (before ++ rs)
+folded : (before rs : List Race) → fold with_grouped_race (groups_of before) rs ≡ groups_of (before ++ rs)
 folded before [] = ap groups_of (sym (append-nil before))
-folded before (r ∷ rs) = ap (λ gs. fold with_race gs rs) (added before r) ∙ folded (before ++ r ∷ []) rs ∙ ap groups_of (append_assoc before (r ∷ []) rs)
+folded before (r ∷ rs) = ap (λ gs. fold with_grouped_race gs rs) (added before r) ∙ folded (before ++ r ∷ []) rs ∙ ap groups_of (append_assoc before (r ∷ []) rs)
 
-pub all_gathered : (rs : List Race) → fold with_race [] rs ≡ groups_of rs
+pub all_gathered : (rs : List Race) → fold with_grouped_race [] rs ≡ groups_of rs
 all_gathered rs = folded [] rs

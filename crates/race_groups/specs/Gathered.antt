@@ -5,9 +5,9 @@ use Rattle.race_groups.specs.declared.group.RaceGroup.{RaceGroup}
 use Rattle.race_groups.specs.RaceGroups.{Lines, lines_of_race, same_lines, group_of}
 
 -- the groups with one more race
-abbrev pub with_race : List RaceGroup → Race → List RaceGroup
-with_race [] r = group_of r ∷ []
-with_race (g ∷ gs) r = if same_lines r g.example then record g { fields = g.fields + 1 } ∷ gs else g ∷ with_race gs r
+abbrev pub with_grouped_race : List RaceGroup → Race → List RaceGroup
+with_grouped_race [] r = group_of r ∷ []
+with_grouped_race (g ∷ gs) r = if same_lines r g.example then record g { fields = g.fields + 1 } ∷ gs else g ∷ with_grouped_race gs r
 
 abbrev pub lines_of_groups : List RaceGroup → List Lines
 lines_of_groups gs = map (λ (g : RaceGroup). lines_of_race g.example) gs

@@ -31,7 +31,7 @@ impl Model for RaceGroups {
 impl RaceGroups {
     ghost use Rattle.std.specs.Prelude.{◌≡◌, ◌<◌, ◌+◌, ◌∷◌, ◌++◌, [], length, Some, None, OnOk, position, slice_get, slice_set};
     ghost use Rattle.race_groups.specs.RaceGroups.{lines_of_race, same_pair, group_of};
-    ghost use Rattle.race_groups.specs.Gathered.{with_race, lines_of_groups, AreFew};
+    ghost use Rattle.race_groups.specs.Gathered.{with_grouped_race, lines_of_groups, AreFew};
 
     fn new(alloc: Global) -> RaceGroups
         ensures { result ≡ [] }
@@ -74,7 +74,7 @@ impl RaceGroups {
     /// Adds a race.
     fn add(&mut self, race: &Race) -> Result<(), AllocError>
         requires { AreFew self.old }
-        ensures { OnOk result (self.new ≡ with_race self.old race.now) }
+        ensures { OnOk result (self.new ≡ with_grouped_race self.old race.now) }
     {
         match self.place(lines_of_race(race)) {
             None => self.push(race),

@@ -5,7 +5,7 @@ pub use Rattle.path_laws.proofs.Frozen.{frozen_reads_go}
 pub use Rattle.path_laws.proofs.Objects.{object_later}
 pub use Rattle.path_laws.proofs.Stored.{names_are_stored}
 pub use Rattle.path_laws.specs.ReadLaws.{Holds, PrecedesTask, ReadsFreely}
-pub use Rattle.race_report.specs.Accesses.{accesses, with_some, access, access_by, access_of, accesses_from, line_access, number_field, ref_field, swap_access, task_access, unless_trap, field_at, refs_in}
+pub use Rattle.race_report.specs.Accesses.{accesses, with_some, access, access_by, next_access, accesses_from, line_access, number_field, ref_field, swap_access, task_access, unless_trap, field_at, object_references}
 pub use Rattle.race_report.specs.Few.{AreFew}
 pub use Rattle.race_report.specs.LabelLaw.{Runs, LabelsTellPrecedence}
 pub use Rattle.race_report.specs.Labels.{label_precedes, allows, bound_allows, joined_bound, under, bound, label_by, label_in, label_of}
@@ -15,7 +15,7 @@ pub use Rattle.race_report.specs.Scan.{KeepsSame}
 pub use Rattle.race_report.specs.Sights.{looked, line_said, looked_from, looked_of, plain, print_field, said_by, swap_if, swap_of, swaps_of, task_said}
 pub use Rattle.race_report.specs.StopLaw.{HasNoRace, RacelessIsDisentangled, RacelessJournalsAreDisentangled, LastReadRaces, StoppedReadsRace}
 pub use Rattle.race_report.specs.Text.{pair_line}
-pub use Rattle.race_report.specs.Watch.{clashes, first_clash, with_first, with_access, bound_for, bound_with, clash, Key, found_by, watched_from, watched_with, key_of, nothing_yet, or_nothing, race_of, same_key, watch_with, key_cmp, kind_key, races_in, seen_of, seen_from, labelled}
+pub use Rattle.race_report.specs.Watch.{clashes, first_clash, with_first, with_access, bound_for, bound_with, clash, Key, found_by, watched_from, watched_with, key_of, nothing_yet, or_nothing, race_between, same_key, watch_with, key_cmp, kind_key, races_in, seen_of, seen_from, labelled}
 pub use Rattle.race_report.specs.Ways.{Way, way_of, same_way, ways_of, has_alike}
 pub use Rattle.race_report.specs.declared.data.Bound.{Bound}
 pub use Rattle.race_report.specs.declared.data.Field.{Field}

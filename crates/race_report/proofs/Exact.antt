@@ -1,5 +1,5 @@
 -- The record of one field is exact: nothing if there is no access, no race while it waits, and otherwise its pair.
-use Rattle.race_report.proofs.Common.{◌≡◌, ℕ, zero, suc, ◌<◌, ◌≤◌, Bool, true, false, cond, Option, Some, None, List, [], ◌∷◌, ◌++◌, length, slice_get, filter, ◌⊎◌, inl, inr, refl, ap, sym, subst, ◌∙◌, arith, append_assoc, append-nil, both_ways, same_Some, In, in_kept, got_front, got_within, got_in, got_last, Seen, Open, Watch, Found, allows, Key, bound_for, clashes, first_clash, found_by, watched_from, watched_with, key_of, nothing_yet, or_nothing, race_of, same_key, watch_with, with_access}
+use Rattle.race_report.proofs.Common.{◌≡◌, ℕ, zero, suc, ◌<◌, ◌≤◌, Bool, true, false, cond, Option, Some, None, List, [], ◌∷◌, ◌++◌, length, slice_get, filter, ◌⊎◌, inl, inr, refl, ap, sym, subst, ◌∙◌, arith, append_assoc, append-nil, both_ways, same_Some, In, in_kept, got_front, got_within, got_in, got_last, Seen, Open, Watch, Found, allows, Key, bound_for, clashes, first_clash, found_by, watched_from, watched_with, key_of, nothing_yet, or_nothing, race_between, same_key, watch_with, with_access}
 use Rattle.race_report.specs.declared.data.Watch.TheVariants.{Open as Waits}
 use Rattle.race_report.proofs.Alike.{SameFor, StrandsTell, access_earlier, all_free, first_same, firsts_from, firsts_push, same_for, with_new}
 use Rattle.race_report.proofs.Keys.{same_key_is, same_key_itself}
@@ -98,7 +98,7 @@ module _ (q : Key) where
 
   abbrev pub GoodWatch : List Seen → Watch → Type 0
   GoodWatch ss (Waits o) = Waiting ss o
-  GoodWatch ss (Found r) = (u : Seen) × (v : Seen) × Pair ss u v × (r ≡ race_of u.access v.access)
+  GoodWatch ss (Found r) = (u : Seen) × (v : Seen) × Pair ss u v × (r ≡ race_between u.access v.access)
 
   abbrev pub Good : List Seen → Option Watch → Type 0
   Good ss None = (i : ℕ) (v : Seen) → slice_get ss i ≡ Some v → key v ≡ q → ⊥
@@ -185,7 +185,7 @@ module _ (q : Key) where
       bounds = bounds_more o x W.bounds;
     }
 
-    found : (o : Open) → Waiting ss o → (u : Seen) → first_clash (filter chosen ss) x ≡ Some u → GoodWatch (ss ++ x ∷ []) (Found (race_of u.access x.access))
+    found : (o : Open) → Waiting ss o → (u : Seen) → first_clash (filter chosen ss) x ≡ Some u → GoodWatch (ss ++ x ∷ []) (Found (race_between u.access x.access))
     found o W u h =
         let F = first_at chosen ss x u h in
         let lt : F.i < length ss = got_within ss F.i u F.is in (

@@ -1,5 +1,5 @@
 -- The races found are the report.
-use Rattle.race_report.proofs.Common.{◌≡◌, ℕ, zero, suc, ◌<◌, Bool, true, false, not, ◌||◌, ◌&&◌, Option, Some, None, List, [], ◌∷◌, length, map, slice_get, get_or, Contains, ◌⊎◌, inl, inr, refl, ap, ap₂, sym, subst, ◌∙◌, arith, both_ways, false_from_ne_true, get_or_from_slice_get, same_Some, Less, BTreeMap, btree_map_get_place, place_from_lookup, Less-from_sorted, not-not, In, in_from_contains, contains_from_in, got_in, got_within, got_map, in_got, map_got, and_not_parts, ProgramText, Edge, Precedes, precedes, run, start, IsForkJoinState, run_is_fork_join_state, start_is_fork_join_state, Field, FieldAccess, Race, Seen, Sight, Open, Watch, Found, looked, label_precedes, IsPair, RaceAt, IsReport, race_key, Key, clash, watched_from, key_cmp, key_of, kind_key, race_of, races_in}
+use Rattle.race_report.proofs.Common.{◌≡◌, ℕ, zero, suc, ◌<◌, Bool, true, false, not, ◌||◌, ◌&&◌, Option, Some, None, List, [], ◌∷◌, length, map, slice_get, get_or, Contains, ◌⊎◌, inl, inr, refl, ap, ap₂, sym, subst, ◌∙◌, arith, both_ways, false_from_ne_true, get_or_from_slice_get, same_Some, Less, BTreeMap, btree_map_get_place, place_from_lookup, Less-from_sorted, not-not, In, in_from_contains, contains_from_in, got_in, got_within, got_map, in_got, map_got, and_not_parts, ProgramText, Edge, Precedes, precedes, run, start, IsForkJoinState, run_is_fork_join_state, start_is_fork_join_state, Field, FieldAccess, Race, Seen, Sight, Open, Watch, Found, looked, label_precedes, IsPair, RaceAt, IsReport, race_key, Key, clash, watched_from, key_cmp, key_of, kind_key, race_between, races_in}
 use Rattle.std.specs.BTreeMap as tree
 use Rattle.race_report.specs.declared.data.Watch.TheVariants.{Open as Waits}
 use Rattle.race_report.specs.Watch.{seen}
@@ -26,7 +26,7 @@ key_tells f g e =
     let x : f.index ≡ g.index = ap (λ (k : Key). k.1.1) e in
     λ i. record { name = record { task = t i; count = c i }; is_number = n i; index = x i }
 
-race_field : (u v : FieldAccess) → race_key (race_of u v) ≡ key_of v.field
+race_field : (u v : FieldAccess) → race_key (race_between u v) ≡ key_of v.field
 race_field u v = ap (λ b. ((v.field.name.task, v.field.name.count), (kind_key b, v.field.index))) (not-not v.field.is_number)
 
 -- RACES BY LABELS AND BY WALKS
@@ -189,7 +189,7 @@ module _ (sight : Sight) (p : ProgramText) (limit : ℕ) (ts : List ℕ) (kept :
     pub u : FieldAccess
     pub v : FieldAccess
     pub pair : IsPair (run p limit ts).edges (looked sight p limit ts) v.field u v
-    pub same : r ≡ race_of u v
+    pub same : r ≡ race_between u v
     pub at : key_of v.field ≡ q
 
   told_by : (q : Key) (r : Race) → Good q (seen sight p limit ts) (Some (Found r)) → Told q r
@@ -204,14 +204,14 @@ module _ (sight : Sight) (p : ProgramText) (limit : ℕ) (ts : List ℕ) (kept :
       let got : tree.get key_cmp kept m.0.0 ≡ Some m.0.1 = btree_map_get_place key_total kept k m.0.0 m.0.1 ordered m.1 in
       (m.0.0, told_at m.0.0 r (got ∙ ap (λ w. Some w) m.2), got_map (λ (x : Key × Watch). x.0) kept.entries k m.0 m.1)
 
-  each : (r : Race) → Contains (races_in (tree.values kept)) r → (field : Field) × (u : FieldAccess) × (v : FieldAccess) × IsPair (run p limit ts).edges (looked sight p limit ts) field u v × (r ≡ race_of u v)
+  each : (r : Race) → Contains (races_in (tree.values kept)) r → (field : Field) × (u : FieldAccess) × (v : FieldAccess) × IsPair (run p limit ts).edges (looked sight p limit ts) field u v × (r ≡ race_between u v)
   each r c =
       let at = in_got (tree.values kept) (Found r) (race_in (tree.values kept) r (in_from_contains (races_in (tree.values kept)) r c)) in
       let t = (told_place at.0 r at.1).1 in
       (t.v.field, t.u, t.v, t.pair, t.same)
 
   abbrev Has : Field → Type 0
-  Has field = (w : FieldAccess) × (z : FieldAccess) × IsPair (run p limit ts).edges (looked sight p limit ts) field w z × Contains (races_in (tree.values kept)) (race_of w z)
+  Has field = (w : FieldAccess) × (z : FieldAccess) × IsPair (run p limit ts).edges (looked sight p limit ts) field w z × Contains (races_in (tree.values kept)) (race_between w z)
 
   has_by : (field : Field) (i j : ℕ) (u v : Seen) → Clash (key_of field) (seen sight p limit ts) i j u v → (w : Option Watch) → watched_from (key_of field) None (seen sight p limit ts) ≡ w → Good (key_of field) (seen sight p limit ts) w → Has field
   has_by field i j u v C None e G = absurd (G i u C.first C.key_u)

@@ -6,7 +6,7 @@ use Rattle.race_report.specs.declared.data.Field.{Field}
 use Rattle.race_report.specs.declared.data.FieldAccess.{FieldAccess}
 use Rattle.race_report.specs.declared.data.Sight.{Sight}
 use Rattle.race_report.specs.declared.data.Sight.TheVariants.{Fields, Swaps, Prints}
-use Rattle.race_report.specs.Accesses.{access, access_of, accesses_from, with_some}
+use Rattle.race_report.specs.Accesses.{access, next_access, accesses_from, with_some}
 
 -- COMPARE AND SWAPS
 
@@ -55,8 +55,8 @@ said_from p m (t ∷ ts) = with_some (said_of p m t) (said_from p (step p m t) t
 -- ALL
 
 abbrev pub looked_of : Sight → ProgramText → MachineState → ℕ → Option FieldAccess
-looked_of Fields p m t = access_of p m t
-looked_of Swaps p m t = swap_of (access_of p m t)
+looked_of Fields p m t = next_access p m t
+looked_of Swaps p m t = swap_of (next_access p m t)
 looked_of Prints p m t = said_of p m t
 
 abbrev pub looked_from : Sight → ProgramText → MachineState → List ℕ → List FieldAccess

@@ -71,8 +71,8 @@ with_access o v = if has_alike o.earlier v.access then o else with_first o v
 abbrev pub bound_for : Open → FieldAccess → Bound
 bound_for o v = if v.writes then (if v.swaps then o.plain else o.all) else (if v.swaps then o.plain_writes else o.writes)
 
-abbrev pub race_of : FieldAccess → FieldAccess → Race
-race_of u v = record {
+abbrev pub race_between : FieldAccess → FieldAccess → Race
+race_between u v = record {
   task = v.field.name.task;
   count = v.field.name.count;
   is_ref = not v.field.is_number;
@@ -83,7 +83,7 @@ race_of u v = record {
 
 abbrev pub found_by : Option Seen → Open → Seen → Watch
 found_by None o v = Waits (with_access o v)
-found_by (Some u) o v = Found (race_of u.access v.access)
+found_by (Some u) o v = Found (race_between u.access v.access)
 
 -- adds one access to the field's record
 abbrev pub watch_with : Watch → Seen → Watch
@@ -127,10 +127,10 @@ watched_from q w (v ∷ vs) = watched_from q (watched_with q w v) vs
 
 -- THE RACES FOUND
 
-abbrev pub with_race : Watch → List Race → List Race
-with_race (Found r) races = r ∷ races
-with_race (Waits o) races = races
+abbrev pub with_raced : Watch → List Race → List Race
+with_raced (Found r) races = r ∷ races
+with_raced (Waits o) races = races
 
 abbrev pub races_in : List Watch → List Race
 races_in [] = []
-races_in (w ∷ ws) = with_race w (races_in ws)
+races_in (w ∷ ws) = with_raced w (races_in ws)

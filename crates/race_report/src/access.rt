@@ -2,7 +2,7 @@
 
 ghost use Rattle.std.specs.Prelude.{◌≡◌, ◌<◌, ◌^◌, ℕ, pos, IfSome};
 ghost use Rattle.run_journal.specs.below.hh_model.{StepContext, effect, place_in};
-ghost use Rattle.race_report.specs.Accesses.{access_of, access_by, unless_trap};
+ghost use Rattle.race_report.specs.Accesses.{next_access, access_by, unless_trap};
 ghost use Rattle.race_report.specs.Few.{AreFew};
 
 use crate::data::{Field, FieldAccess};
@@ -181,9 +181,9 @@ fn instr_access(state: &MachineState, top: &Frame, at: Place, instr: Instr) -> O
 }
 
 /// The access of a task's next step, if it can take one and makes one.
-pub(crate) fn access_of(program: &Program, state: &MachineState, t: u32) -> Option<FieldAccess>
+pub(crate) fn next_access(program: &Program, state: &MachineState, t: u32) -> Option<FieldAccess>
     requires { AreFew state.now.store }
-    ensures { result ≡ access_of program.now state.now t }
+    ensures { result ≡ next_access program.now state.now t }
 {
     if !state.can_step(t) {
         return None;

@@ -4,7 +4,7 @@ ghost use Rattle.std.specs.Prelude.{◌≡◌};
 ghost use Rattle.race_report.specs.Few.{AreFew};
 ghost use Rattle.race_report.specs.Sights.{swap_of, said_of, looked_of};
 
-use crate::access::access_of;
+use crate::access::next_access;
 use crate::data::{Field, FieldAccess, Sight};
 use run_journal::{Instr, MachineState, Name, Program, Strand};
 
@@ -69,8 +69,8 @@ pub(crate) fn looked_of(
     ensures { result ≡ looked_of sight program.now state.now t }
 {
     match sight {
-        Sight::Fields => access_of(program, state, t),
-        Sight::Swaps => swap_of(access_of(program, state, t)),
+        Sight::Fields => next_access(program, state, t),
+        Sight::Swaps => swap_of(next_access(program, state, t)),
         Sight::Prints => said_of(program, state, t),
     }
 }

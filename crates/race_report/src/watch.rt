@@ -5,7 +5,7 @@ ghost use Rattle.std.specs.BTreeMap as tree;
 ghost use Rattle.std.specs.BTreeMap.{values};
 ghost use Rattle.race_report.specs.Labels.{allows, label_precedes};
 ghost use Rattle.race_report.specs.Ways.{has_alike};
-ghost use Rattle.race_report.specs.Watch.{clash, clashes, first_clash, bound_with, with_first, with_access, bound_for, race_of, watch_with, nothing_yet, Key, key_of, key_cmp, watched_with, races_in};
+ghost use Rattle.race_report.specs.Watch.{clash, clashes, first_clash, bound_with, with_first, with_access, bound_for, race_between, watch_with, nothing_yet, Key, key_of, key_cmp, watched_with, races_in};
 
 use crate::bounds::allows;
 use crate::data::{Bound, Field, FieldAccess, Open, Race, Seen, Watch};
@@ -54,8 +54,8 @@ fn first_clash<'a>(earlier: &'a [Seen], second: &Seen) -> Option<&'a Seen>
 }
 
 /// The race of two accesses.
-fn race_of(first: FieldAccess, second: FieldAccess) -> Race
-    ensures { result ≡ race_of first second }
+fn race_between(first: FieldAccess, second: FieldAccess) -> Race
+    ensures { result ≡ race_between first second }
 {
     Race {
         task: second.field.name.task,
@@ -147,14 +147,14 @@ impl Open {
 
 /// The race of an access with the first earlier one that it races with.
 fn race_with(known: &Open, seen: &Seen) -> Option<Race>
-    ensures { result ≡ (if allows (bound_for known.now seen.now.access) seen.now.label then None else option_map (λ first. race_of first.access seen.now.access) (first_clash known.now.earlier seen.now)) }
+    ensures { result ≡ (if allows (bound_for known.now seen.now.access) seen.now.label then None else option_map (λ first. race_between first.access seen.now.access) (first_clash known.now.earlier seen.now)) }
 {
     let bound = known.bound_for(seen.access);
     if allows(bound.label.as_slice(), bound.strict, seen.label.as_slice()) {
         return None;
     }
     match first_clash(known.earlier.as_slice(), seen) {
-        Some(first) => Some(race_of(first.access, seen.access)),
+        Some(first) => Some(race_between(first.access, seen.access)),
         None => None,
     }
 }

@@ -7,7 +7,7 @@ use Rattle.hh_model.specs.declared.data.Name.{Name}
 use Rattle.hh_model.specs.Names.{refs_at, registers}
 use Rattle.hh_model.specs.Step.{owner_of}
 use Rattle.run_ledger.specs.declared.data.Ledger.{Ledger}
-use Rattle.run_ledger.specs.Heaps.{down_roots, frames_of, heap_of, held, held_in, is_above, roots_of, within}
+use Rattle.run_ledger.specs.Heaps.{down_roots, frames_of, heap_of, held, held_in, is_proper_ancestor, roots_of, within}
 use Rattle.run_ledger.specs.Laws.{Refers}
 use Rattle.run_ledger.specs.Reachable.{IsReachedWithin, LeadsWithin, StartsWithin}
 use Rattle.run_ledger.proofs.Reached.{reached_is_walks}
@@ -16,8 +16,8 @@ use Rattle.reachability_laws.specs.Kept.{HeapHolds, IsFromAbove, IsReachedIn, Is
 module _ (l : Ledger) (t : ℕ) where
   from_above : (n : Name) → Contains (down_roots l t) n → IsFromAbove l t n
   from_above n c =
-      let found = flat_in (refs_at l.machine.store) (filter (λ m. is_above l.machine.tasks (owner_of l.machine.tasks m.task) t) (held l)) n (in_from_contains (down_roots l t) n c) in
-      let kept = in_from_kept (λ m. is_above l.machine.tasks (owner_of l.machine.tasks m.task) t) (held l) found.1 (got_in _ found.0 found.1 found.2) in
+      let found = flat_in (refs_at l.machine.store) (filter (λ m. is_proper_ancestor l.machine.tasks (owner_of l.machine.tasks m.task) t) (held l)) n (in_from_contains (down_roots l t) n c) in
+      let kept = in_from_kept (λ m. is_proper_ancestor l.machine.tasks (owner_of l.machine.tasks m.task) t) (held l) found.1 (got_in _ found.0 found.1 found.2) in
       record {
         object = found.1;
         held_is = contains_from_in (held l) found.1 kept.0;
@@ -28,8 +28,8 @@ module _ (l : Ledger) (t : ℕ) where
   to_down : (n : Name) → IsFromAbove l t n → Contains (down_roots l t) n
   to_down n a =
       contains_from_in (down_roots l t) n
-      (in_flat (refs_at l.machine.store) (filter (λ m. is_above l.machine.tasks (owner_of l.machine.tasks m.task) t) (held l)) a.object n
-      (in_kept (λ m. is_above l.machine.tasks (owner_of l.machine.tasks m.task) t) (held l) a.object (in_from_contains (held l) a.object a.held_is) a.above)
+      (in_flat (refs_at l.machine.store) (filter (λ m. is_proper_ancestor l.machine.tasks (owner_of l.machine.tasks m.task) t) (held l)) a.object n
+      (in_kept (λ m. is_proper_ancestor l.machine.tasks (owner_of l.machine.tasks m.task) t) (held l) a.object (in_from_contains (held l) a.object a.held_is) a.above)
       (in_from_contains (refs_at l.machine.store a.object) n a.refers))
 
   root_is : (n : Name) → Contains (roots_of l t) n → IsRoot l t n

@@ -9,7 +9,7 @@ use Rattle.run_trace.specs.declared.entry.Kind.TheVariants.{Ran, Begin, End, Swe
 use Rattle.run_trace.specs.Entry.{EntryValue}
 use Rattle.run_trace.specs.Settings.{SettingsValue}
 use Rattle.run_ledger.specs.declared.data.Ledger.{Ledger}
-use Rattle.run_ledger.specs.Heaps.{frames_of, heap_of, held, held_in, is_above}
+use Rattle.run_ledger.specs.Heaps.{frames_of, heap_of, held, held_in, is_proper_ancestor}
 use Rattle.run_ledger.specs.Journals.{is_legal, ledger_of}
 use Rattle.run_ledger.specs.Laws.{Refers}
 use Rattle.journal_laws.specs.Frozen.{HasNone, begins, is_of_steps}
@@ -24,7 +24,7 @@ IsInFrames l t n = Contains (registers (frames_of (slice_get l.machine.tasks t))
 pub record IsFromAbove (l : Ledger) (t : ℕ) (n : Name) : Type 0 where
   pub object : Name
   pub held_is : Contains (held l) object
-  pub above : is_above l.machine.tasks (owner_of l.machine.tasks object.task) t ≡ true
+  pub above : is_proper_ancestor l.machine.tasks (owner_of l.machine.tasks object.task) t ≡ true
   pub refers : Refers l.machine object n
 
 abbrev pub IsRoot : Ledger → ℕ → Name → Type 0

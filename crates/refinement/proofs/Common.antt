@@ -6,7 +6,7 @@ pub use Rattle.hh_model.proofs.Runs.{runs_idle, runs_live, waiting, joins_in}
 pub use Rattle.hh_model.proofs.Steps.{names_run, in_registers}
 pub use Rattle.hh_model.proofs.Tree.{live_up}
 pub use Rattle.hh_model.specs.Effect.{row_of, object_at, onward, ref_in, int_in}
-pub use Rattle.hh_model.specs.Names.{names_from, task_names, refs_at, refs_of, named, registers}
+pub use Rattle.hh_model.specs.Names.{names_from, task_names, refs_at, refs_of, names_of_references, registers}
 pub use Rattle.hh_model.specs.Step.{is_joined, is_waiting, is_on_path, parents, result_of, child, is_over, waits, joined, resumed, owner_of, parent_of}
 pub use Rattle.hh_model.specs.declared.data.Frame.{Frame}
 pub use Rattle.hh_model.specs.declared.data.MachineState.{MachineState}
@@ -34,12 +34,12 @@ pub use Rattle.plain_vec.proofs.Members.{got_in, in_append_left, in_append_right
 pub use Rattle.plain_vec.proofs.Places.{map_in, each_in, in_map, in_got}
 pub use Rattle.plain_vec.specs.Members.{is_empty}
 pub use Rattle.refinement.specs.LeafCollectionBegins.{IsReachedAt, AreRoots, IsRoot, StartsAt, LeadsAt}
-pub use Rattle.refinement.specs.Changes.{Moves, EndsBelongings, StepsInBelongings, ForksBelongings, advanced, entered, child_belongings, JoinsBelongings, with_results, top_with_results, WritesAt, StoresAt, StoresNumberAt, with_number, BelongingsAreRead, Allocates, SameBut, SameObjects, KeepsJust, with_field, gone_on, WritesWell}
+pub use Rattle.refinement.specs.Changes.{Moves, EndsBelongings, StepsInBelongings, ForksBelongings, advanced, entered_frames, child_belongings, JoinsBelongings, with_results, top_with_results, WritesAt, StoresAt, StoresNumberAt, with_int_field, BelongingsAreRead, Allocates, SameBut, SameObjects, KeepsJust, with_field, gone_on, WritesWell}
 pub use Rattle.refinement.specs.Fits.{with_belongings, Part, FitsAt, part_for}
 pub use Rattle.refinement.specs.Frames.{Collects, IsSteady}
 pub use Rattle.refinement.specs.Layout.{AreLaidOut, words, DontOverlap, HoldsLarge, reserved_chunks}
 pub use Rattle.refinement.specs.Marking.{CanGoOnMarking, MarkedBy}
-pub use Rattle.refinement.specs.Memory.{Belongings, Memory, In, object_name, objects, objects_in, sources, Lies, copied_object, rewritten, rewritten_belongings, Chunk, frozen_chunk, frozen_chunks, no_belongings, mapped_chunk, put_at, shown_at, is_source, rewritten_refs, chunk_among, seen_at, seen_in, as_shown, mapped_belongings}
+pub use Rattle.refinement.specs.Memory.{Belongings, Memory, In, object_name, objects, objects_of_chunks, sources, Lies, copied_object, rewritten, rewritten_belongings, Chunk, frozen_chunk, frozen_chunks, no_belongings, mapped_chunk, put_at, shown_at, is_source, rewritten_refs, chunk_among, seen_at, seen_in, as_shown, mapped_belongings}
 pub use Rattle.refinement.specs.ReadsReference.{IsModelObject, FramesAreRead, HoldsRead, TaskIsRead, ReadsReference, FrameIsRead, AllRead}
 pub use Rattle.refinement.specs.Since.{kept, Since, NotedAt, SameNotes, NoNotes, StaysWhole}
 pub use Rattle.refinement.specs.Stands.{Place, HasNames, BelongingsStand, Stands, IsSource, small_chunks, large_chunks, IsShown, GivesLevel, HasNumber}
@@ -47,7 +47,7 @@ pub use Rattle.remembered_set.specs.declared.remembered.RefField.{RefField}
 pub use Rattle.run_ledger.proofs.Machine.{heap_machine}
 pub use Rattle.run_ledger.proofs.Reached.{reached_root, reached_is_walks}
 pub use Rattle.run_ledger.proofs.Sound.{in_held, held_keeps}
-pub use Rattle.run_ledger.specs.Heaps.{heap_of, or_fresh, fresh, emptied, merged, forked_heap, with_heap, let_go, heap_at, within, held, held_in, frames_of, roots_of, is_above, units}
+pub use Rattle.run_ledger.specs.Heaps.{heap_of, or_fresh, fresh, emptied, merged, forked_heap, with_heap, let_go, heap_at, within, held, held_in, frames_of, roots_of, is_proper_ancestor, units}
 pub use Rattle.run_ledger.specs.Reachable.{StartsWithin, LeadsWithin}
 pub use Rattle.run_ledger.specs.Sound.{SoundLedger, Spares, survivors_at, collecting, InHeaps, Keeps, snapshot_at, names_of}
 pub use Rattle.run_ledger.specs.Steps.{task_steps}

@@ -94,12 +94,12 @@ advanced [] = []
 advanced (f ∷ fs) = record f { next = f.next + 1 } ∷ fs
 
 -- a frame of a function with the registers of the top one
-abbrev pub entered : ℕ → List CallFrame → List CallFrame
-entered g [] = []
-entered g (f ∷ fs) = record f { function = g; next = 0 } ∷ []
+abbrev pub entered_frames : ℕ → List CallFrame → List CallFrame
+entered_frames g [] = []
+entered_frames g (f ∷ fs) = record f { function = g; next = 0 } ∷ []
 
 abbrev pub child_belongings : ℕ → Belongings → Belongings
-child_belongings g h = record { chunks = []; room = 0; since = 0; count = 0; frames = entered g h.frames; result = (pos 0, None); begun = None; view = frozen_chunks h.chunks ∷ h.view }
+child_belongings g h = record { chunks = []; room = 0; since = 0; count = 0; frames = entered_frames g h.frames; result = (pos 0, None); begun = None; view = frozen_chunks h.chunks ∷ h.view }
 
 -- of the memory
 pub record ForksBelongings (v v' : Memory) (t a b g h : ℕ) : Type 0 where
@@ -252,12 +252,12 @@ pub record EndsBelongings (v v' : Memory) (t : ℕ) (f : CallFrame) (fs : List C
 
 -- STORES OF A NUMBER, as those of a reference
 
-abbrev pub with_number : ℕ → ℤ → Located → Located
-with_number i k o = record o { ints = slice_set o.ints i k }
+abbrev pub with_int_field : ℕ → ℤ → Located → Located
+with_int_field i k o = record o { ints = slice_set o.ints i k }
 
 -- of the memory
 pub record StoresNumberAt (v v' : Memory) (t : ℕ) (f : CallFrame) (fs : List CallFrame) (a : Addr) (w i : ℕ) : Type 0 where
   pub frames : (v.belongings t).frames ≡ f ∷ fs
   pub goes : (v'.belongings t).frames ≡ record f { next = f.next + 1 } ∷ fs
-  pub writes : WritesAt v v' t a (with_number i (int_of f w))
+  pub writes : WritesAt v v' t a (with_int_field i (int_of f w))
   pub only : (u : ℕ) (s : RefField) → In (sources v' u) s → In (sources v u) s

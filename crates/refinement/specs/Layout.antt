@@ -2,7 +2,7 @@
 use Rattle.std.specs.Prelude.{◌≡◌, ◌⊎◌, ◌&&◌, ◌==◌, ◌+◌, ◌*◌, ◌≤◌, ℕ, zero, suc, true, false, List, [], ◌∷◌, length, map, filter}
 use Rattle.std.specs.List.{IsDistinct}
 use Rattle.refinement.specs.Common.{is_empty, units, Located, chunk_words}
-use Rattle.refinement.specs.Memory.{Chunk, In, objects_in}
+use Rattle.refinement.specs.Memory.{Chunk, In, objects_of_chunks}
 
 -- the words of an object: its header and its name, its references and its numbers
 abbrev pub words : Located → ℕ
@@ -31,7 +31,7 @@ pub record AreLaidOut (ks : List Chunk) (spare : ℕ) : Type 0 where
   pub numbers : IsDistinct (λ a b. a == b) (map (λ k. k.number) ks)
   -- each object is in its chunk with its own words, and overlaps no other
   pub within : (k : Chunk) (o : Located) → In ks k → In k.objects o → o.at.offset + words o ≤ chunk_words * k.units
-  pub apart : (o q : Located) → In (objects_in ks) o → In (objects_in ks) q → (o ≡ q) ⊎ DontOverlap o q
+  pub apart : (o q : Located) → In (objects_of_chunks ks) o → In (objects_of_chunks ks) q → (o ≡ q) ⊎ DontOverlap o q
   pub small : (k : Chunk) → In ks k → k.large ≡ false → k.units ≡ 1
   pub large : (k : Chunk) → In ks k → k.large ≡ true → HoldsLarge k
   pub reserved : map (λ k. k.units) (reserved_chunks ks) ≡ reserved_units spare

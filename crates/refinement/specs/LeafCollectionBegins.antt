@@ -1,10 +1,10 @@
 -- A leaf collection begins: what its roots and the registers reach, by addresses.
 use Rattle.std.specs.Prelude.{◌≡◌, ◌⊎◌, ◌↔◌, ℕ, Some, List, slice_get}
 use Rattle.refinement.specs.Common.{IsReached, Addr, Located, Ledger, CallFrame, RefField, Rests}
-use Rattle.refinement.specs.Memory.{Belongings, Memory, In, objects, objects_in, sources}
+use Rattle.refinement.specs.Memory.{Belongings, Memory, In, objects, objects_of_chunks, sources}
 
 abbrev pub HoldsAt : Belongings → Addr → Located → Type 0
-HoldsAt h a o = In (objects_in h.chunks) o × (o.at ≡ a)
+HoldsAt h a o = In (objects_of_chunks h.chunks) o × (o.at ≡ a)
 
 -- a walk starts at an object that a register or a root names
 abbrev pub StartsAt : Belongings → List Addr → Addr → Type 0

@@ -51,11 +51,11 @@ pub record Memory : Type 0 where
   pub owner : ℕ → Option ℕ
 
 -- the objects of chunks
-abbrev pub objects_in : List Chunk → List Located
-objects_in ks = flat_map (λ k. k.objects) ks
+abbrev pub objects_of_chunks : List Chunk → List Located
+objects_of_chunks ks = flat_map (λ k. k.objects) ks
 
 abbrev pub objects : Memory → ℕ → List Located
-objects v t = objects_in (v.belongings t).chunks
+objects v t = objects_of_chunks (v.belongings t).chunks
 
 abbrev pub sources : Memory → ℕ → List RefField
 sources v t = (v.noted t).sources
@@ -66,7 +66,7 @@ pub record LiesAt (n : Name) (a : Addr) (o : Located) : Type 0 where
   pub at : o.at ≡ a
 
 abbrev pub Lies : List Chunk → Name → Addr → Type 0
-Lies ks n a = (o : Located) × In (objects_in ks) o × LiesAt n a o
+Lies ks n a = (o : Located) × In (objects_of_chunks ks) o × LiesAt n a o
 
 -- UPDATED REFERENCES
 

@@ -1,7 +1,7 @@
 -- What a memory keeps of a waiting heap from its task's fork until its sweep: enough to find the snapshot by addresses.
 use Rattle.std.specs.Prelude.{◌≡◌, ◌⊎◌, ◌↔◌, ◌&&◌, not, ℕ, true, false, Some, None, List, [], ◌++◌, length, slice_get}
 use Rattle.refinement.specs.Common.{is_waiting, Addr, Located, Ledger, heap_of, CallFrame}
-use Rattle.refinement.specs.Memory.{Belongings, Memory, In, object_name, objects, objects_in}
+use Rattle.refinement.specs.Memory.{Belongings, Memory, In, object_name, objects, objects_of_chunks}
 use Rattle.refinement.specs.LeafCollectionBegins.{IsReachedAt, IsRoot}
 use Rattle.refinement.specs.Marking.{MarkedBy}
 
@@ -17,12 +17,12 @@ pub record Since (v : Memory) (l : Ledger) (t : ℕ) : Type 0 where
   -- each root is still one, or was kept
   pub rooted : (b : Addr) → In roots b → IsRoot v l t b ⊎ In (kept v t) b
   -- its objects are those that are there now, where they are
-  pub there : (o : Located) → In (objects_in belongings.chunks) o → (q : Located) × In (objects v t) q × (q.at ≡ o.at) × (object_name q ≡ object_name o)
-  pub were : (q : Located) → In (objects v t) q → (o : Located) × In (objects_in belongings.chunks) o × (q.at ≡ o.at) × (object_name q ≡ object_name o)
+  pub there : (o : Located) → In (objects_of_chunks belongings.chunks) o → (q : Located) × In (objects v t) q × (q.at ≡ o.at) × (object_name q ≡ object_name o)
+  pub were : (q : Located) → In (objects v t) q → (o : Located) × In (objects_of_chunks belongings.chunks) o × (q.at ≡ o.at) × (object_name q ≡ object_name o)
   -- the snapshot is what was reachable then
   pub snapshot : (q : Located) → In (objects v t) q → IsReachedAt belongings roots q.at ↔ In (heap_of l t).snapshot (object_name q)
   -- what was overwritten since then was kept, and is in the snapshot
-  pub overwritten : (o q : Located) (b : Addr) → In (objects_in belongings.chunks) o → In (objects v t) q → q.at ≡ o.at → In o.refs (Some b) → v.owner b.chunk ≡ Some t → In q.refs (Some b) ⊎ In (kept v t) b
+  pub overwritten : (o q : Located) (b : Addr) → In (objects_of_chunks belongings.chunks) o → In (objects v t) q → q.at ≡ o.at → In o.refs (Some b) → v.owner b.chunk ≡ Some t → In q.refs (Some b) ⊎ In (kept v t) b
   pub each : (b : Addr) → In (kept v t) b → (q : Located) × In (objects v t) q × (q.at ≡ b) × In (heap_of l t).snapshot (object_name q)
 
 -- a write of the field i of the object at a in the memory v: the old value is kept if it points into t's heap

@@ -1,7 +1,7 @@
 -- A memory stands for the accounts of a journal.
 use Rattle.std.specs.Prelude.{◌≡◌, ◌⊎◌, ℕ, suc, ◌<◌, true, false, not, Some, is_some, List, drop, slice_get, length, map, filter}
 use Rattle.refinement.specs.Common.{Addr, Located, Name, Object, Task, object_at, row_of, is_on_path, is_waiting, is_joined, Heap, Ledger, heap_of, RefField, own, Rests}
-use Rattle.refinement.specs.Memory.{Chunk, Memory, In, object_name, objects, objects_in, sources, Lies, as_shown, shown_at}
+use Rattle.refinement.specs.Memory.{Chunk, Memory, In, object_name, objects, objects_of_chunks, sources, Lies, as_shown, shown_at}
 use Rattle.refinement.specs.Layout.{AreLaidOut}
 use Rattle.refinement.specs.ReadsReference.{IsModelObject, TaskIsRead}
 
@@ -23,7 +23,7 @@ large_chunks ks = filter (λ k. k.large) ks
 
 pub record HasNames (ks : List Chunk) (h : Heap) : Type 0 where
   pub small : map names_of (small_chunks ks) ≡ h.chunks
-  pub large : map object_name (objects_in (large_chunks ks)) ≡ h.large
+  pub large : map object_name (objects_of_chunks (large_chunks ks)) ≡ h.large
 
 -- a heap whose task rests
 pub record BelongingsStand (v : Memory) (l : Ledger) (t : ℕ) : Type 0 where

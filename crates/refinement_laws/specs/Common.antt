@@ -1,7 +1,7 @@
 -- The names of lower crates that these specifications use. Declares nothing.
 pub use Rattle.refinement.specs.LeafCollectionBegins.{HoldsAt, IsRoot, LeadsAt}
 pub use Rattle.refinement.specs.Changes.{Moves, KeepsJust, SameBut, SameObjects, gone_on}
-pub use Rattle.refinement.specs.Copies.{PartFits, CopyFits, EndsAt, before}
+pub use Rattle.refinement.specs.Copies.{PartFits, CopyFits, EndsAt, part_before}
 pub use Rattle.refinement.specs.Counts.{CountsGo, IsQuiet, IsMarked}
 pub use Rattle.refinement.specs.EntryMakes.{EntryMakes, taken_by, BelongingsAfter, StepsTo}
 pub use Rattle.refinement.specs.Fits.{with_belongings, part_for, Part}

@@ -1,5 +1,5 @@
 -- The laws of leaf collections that have begun, of copies and of marks.
-use Rattle.refinement_laws.specs.Common.{PartFits, CopyFits, EndsAt, before, Heap, Ledger, heap_of, with_heap, collected, held_in, left_in, is_name, SoundLedger, Addr, Located, ProgramText, SettingsValue, Running, Task, Name, MarksStand, Belongings, Memory, In, object_name, objects, Rests, rested, Stands, with_belongings, Moves}
+use Rattle.refinement_laws.specs.Common.{PartFits, CopyFits, EndsAt, part_before, Heap, Ledger, heap_of, with_heap, collected, held_in, left_in, is_name, SoundLedger, Addr, Located, ProgramText, SettingsValue, Running, Task, Name, MarksStand, Belongings, Memory, In, object_name, objects, Rests, rested, Stands, with_belongings, Moves}
 use Rattle.std.specs.List.{IsDistinct}
 use Rattle.std.specs.Prelude.{◌≡◌, ℕ, true, Some, None, slice_get, ◌↔◌, List}
 
@@ -10,7 +10,7 @@ abbrev pub CopiesEnd : Type 0
 CopiesEnd =
     (p : ProgramText) (s : SettingsValue) (t : ℕ) (h h' : Belongings) (f : Addr → Addr) (v v' : Memory) (l : Ledger) (x : Task) (hs : Heap) → SoundLedger l → slice_get l.machine.tasks t ≡ Some x → x.status ≡ Running → slice_get l.heaps t ≡ Some hs
     → CopyFits p s t h h' f v l → EndsAt v v' t h' f → h'.begun ≡ None → let l' : Ledger = with_heap l t (collected l.machine) in
-    Moves (with_belongings v t h) (with_belongings v' t h') (rested l t) (rested l' t) t (heap_of (rested l t) t).survivors f × PartFits p s (before s t h') v' l'
+    Moves (with_belongings v t h) (with_belongings v' t h') (rested l t) (rested l' t) t (heap_of (rested l t) t).survivors f × PartFits p s (part_before s t h') v' l'
 
 -- MARKS: nothing is left to mark if and only if each object of the snapshot is marked, provided that the snapshot has
 -- each name once, and all of it is held

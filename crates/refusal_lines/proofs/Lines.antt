@@ -2,7 +2,7 @@
 use Rattle.std.proofs.Common.{◌≡◌, ◌++◌, ◌∷◌, ℕ, List, [], codes, append_assoc}
 use Rattle.std.specs.Fmt.{decimal}
 use Rattle.image_check.specs.declared.cause.ImageFault.{ImageFault}
-use Rattle.image_check.specs.ImageCause.{text_of_cause as text_of_fault}
+use Rattle.image_check.specs.ImageCause.{image_cause_text as text_of_fault}
 use Rattle.program_reader.specs.declared.cause.TextFault.{TextFault}
 use Rattle.program_reader.specs.Cause.{text_of_cause}
 use Rattle.refusal_lines.specs.Refusals.{image_line, source_line}

@@ -7,7 +7,7 @@ use Rattle.trace_input.specs.declared.input.InputFault.{InputFault}
 use Rattle.trace_input.specs.declared.input.InputFault.TheVariants.{Source as SourceFault, BadLine}
 use Rattle.run_ledger.specs.Text.{end_line, refused_line}
 use Rattle.image_check.specs.declared.cause.ImageFault.{ImageFault}
-use Rattle.image_check.specs.ImageCause.{text_of_cause as text_of_fault}
+use Rattle.image_check.specs.ImageCause.{image_cause_text as text_of_fault}
 use Rattle.refusal_lines.specs.declared.refusal.Refusal.{Refusal}
 use Rattle.refusal_lines.specs.declared.refusal.Refusal.TheVariants.{Words, Source, Line, Entry, Image}
 

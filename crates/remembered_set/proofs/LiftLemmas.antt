@@ -1,5 +1,5 @@
 -- What a set holds after others were lifted into it.
-use Rattle.remembered_set.proofs.Common.{◌≡◌, Bool, true, false, cond, List, [], ◌∷◌, ◌++◌, fold, ◌⊎◌, inl, inr, refl, sym, ap, subst, not, not-true, has_chunk, In, contains_from_in, in_append_cases, in_append_left, in_append_right, in_from_any, in_from_contains, in_from_kept, in_kept, RefField, has_source, lifted, noted, outside, same_source, LiftedAreThere}
+use Rattle.remembered_set.proofs.Common.{◌≡◌, Bool, true, false, cond, List, [], ◌∷◌, ◌++◌, fold, ◌⊎◌, inl, inr, refl, sym, ap, subst, not, not-true, has_chunk, In, contains_from_in, in_append_cases, in_append_left, in_append_right, in_from_any, in_from_contains, in_from_kept, in_kept, RefField, has_source, lifted, with_noted_source, outside, same_source, LiftedAreThere}
 use Rattle.remembered_set.proofs.Noting.{same_is}
 
 pub source_in : (xs : List RefField) (s : RefField) → has_source xs s ≡ true → In xs s
@@ -17,18 +17,18 @@ cases_by : (b : Bool) (xs : List RefField) (s t : RefField) → In (cond b xs (x
 cases_by true xs s t h = inl h
 cases_by false xs s t h = elim (in_append_cases xs (s ∷ []) t h) [ inl i ↦ inl i | inr i ↦ elim i [ inl e ↦ inr e | inr n ↦ absurd n ] ]
 
-in_all_old : (ys xs : List RefField) (t : RefField) → In xs t → In (fold noted xs ys) t
+in_all_old : (ys xs : List RefField) (t : RefField) → In xs t → In (fold with_noted_source xs ys) t
 in_all_old [] xs t h = h
-in_all_old (y ∷ ys) xs t h = in_all_old ys (noted xs y) t (old_by (has_source xs y) xs y t h)
+in_all_old (y ∷ ys) xs t h = in_all_old ys (with_noted_source xs y) t (old_by (has_source xs y) xs y t h)
 
-in_all_new : (ys xs : List RefField) (t : RefField) → In ys t → In (fold noted xs ys) t
+in_all_new : (ys xs : List RefField) (t : RefField) → In ys t → In (fold with_noted_source xs ys) t
 in_all_new [] xs t h = absurd h
-in_all_new (y ∷ ys) xs t (inl e) = in_all_old ys (noted xs y) t (subst (λ (z : RefField). In (noted xs y) z) e (new_by (has_source xs y) xs y refl))
-in_all_new (y ∷ ys) xs t (inr h) = in_all_new ys (noted xs y) t h
+in_all_new (y ∷ ys) xs t (inl e) = in_all_old ys (with_noted_source xs y) t (subst (λ (z : RefField). In (with_noted_source xs y) z) e (new_by (has_source xs y) xs y refl))
+in_all_new (y ∷ ys) xs t (inr h) = in_all_new ys (with_noted_source xs y) t h
 
-in_all_cases : (ys xs : List RefField) (t : RefField) → In (fold noted xs ys) t → In xs t ⊎ In ys t
+in_all_cases : (ys xs : List RefField) (t : RefField) → In (fold with_noted_source xs ys) t → In xs t ⊎ In ys t
 in_all_cases [] xs t h = inl h
-in_all_cases (y ∷ ys) xs t h = elim (in_all_cases ys (noted xs y) t h) [
+in_all_cases (y ∷ ys) xs t h = elim (in_all_cases ys (with_noted_source xs y) t h) [
   | inl a ↦ elim (cases_by (has_source xs y) xs y t a) [ inl b ↦ inl b | inr e ↦ inr (inl e) ]
   | inr a ↦ inr (inr a)
 ]

@@ -1,18 +1,18 @@
 -- The new address of an address, in a sorted relocation list.
-use Rattle.remembered_set.proofs.Common.{◌≡◌, ℕ, zero, suc, ◌+◌, ◌^◌, ◌<◌, ◌≤◌, true, false, List, [], ◌∷◌, length, get_or, refl, ap, arith, ⊎_elim, eqb, Some, None, and_from, and_parts, cases_Bool, cases_lt, eq-eqb, eqb-true, get_or_default, Addr, new_of, number_of, same_address, AreInOrder, ArePlaces}
+use Rattle.remembered_set.proofs.Common.{◌≡◌, ℕ, zero, suc, ◌+◌, ◌^◌, ◌<◌, ◌≤◌, true, false, List, [], ◌∷◌, length, get_or, refl, ap, arith, ⊎_elim, eqb, Some, None, and_from, and_parts, cases_Bool, cases_lt, eq-eqb, eqb-true, get_or_default, Addr, new_of, address_key, same_address, AreInOrder, ArePlaces}
 
 same_parts : (a b : Addr) → same_address a b ≡ true → (a.chunk ≡ b.chunk) × (a.offset ≡ b.offset)
 same_parts a b e =
     let p = and_parts (eqb a.chunk b.chunk) (eqb a.offset b.offset) e in
     (eqb-true a.chunk b.chunk p.0, eqb-true a.offset b.offset p.1)
 
-pub same_from_number : (a b : Addr) → a.offset < 2 ^ 32 → b.offset < 2 ^ 32 → number_of a ≡ number_of b → same_address a b ≡ true
+pub same_from_number : (a b : Addr) → a.offset < 2 ^ 32 → b.offset < 2 ^ 32 → address_key a ≡ address_key b → same_address a b ≡ true
 same_from_number a b p q e =
     let chunk : a.chunk ≡ b.chunk = omega arith in
     let offset : a.offset ≡ b.offset = omega arith in
     and_from (eqb a.chunk b.chunk) (eqb a.offset b.offset) (eq-eqb a.chunk b.chunk chunk) (eq-eqb a.offset b.offset offset)
 
-number_same : (a b : Addr) → same_address a b ≡ true → number_of a ≡ number_of b
+number_same : (a b : Addr) → same_address a b ≡ true → address_key a ≡ address_key b
 number_same a b e =
     let p = same_parts a b e in
     let chunk : a.chunk ≡ b.chunk = p.0 in
@@ -22,7 +22,7 @@ number_same a b e =
 tail_in_order : (m : Addr × Addr) (ms : List (Addr × Addr)) → AreInOrder (m ∷ ms) → AreInOrder ms
 tail_in_order m ms h i j d l k = h (suc i) (suc j) d (omega arith) (omega arith)
 
-pub new_of-none : (ms : List (Addr × Addr)) (a : Addr) → ((i : ℕ) (d : Addr × Addr) → i < length ms → number_of (get_or ms i d).0 ≡ number_of a → ⊥) → new_of ms a ≡ None
+pub new_of-none : (ms : List (Addr × Addr)) (a : Addr) → ((i : ℕ) (d : Addr × Addr) → i < length ms → address_key (get_or ms i d).0 ≡ address_key a → ⊥) → new_of ms a ≡ None
 new_of-none [] a h = refl
 new_of-none (m ∷ ms) a h =
     ⊎_elim
@@ -45,17 +45,17 @@ new_of-found (m ∷ ms) h a (suc i) d l e =
 
 -- one step of a search
 module _ (ms : List (Addr × Addr)) (order : AreInOrder ms) (m w : ℕ) (e : Addr × Addr) (l : m < length ms) where
-  pub below_more : number_of (get_or ms m e).0 < w → (i : ℕ) (d : Addr × Addr) → i < m + 1 → number_of (get_or ms i d).0 < w
+  pub below_more : address_key (get_or ms m e).0 < w → (i : ℕ) (d : Addr × Addr) → i < m + 1 → address_key (get_or ms i d).0 < w
   below_more less i d k =
-      let same = ap (λ (x : Addr × Addr). number_of x.0) (get_or_default ms m e d l) in
+      let same = ap (λ (x : Addr × Addr). address_key x.0) (get_or_default ms m e d l) in
       ⊎_elim
       (λ (b : i < m). let o = order i m d b l in omega arith)
       (λ (b : m ≤ i). let i' : i ≡ m = omega arith in rw i' (omega arith))
       (cases_lt i m)
 
-  pub above_more : w < number_of (get_or ms m e).0 → (i : ℕ) (d : Addr × Addr) → m ≤ i → i < length ms → w < number_of (get_or ms i d).0
+  pub above_more : w < address_key (get_or ms m e).0 → (i : ℕ) (d : Addr × Addr) → m ≤ i → i < length ms → w < address_key (get_or ms i d).0
   above_more more i d k in' =
-      let same = ap (λ (x : Addr × Addr). number_of x.0) (get_or_default ms m e d l) in
+      let same = ap (λ (x : Addr × Addr). address_key x.0) (get_or_default ms m e d l) in
       ⊎_elim
       (λ (b : m < i). let o = order m i d b in' in omega arith)
       (λ (b : i ≤ m). let i' : i ≡ m = omega arith in rw i' (omega arith))

@@ -1,6 +1,6 @@
 -- Noted sources are distinct.
 use Rattle.std.proofs.Common.{eqb-true, eq-eqb}
-use Rattle.remembered_set.proofs.Common.{◌≡◌, ℕ, Bool, true, false, cond, ◌||◌, List, [], ◌∷◌, ◌++◌, refl, sym, ap, ◌∙◌, eqb, ◌&&◌, and_parts, false≢true, or_parts, or-false, or_assoc, RefField, has_source, noted, same_source, StandOnce}
+use Rattle.remembered_set.proofs.Common.{◌≡◌, ℕ, Bool, true, false, cond, ◌||◌, List, [], ◌∷◌, ◌++◌, refl, sym, ap, ◌∙◌, eqb, ◌&&◌, and_parts, false≢true, or_parts, or-false, or_assoc, RefField, has_source, with_noted_source, same_source, StandOnce}
 
 -- the test of sources decides equality
 pub same_is : (a b : RefField) → same_source a b ≡ true → a ≡ b
@@ -39,5 +39,5 @@ once_by : (b : Bool) (xs : List RefField) (s : RefField) → has_source xs s ≡
 once_by true xs s e h = h
 once_by false xs s e h = once_more xs s e h
 
-pub once_noted : (xs : List RefField) (s : RefField) → StandOnce xs → StandOnce (noted xs s)
+pub once_noted : (xs : List RefField) (s : RefField) → StandOnce xs → StandOnce (with_noted_source xs s)
 once_noted xs s h = once_by (has_source xs s) xs s refl h

@@ -4,7 +4,7 @@ use Rattle.object_layout.specs.declared.word.Addr.{Addr}
 use Rattle.object_layout.specs.ChunkValue.{ChunkValue}
 use Rattle.object_layout.specs.Chunks.{has_chunk}
 use Rattle.remembered_set.specs.declared.remembered.RefField.{RefField}
-use Rattle.remembered_set.specs.Sources.{has_source, lifted, noted, StandOnce}
+use Rattle.remembered_set.specs.Sources.{has_source, lifted, with_noted_source, StandOnce}
 use Rattle.remembered_set.specs.Moved.{led_by, redirected, AreFields}
 
 -- of another set, those whose object is outside these chunks

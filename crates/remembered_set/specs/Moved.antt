@@ -18,8 +18,8 @@ abbrev pub into : List ChunkValue → Option Addr → List Addr
 into ks r = into_by (has_chunk ks) r
 
 -- an address as one number, in the order of addresses
-abbrev pub number_of : Addr → ℕ
-number_of a = a.chunk * 2 ^ 32 + a.offset
+abbrev pub address_key : Addr → ℕ
+address_key a = a.chunk * 2 ^ 32 + a.offset
 
 -- the new address of the object that was moved from this one, if any
 abbrev pub new_of : List (Addr × Addr) → Addr → Option Addr
@@ -33,7 +33,7 @@ new_reference ms (Some a) = new_of ms a
 
 -- the old addresses are in ascending order, each once
 abbrev pub AreInOrder : List (Addr × Addr) → Type 0
-AreInOrder ms = (i j : ℕ) (d : Addr × Addr) → i < j → j < length ms → number_of (slice_index_or ms i d).0 < number_of (slice_index_or ms j d).0
+AreInOrder ms = (i j : ℕ) (d : Addr × Addr) → i < j → j < length ms → address_key (slice_index_or ms i d).0 < address_key (slice_index_or ms j d).0
 
 -- the new addresses are addresses of objects
 abbrev pub ArePlaces : List (Addr × Addr) → Type 0

@@ -26,8 +26,8 @@ abbrev pub has_source : List RefField → RefField → Bool
 has_source xs s = list_any (same_source s) xs
 
 -- the sources with one more noted, each once
-abbrev pub noted : List RefField → RefField → List RefField
-noted xs s = if has_source xs s then xs else xs ++ s ∷ []
+abbrev pub with_noted_source : List RefField → RefField → List RefField
+with_noted_source xs s = if has_source xs s then xs else xs ++ s ∷ []
 
 -- these are distinct
 abbrev pub StandOnce : List RefField → Type 0
@@ -40,7 +40,7 @@ outside ks xs = filter (λ s. not (has_chunk ks s.object.chunk)) xs
 
 -- the sources with those of another set noted, except those whose object is in these chunks
 abbrev pub lifted : List RefField → List RefField → List ChunkValue → List RefField
-lifted xs ys ks = fold noted xs (outside ks ys)
+lifted xs ys ks = fold with_noted_source xs (outside ks ys)
 
 -- a table contains exactly these sources, each once
 pub record KnowsJust (xs : List RefField) (knows : RefField → Bool) : Type 0 where

@@ -1,13 +1,13 @@
 // The relocation list of a collection, and the new address of an address.
 
 ghost use Rattle.std.specs.Prelude.{◌≡◌, ◌^◌, ◌<◌};
-ghost use Rattle.remembered_set.specs.Moved.{new_of, number_of, AreInOrder};
+ghost use Rattle.remembered_set.specs.Moved.{new_of, address_key, AreInOrder};
 
 use object_layout::Addr;
 
 // An address as one number, in the order of addresses.
-fn number_of(address: Addr) -> u64
-    ensures number { result ≡ number_of address }
+fn address_key(address: Addr) -> u64
+    ensures number { result ≡ address_key address }
     ensures chunk { address.chunk < 2 ^ 32 }
     ensures offset { address.offset < 2 ^ 32 }
 {
@@ -19,13 +19,13 @@ pub(crate) fn new_of(moved: &[(Addr, Addr)], old: Addr) -> Option<Addr>
     requires { AreInOrder moved.now }
     ensures { result ≡ new_of moved.now old }
 {
-    let wanted = number_of(old);
+    let wanted = address_key(old);
     let mut low = 0;
     let mut high = moved.len();
     while low < high {
         let middle = low + (high - low) / 2;
         let (from, to) = moved[middle];
-        let number = number_of(from);
+        let number = address_key(from);
         if number == wanted {
             return Some(to);
         }

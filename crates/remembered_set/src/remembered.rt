@@ -1,7 +1,7 @@
 // A remembered set, which allocates nothing until it holds something.
 
 ghost use Rattle.std.specs.Prelude.{◌≡◌, ◌+◌, ◌<◌, ◌≤◌, [], fold, IfOk, None, OnErr, OnOk, length};
-ghost use Rattle.remembered_set.specs.Sources.{lifted, noted, notes_in, StandOnce};
+ghost use Rattle.remembered_set.specs.Sources.{lifted, with_noted_source, notes_in, StandOnce};
 ghost use Rattle.remembered_set.specs.Moved.{redirected, targets_of, AreFields, AreInOrder, ArePlaces};
 
 use crate::table::FieldTable;
@@ -91,7 +91,7 @@ impl Remembered {
 
     /// Notes a source, unless it is there already.
     pub fn note(&mut self, object: Addr, field: u32) -> Result<(), AllocError>
-        ensures ok { OnOk result (self.new.sources ≡ noted self.old.sources (record { object = object; field = field })) }
+        ensures ok { OnOk result (self.new.sources ≡ with_noted_source self.old.sources (record { object = object; field = field })) }
         ensures err { OnErr result (self.new.sources ≡ self.old.sources) }
     {
         self.make_room(1, 0)?;
@@ -103,7 +103,7 @@ impl Remembered {
     pub fn note_spare(&mut self, source: RefField)
         requires slots { 0 < self.old.slots }
         requires spare { 0 < self.old.spare }
-        ensures noted { self.new.sources ≡ noted self.old.sources source }
+        ensures noted { self.new.sources ≡ with_noted_source self.old.sources source }
         ensures slots { self.old.slots ≤ self.new.slots + 1 }
         ensures spare { self.old.spare ≤ self.new.spare + 1 }
     {

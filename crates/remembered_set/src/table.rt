@@ -3,7 +3,7 @@
 ghost use Rattle.std.specs.Prelude.{◌≡◌, ℕ, ◌+◌, ◌-◌, ◌<◌, ◌≤◌, [], ◌++◌, filter, fold, IfOk, OnOk, length, nat_eq, not, vec_capacity, vec_len};
 ghost use Rattle.std.specs.HashSet.{contains, hash_set_len, spare};
 ghost use Rattle.remembered_set.specs.declared.remembered.RefField.{RefField};
-ghost use Rattle.remembered_set.specs.Sources.{has_chunk, has_source, lifted, noted, same_source, KnowsJust, StandOnce};
+ghost use Rattle.remembered_set.specs.Sources.{has_chunk, has_source, lifted, with_noted_source, same_source, KnowsJust, StandOnce};
 ghost use Rattle.remembered_set.specs.Moved.{into_by, redirected, targets_of, AreFields, AreInOrder, ArePlaces};
 
 use crate::moved::new_of;
@@ -78,7 +78,7 @@ impl FieldTable {
     pub fn note_spare(&mut self, source: RefField)
         requires slots { 0 < self.old.slots }
         requires spare { 0 < self.old.spare }
-        ensures noted { self.new.sources ≡ noted self.old.sources source }
+        ensures noted { self.new.sources ≡ with_noted_source self.old.sources source }
         ensures slots { self.old.slots ≤ self.new.slots + 1 }
         ensures spare { self.old.spare ≤ self.new.spare + 1 }
     {
@@ -161,7 +161,7 @@ fn note_in(sources: &mut Vec<RefField>, known: &mut HashSet<RefField>, source: R
     requires slots { vec_len sources.old < vec_capacity sources.old }
     requires spare { 0 < spare known.old }
     requires kept { KnowsJust sources.old.items (contains same_source known.old) }
-    ensures noted { sources.new.items ≡ noted sources.old.items source }
+    ensures noted { sources.new.items ≡ with_noted_source sources.old.items source }
     ensures known { (s : RefField) → contains same_source known.new s ≡ has_source sources.new.items s }
     ensures once { StandOnce sources.new.items }
     ensures slots { vec_capacity sources.old - vec_len sources.old ≤ vec_capacity sources.new - vec_len sources.new + 1 }
@@ -182,7 +182,7 @@ fn note_all(
     requires slots { length from.now ≤ vec_capacity sources.old - vec_len sources.old }
     requires spare { length from.now ≤ spare known.old }
     requires kept { KnowsJust sources.old.items (contains same_source known.old) }
-    ensures noted { sources.new.items ≡ fold noted sources.old.items (filter (λ s. not (contains nat_eq numbers.now s.object.chunk)) from.now) }
+    ensures noted { sources.new.items ≡ fold with_noted_source sources.old.items (filter (λ s. not (contains nat_eq numbers.now s.object.chunk)) from.now) }
     ensures kept { KnowsJust sources.new.items (contains same_source known.new) }
     ensures slots { vec_capacity sources.old - vec_len sources.old ≤ vec_capacity sources.new - vec_len sources.new + length from.now }
     ensures spare { spare known.old ≤ spare known.new + length from.now }

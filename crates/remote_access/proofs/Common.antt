@@ -33,8 +33,8 @@ pub use Rattle.step_commit.specs.below.leaf_heap.{LeafHeapValue, room_of}
 pub use Rattle.step_commit.specs.below.ledger_step_laws.{Rests, own, rested, Splits, JustReads, Reading, ReadsOther, RunsPrivateSteps, stepped_by, WritesOther, Writing}
 pub use Rattle.step_commit.specs.below.object_layout.{Addr, same_address, same_reference, Located, Birth, Born, Cell, cell_of, object_of, size_of, located, with_fields, IsPlace, with_int, with_ref}
 pub use Rattle.step_commit.specs.below.plain_vec.{ReservedVecValue, option_is}
-pub use Rattle.step_commit.specs.below.refinement.{Lies, Memory, object_name, ReadsReference, Place, Stands, Belongings, In, objects, objects_in, with_belongings, AllRead, FrameIsRead, FramesAreRead, HoldsRead, Chunk, mapped_chunk, put_at, sources, WritesAt, words, BelongingsStand, StandsForAll, WorkerFits, gone_on, StoresInto, StoresNotes, Stores, BelongingsAfterStore, StoreMarks, StoresAt, StoresNumberAt, with_field, with_number, Keeps, OthersNotes, as_node, part_for, RanCounts, StandsFor, by_end, Noted}
-pub use Rattle.step_commit.specs.below.remembered_set.{RefField, has_source, noted}
+pub use Rattle.step_commit.specs.below.refinement.{Lies, Memory, object_name, ReadsReference, Place, Stands, Belongings, In, objects, objects_of_chunks, with_belongings, AllRead, FrameIsRead, FramesAreRead, HoldsRead, Chunk, mapped_chunk, put_at, sources, WritesAt, words, BelongingsStand, StandsForAll, WorkerFits, gone_on, StoresInto, StoresNotes, Stores, BelongingsAfterStore, StoreMarks, StoresAt, StoresNumberAt, with_field, with_int_field, Keeps, OthersNotes, as_node, part_for, RanCounts, StandsFor, by_end, Noted}
+pub use Rattle.step_commit.specs.below.remembered_set.{RefField, has_source, with_noted_source}
 pub use Rattle.step_commit.specs.below.run_ledger.{task_steps, Ledger, owns, touched, heap_of, Heap, or_fresh}
 pub use Rattle.step_commit.specs.below.run_trace.{EntryValue}
 pub use Rattle.step_commit.specs.below.task_frames.{int_of, ref_of, CallFrame, with_next, with_reference, FramesValue}

@@ -1,6 +1,6 @@
 -- Before the run's end, the object in a register of a part that fits, if another task owns it, is in that task's heap,
 -- and no worker holds that task.
-use Rattle.remote_access.proofs.Common.{◌≡◌, ℕ, pos, true, Option, Some, None, ◌∷◌, slice_get, unwrap_or, inl, refl, ap, sym, subst, ◌∙◌, same_Some, Name, Object, Task, int_in, object_at, ref_in, task_names, at_in, in_registers, names_run, Ledger, task_steps, Addr, Birth, Born, Cell, cell_of, Located, Rests, own, rested, Belongings, In, Lies, Memory, objects, objects_in, with_belongings, AllRead, FrameIsRead, FramesAreRead, HoldsRead, ReadsReference, Place, field_of, at_belongings, Private, int_of, ref_of, ParkedTask, Work, Calls, Result, SharedValue, accounts, frames_down, belongings_by, belongings_in, rest_at, value_of, chunks_of, IsSharedValue, Fits, belongings_of_part, seen_object}
+use Rattle.remote_access.proofs.Common.{◌≡◌, ℕ, pos, true, Option, Some, None, ◌∷◌, slice_get, unwrap_or, inl, refl, ap, sym, subst, ◌∙◌, same_Some, Name, Object, Task, int_in, object_at, ref_in, task_names, at_in, in_registers, names_run, Ledger, task_steps, Addr, Birth, Born, Cell, cell_of, Located, Rests, own, rested, Belongings, In, Lies, Memory, objects, objects_of_chunks, with_belongings, AllRead, FrameIsRead, FramesAreRead, HoldsRead, ReadsReference, Place, field_of, at_belongings, Private, int_of, ref_of, ParkedTask, Work, Calls, Result, SharedValue, accounts, frames_down, belongings_by, belongings_in, rest_at, value_of, chunks_of, IsSharedValue, Fits, belongings_of_part, seen_object}
 use Rattle.step_commit.specs.below.hh_model.{is_on_path}
 use Rattle.step_commit.proofs.below.core_invariant.PartFitsMachine as link
 
@@ -92,10 +92,10 @@ module _ (w : SharedValue) (k : ℕ) (p : Private) (I : IsSharedValue w) (F : Fi
     foreign_by_rest : (o : Option ParkedTask) → rest_at w.rests u ≡ o → Lies (belongings_in o).chunks n a → IsForeign w v' L t n a
     foreign_by_rest None e y = absurd y.1
     foreign_by_rest (Some r) e y =
-        let i : In (objects_in (chunks_of r.heap.chunks)) y.0 = subst (λ ks. In (objects_in ks) y.0) (rest_chunks r r.work) y.1 in
+        let i : In (objects_of_chunks (chunks_of r.heap.chunks)) y.0 = subst (λ ks. In (objects_of_chunks ks) y.0) (rest_chunks r r.work) y.1 in
         let z = seen_object r.heap.chunks y.0 (I.heaps u r e).shaped.apart i in
         let c : cell_of r.heap.chunks y.0.at ≡ cell_of r.heap.chunks a = ap (cell_of r.heap.chunks) y.2.at in
-        let j : In (objects v' u) y.0 = subst (λ (q : Belongings). In (objects_in q.chunks) y.0) (sym (link.off w k p I F on u apart)) (subst (λ q. In (objects_in (belongings_in q).chunks) y.0) (sym e) y.1) in
+        let j : In (objects v' u) y.0 = subst (λ (q : Belongings). In (objects_of_chunks q.chunks) y.0) (sym (link.off w k p I F on u apart)) (subst (λ q. In (objects_of_chunks (belongings_in q).chunks) y.0) (sym e) y.1) in
         let q = (link.W w k p I F on).contents u y.0 rests_L j in
         record {
           apart = apart;

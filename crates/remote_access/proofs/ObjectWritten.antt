@@ -1,5 +1,5 @@
 -- The value after an object of another task is written: only the object changes.
-use Rattle.remote_access.proofs.Common.{◌≡◌, ℕ, ◌<◌, length, cond, Option, Some, None, List, map, slice_get, slice_set, is_none, inl, inr, refl, ap, ap₂, sym, subst, ◌∙◌, option_flatten, cases_eq, cond-true, same_Some, got_other, got_same, got_within, Name, Ledger, heap_of, task_steps, Addr, Birth, Cell, size_of, cell_of, Located, located, with_fields, LeafHeapValue, room_of, Level, CallFrame, RefField, SetOf, Rests, own, rested, Chunk, Belongings, In, Memory, mapped_chunk, object_name, objects, objects_in, put_at, sources, WritesAt, with_belongings, words, BelongingsStand, in_chunk, at_belongings, off_belongings, Private, ParkedTask, Work, Calls, Result, SharedValue, accounts, belongings_by, belongings_in, belongings_of, no_belongings, rest_at, value_by, value_of, with_marks, chunks_of, HeapForm, IsSharedValue, Fits, belongings_of_part, IsWell, free_at_rest, by_chunks, seen_object, measured_written, chunks_elsewhere, chunks_put, chunks_same, form_written, room_written, put_rest}
+use Rattle.remote_access.proofs.Common.{◌≡◌, ℕ, ◌<◌, length, cond, Option, Some, None, List, map, slice_get, slice_set, is_none, inl, inr, refl, ap, ap₂, sym, subst, ◌∙◌, option_flatten, cases_eq, cond-true, same_Some, got_other, got_same, got_within, Name, Ledger, heap_of, task_steps, Addr, Birth, Cell, size_of, cell_of, Located, located, with_fields, LeafHeapValue, room_of, Level, CallFrame, RefField, SetOf, Rests, own, rested, Chunk, Belongings, In, Memory, mapped_chunk, object_name, objects, objects_of_chunks, put_at, sources, WritesAt, with_belongings, words, BelongingsStand, in_chunk, at_belongings, off_belongings, Private, ParkedTask, Work, Calls, Result, SharedValue, accounts, belongings_by, belongings_in, belongings_of, no_belongings, rest_at, value_by, value_of, with_marks, chunks_of, HeapForm, IsSharedValue, Fits, belongings_of_part, IsWell, free_at_rest, by_chunks, seen_object, measured_written, chunks_elsewhere, chunks_put, chunks_same, form_written, room_written, put_rest}
 use Rattle.step_commit.proofs.below.core_invariant.PartFitsMachine as link
 use Rattle.remote_access.proofs.ForeignObject.{IsForeign}
 
@@ -46,17 +46,17 @@ module _ (w : SharedValue) (k : ℕ) (p : Private) (I : IsSharedValue w) (F : Fi
     owner_apart : (z : ℕ) → (value_of w).owner a.chunk ≡ Some z → z ≡ u
     owner_apart z e = same_Some z u (sym e ∙ O.place.chunk)
 
-    lies_with : (z : ℕ) (hs : Belongings) → BelongingsStand (with_belongings (value_of w) t h) L z → (with_belongings (value_of w) t h).belongings z ≡ hs → (z ≡ u → ⊥) → (o : Located) → In (objects_in hs.chunks) o → o.at ≡ a → ⊥
+    lies_with : (z : ℕ) (hs : Belongings) → BelongingsStand (with_belongings (value_of w) t h) L z → (with_belongings (value_of w) t h).belongings z ≡ hs → (z ≡ u → ⊥) → (o : Located) → In (objects_of_chunks hs.chunks) o → o.at ≡ a → ⊥
     lies_with z hs H e ne o i at =
         let x = in_chunk hs.chunks o i in
         let j : In ((with_belongings (value_of w) t h).belongings z).chunks x.0 = subst (λ (q : Belongings). In q.chunks x.0) (sym e) x.1 in
         ne (owner_apart z (ap (λ (q : Addr). (value_of w).owner q.chunk) (sym at) ∙ (ap (value_of w).owner (H.inside x.0 o j x.2) ∙ H.owned x.0 j)))
 
     -- no object of the task itself, or of another task that no worker holds, has this address
-    none_own : (o : Located) → In (objects_in h.chunks) o → o.at ≡ a → ⊥
+    none_own : (o : Located) → In (objects_of_chunks h.chunks) o → o.at ≡ a → ⊥
     none_own o i at = lies_with t h ((link.W w k p I F on).belongings t (link.at_rest w k p I F on)) (at_belongings (value_of w) t h) (λ e. O.apart (sym e)) o i at
 
-    none_other : (z : ℕ) → (z ≡ t → ⊥) → (z ≡ u → ⊥) → Rests l z → (o : Located) → In (objects_in ((value_of w).belongings z).chunks) o → o.at ≡ a → ⊥
+    none_other : (z : ℕ) → (z ≡ t → ⊥) → (z ≡ u → ⊥) → Rests l z → (o : Located) → In (objects_of_chunks ((value_of w).belongings z).chunks) o → o.at ≡ a → ⊥
     none_other z nt nu rz o i at =
         lies_with z ((value_of w).belongings z) ((link.W w k p I F on).belongings z (link.rests_then w k p I F on z nt rz)) (off_belongings (value_of w) t h z nt) nu o i at
 
@@ -170,22 +170,22 @@ module _ (w : SharedValue) (k : ℕ) (p : Private) (I : IsSharedValue w) (F : Fi
       }
 
       -- THE OBJECT is in no other task's heap
-      none_by : (z : ℕ) → (z ≡ t → ⊥) → (z ≡ u → ⊥) → (o : Located) → o.at ≡ a → (x : Option ℕ) → (heap_of l z).worker ≡ x → In (objects_in (cond (is_none x) ((value_of w).belongings z) no_belongings).chunks) o → ⊥
+      none_by : (z : ℕ) → (z ≡ t → ⊥) → (z ≡ u → ⊥) → (o : Located) → o.at ≡ a → (x : Option ℕ) → (heap_of l z).worker ≡ x → In (objects_of_chunks (cond (is_none x) ((value_of w).belongings z) no_belongings).chunks) o → ⊥
       none_by z nt nu o at (Some y) e j = j
       none_by z nt nu o at None e j = none_other z nt nu e o j at
 
       -- and is read from its cell
       pub read_old : (o : Located) → In (objects old u) o → o.at ≡ a → (b : Birth) × (o ≡ located o.at.chunk o.at.offset b c)
       read_old o i at =
-          let j : In (objects_in (resting l (value_of w).belongings u).chunks) o = subst (λ (x : Belongings). In (objects_in x.chunks) o) (off_belongings v0 t h u O.apart) i in
-          let k' : In (objects_in (belongings_in (rest_at w.rests u)).chunks) o = subst (λ (x : Belongings). In (objects_in x.chunks) o) (resting_is l (value_of w).belongings u O.rests) j in
-          let m : In (objects_in (chunks_of r.heap.chunks)) o = subst (λ ks. In (objects_in ks) o) (by_chunks r.heap r.view r.allocations r.work) (subst (λ x. In (objects_in (belongings_in x).chunks) o) O.there k') in
+          let j : In (objects_of_chunks (resting l (value_of w).belongings u).chunks) o = subst (λ (x : Belongings). In (objects_of_chunks x.chunks) o) (off_belongings v0 t h u O.apart) i in
+          let k' : In (objects_of_chunks (belongings_in (rest_at w.rests u)).chunks) o = subst (λ (x : Belongings). In (objects_of_chunks x.chunks) o) (resting_is l (value_of w).belongings u O.rests) j in
+          let m : In (objects_of_chunks (chunks_of r.heap.chunks)) o = subst (λ ks. In (objects_of_chunks ks) o) (by_chunks r.heap r.view r.allocations r.work) (subst (λ x. In (objects_of_chunks (belongings_in x).chunks) o) O.there k') in
           let y = seen_object r.heap.chunks o form.shaped.apart m in
           (o.birth, y.is ∙ ap (λ (z : Addr). located o.at.chunk o.at.offset o.birth (cell_of r.heap.chunks z)) at)
 
       pub there_old : (o : Located) × In (objects old u) o × (o.at ≡ a) × ((b : Birth) × (o ≡ located o.at.chunk o.at.offset b c))
       there_old =
           let x = O.place.here (link.rests_then w k p I F on u O.apart O.rests) in
-          let i : In (objects_in ((value_of w).belongings u).chunks) x.0 = subst (λ (y : Belongings). In (objects_in y.chunks) x.0) (off_belongings (value_of w) t h u O.apart) x.1 in
-          let j : In (objects old u) x.0 = subst (λ (y : Belongings). In (objects_in y.chunks) x.0) (sym (off_belongings v0 t h u O.apart)) (subst (λ (y : Belongings). In (objects_in y.chunks) x.0) (sym (resting_is l (value_of w).belongings u O.rests)) i) in
+          let i : In (objects_of_chunks ((value_of w).belongings u).chunks) x.0 = subst (λ (y : Belongings). In (objects_of_chunks y.chunks) x.0) (off_belongings (value_of w) t h u O.apart) x.1 in
+          let j : In (objects old u) x.0 = subst (λ (y : Belongings). In (objects_of_chunks y.chunks) x.0) (sym (off_belongings v0 t h u O.apart)) (subst (λ (y : Belongings). In (objects_of_chunks y.chunks) x.0) (sym (resting_is l (value_of w).belongings u O.rests)) i) in
           (x.0, j, x.2.at, read_old x.0 j x.2.at)

@@ -1,5 +1,5 @@
 -- A store into an object of another task: how it changes the value, and what it notes.
-use Rattle.remote_access.proofs.Common.{◌≡◌, ◌⊎◌, ℕ, ℤ, ◌+◌, ◌<◌, ◌≤◌, ◌&&◌, not, arith, true, false, Option, Some, None, List, ◌∷◌, length, length-set, slice_get, option_map, inl, inr, refl, ap, ap₂, sym, subst, ◌∙◌, same_Some, false_from_ne_true, Name, Task, ref_in, parents, path_le, Ledger, heap_of, Addr, Birth, Cell, size_of, with_int as cell_int, with_ref as cell_ref, Located, located, owner_of as pool_owner, CallFrame, ref_of, int_of, is_on_path as tree_path, RefField, SetOf, content_after, content_at, own, Belongings, In, Memory, objects, sources, StoresAt, StoresNumberAt, gone_on, with_field, with_number, with_belongings, ReadsReference, Keeps, OthersNotes, StoresNotes, Place, Private, SharedValue, accounts, value_of, IsSharedValue, Fits, belongings_of_part, part_idle, stands_now}
+use Rattle.remote_access.proofs.Common.{◌≡◌, ◌⊎◌, ℕ, ℤ, ◌+◌, ◌<◌, ◌≤◌, ◌&&◌, not, arith, true, false, Option, Some, None, List, ◌∷◌, length, length-set, slice_get, option_map, inl, inr, refl, ap, ap₂, sym, subst, ◌∙◌, same_Some, false_from_ne_true, Name, Task, ref_in, parents, path_le, Ledger, heap_of, Addr, Birth, Cell, size_of, with_int as cell_int, with_ref as cell_ref, Located, located, owner_of as pool_owner, CallFrame, ref_of, int_of, is_on_path as tree_path, RefField, SetOf, content_after, content_at, own, Belongings, In, Memory, objects, sources, StoresAt, StoresNumberAt, gone_on, with_field, with_int_field, with_belongings, ReadsReference, Keeps, OthersNotes, StoresNotes, Place, Private, SharedValue, accounts, value_of, IsSharedValue, Fits, belongings_of_part, part_idle, stands_now}
 use Rattle.step_commit.specs.below.hh_model.{is_on_path}
 use Rattle.step_commit.proofs.below.refinement.Store as store
 use Rattle.step_commit.proofs.below.core_invariant.PartFitsMachine as link
@@ -159,7 +159,7 @@ module _ (w : SharedValue) (k : ℕ) (p : Private) (I : IsSharedValue w) (F : Fi
       size_number = ap (λ m. 2 + (length c.refs + m)) (length-set c.ints i number)
 
       abbrev pub f_number : Located → Located
-      f_number = with_number i number
+      f_number = with_int_field i number
 
       abbrev new_number : Memory
       new_number = with_belongings (other.v1 w k p I F on n a O d_number refl size_number f_number (λ number at birth. refl) w.sets top) t (other.g w k p I F on n a O d_number refl size_number f_number (λ number at birth. refl) w.sets top)

@@ -1,25 +1,25 @@
 -- What the write of a reference notes, in the sets of the heaps.
 use Rattle.std.proofs.Common.{ne_eqb}
-use Rattle.remote_access.proofs.Common.{◌≡◌, ◌⊎◌, ℕ, ◌<◌, ◌==◌, ◌&&◌, ◌++◌, not, Bool, true, false, cond, Option, Some, None, List, [], ◌∷◌, length, slice_get, option_map, inl, inr, refl, ap, ap₂, sym, subst, ◌∙◌, eq-eqb, option_to_list, and_parts, cond-true, false≢true, both_ways, not-true, same_Some, append-nil, in_append_cases, in_append_left, in_append_right, got_none, Addr, PoolValue, owner_of, TaskNode, is_on_path, RefField, has_source, noted, source_in, SetOf, Content, content_after, content_at, content_of, is_down, with_source, option_is, held_is, In, Noted, noted_in, noted_is, noted_of}
+use Rattle.remote_access.proofs.Common.{◌≡◌, ◌⊎◌, ℕ, ◌<◌, ◌==◌, ◌&&◌, ◌++◌, not, Bool, true, false, cond, Option, Some, None, List, [], ◌∷◌, length, slice_get, option_map, inl, inr, refl, ap, ap₂, sym, subst, ◌∙◌, eq-eqb, option_to_list, and_parts, cond-true, false≢true, both_ways, not-true, same_Some, append-nil, in_append_cases, in_append_left, in_append_right, got_none, Addr, PoolValue, owner_of, TaskNode, is_on_path, RefField, has_source, with_noted_source, source_in, SetOf, Content, content_after, content_at, content_of, is_down, with_source, option_is, held_is, In, Noted, noted_in, noted_is, noted_of}
 use Rattle.step_commit.specs.below.write_barrier.{heap_of, noted_in as noted_heap}
 
 -- ---- ONE SET
 
-noted_there : (xs : List RefField) (s : RefField) → In (noted xs s) s
+noted_there : (xs : List RefField) (s : RefField) → In (with_noted_source xs s) s
 noted_there xs s = noted_there_by_cases (has_source xs s) refl
   where
     noted_there_by_cases : (b : Bool) → has_source xs s ≡ b → In (cond b xs (xs ++ s ∷ [])) s
     noted_there_by_cases true e = source_in xs s e
     noted_there_by_cases false e = in_append_right xs (s ∷ []) s (inl refl)
 
-noted_grows : (xs : List RefField) (s y : RefField) → In xs y → In (noted xs s) y
+noted_grows : (xs : List RefField) (s y : RefField) → In xs y → In (with_noted_source xs s) y
 noted_grows xs s y i = noted_grows_by_cases (has_source xs s)
   where
     noted_grows_by_cases : (b : Bool) → In (cond b xs (xs ++ s ∷ [])) y
     noted_grows_by_cases true = i
     noted_grows_by_cases false = in_append_left xs (s ∷ []) y i
 
-noted_only : (xs : List RefField) (s y : RefField) → In (noted xs s) y → In xs y ⊎ (s ≡ y)
+noted_only : (xs : List RefField) (s y : RefField) → In (with_noted_source xs s) y → In xs y ⊎ (s ≡ y)
 noted_only xs s y i = noted_only_by_cases (has_source xs s) i
   where
     noted_only_by_cases : (b : Bool) → In (cond b xs (xs ++ s ∷ [])) y → In xs y ⊎ (s ≡ y)
@@ -42,27 +42,27 @@ module _ (tree : List TaskNode) (pool : PoolValue) (sets sets' : List SetOf) (a 
   after t c = content_after tree pool source overwritten value t c
 
   -- each part of it
-  sources_by : (b d : Bool) (t : ℕ) (c : Content) → (cond d (record (cond b (record c { sources = noted c.sources source }) c) { kept = (cond b (record c { sources = noted c.sources source }) c).kept ++ option_to_list overwritten }) (cond b (record c { sources = noted c.sources source }) c)).sources
-      ≡ cond b (noted c.sources source) c.sources
+  sources_by : (b d : Bool) (t : ℕ) (c : Content) → (cond d (record (cond b (record c { sources = with_noted_source c.sources source }) c) { kept = (cond b (record c { sources = with_noted_source c.sources source }) c).kept ++ option_to_list overwritten }) (cond b (record c { sources = with_noted_source c.sources source }) c)).sources
+      ≡ cond b (with_noted_source c.sources source) c.sources
   sources_by true true t c = refl
   sources_by true false t c = refl
   sources_by false true t c = refl
   sources_by false false t c = refl
 
-  sources_after : (t : ℕ) (c : Content) → (after t c).sources ≡ cond (option_is into t) (noted c.sources source) c.sources
+  sources_after : (t : ℕ) (c : Content) → (after t c).sources ≡ cond (option_is into t) (with_noted_source c.sources source) c.sources
   sources_after t c = sources_by (option_is into t) (option_is (heap_of pool overwritten) t && (with_source into source t c).keeps) t c
 
   kept_source : (t : ℕ) (c : Content) → (with_source into source t c).kept ≡ c.kept
   kept_source t c = kept_source_by_cases (option_is into t)
     where
-      kept_source_by_cases : (b : Bool) → (cond b (record c { sources = noted c.sources source }) c).kept ≡ c.kept
+      kept_source_by_cases : (b : Bool) → (cond b (record c { sources = with_noted_source c.sources source }) c).kept ≡ c.kept
       kept_source_by_cases true = refl
       kept_source_by_cases false = refl
 
   keeps_source : (t : ℕ) (c : Content) → (with_source into source t c).keeps ≡ c.keeps
   keeps_source t c = keeps_source_by_cases (option_is into t)
     where
-      keeps_source_by_cases : (b : Bool) → (cond b (record c { sources = noted c.sources source }) c).keeps ≡ c.keeps
+      keeps_source_by_cases : (b : Bool) → (cond b (record c { sources = with_noted_source c.sources source }) c).keeps ≡ c.keeps
       keeps_source_by_cases true = refl
       keeps_source_by_cases false = refl
 
@@ -107,7 +107,7 @@ module _ (tree : List TaskNode) (pool : PoolValue) (sets sets' : List SetOf) (a 
   pub sources_grow : (t : ℕ) (s : RefField) → In (was t).sources s → In (now t).sources s
   sources_grow t s j = subst (λ (x : Noted). In x.sources s) (sym (now_is t)) (sources_grow_by_cases (content_at sets t) (subst (λ (x : Noted). In x.sources s) (was_is t) j))
     where
-      one : (b : Bool) (c : Content) → In c.sources s → In (cond b (noted c.sources source) c.sources) s
+      one : (b : Bool) (c : Content) → In c.sources s → In (cond b (with_noted_source c.sources source) c.sources) s
       one true c i' = noted_grows c.sources source s i'
       one false c i' = i'
 
@@ -128,7 +128,7 @@ module _ (tree : List TaskNode) (pool : PoolValue) (sets sets' : List SetOf) (a 
       one : (c : Content) → In (after t c).sources source
       one c =
           subst (λ xs. In xs source)
-          (sym (sources_after t c ∙ cond-true (option_is into t) (noted c.sources source) c.sources (ap (λ o. option_is o t) into_is ∙ is_of_it t)))
+          (sym (sources_after t c ∙ cond-true (option_is into t) (with_noted_source c.sources source) c.sources (ap (λ o. option_is o t) into_is ∙ is_of_it t)))
           (noted_there c.sources source)
 
       notes_down_by_cases : (o : Option SetOf) → slice_get sets t ≡ o → In (noted_of (option_map (after t) (option_map content_of o))).sources source
@@ -158,7 +158,7 @@ module _ (tree : List TaskNode) (pool : PoolValue) (sets sets' : List SetOf) (a 
       none_down (Some x) q = absurd cc
   new_by t s (Some b) ev es e = new_at t s b ev es (owner_of pool b.chunk) refl (ap (λ x. cond (is_down tree x (owner_of pool b.chunk)) (owner_of pool b.chunk) None) (sym owner) ∙ e)
 
-  new_one : (t : ℕ) (s : RefField) (x : Bool) → option_is into t ≡ x → (c : Content) → In (cond x (noted c.sources source) c.sources) s → In c.sources s ⊎ IsNew t s
+  new_one : (t : ℕ) (s : RefField) (x : Bool) → option_is into t ≡ x → (c : Content) → In (cond x (with_noted_source c.sources source) c.sources) s → In c.sources s ⊎ IsNew t s
   new_one t s false e c k = inl k
   new_one t s true e c k =
       elim (noted_only c.sources source s k) [

@@ -1,5 +1,5 @@
 -- No line of a program's text is a trace line.
-use Rattle.round_trip_laws.proofs.Common.{◌≡◌, ◌∙◌, ◌++◌, ℕ, ◌+◌, Bool, cond, true, false, List, [], ◌∷◌, length, refl, ap, Option, Some, None, codes, is_utf8, bytes_eq-Decides, words_of, Cause, NotUtf8, TextFault, head_of_word, head_of_words, head_of_line, is_inside, outline_of, fault_from, fault_on, first_cause, is_misplaced, or_later, spot_of, begins_trace, is_trace_line, lines_above, trace_lines}
+use Rattle.round_trip_laws.proofs.Common.{◌≡◌, ◌∙◌, ◌++◌, ℕ, ◌+◌, Bool, cond, true, false, List, [], ◌∷◌, length, refl, ap, Option, Some, None, codes, is_utf8, bytes_eq-Decides, words_of, Cause, NotUtf8, TextFault, head_of_word, head_of_words, head_of_line, is_inside, outline_of, first_fault_from, fault_on, first_cause, is_misplaced, or_later_fault, spot_of, begins_trace, is_trace_line, lines_above, trace_lines}
 
 -- none of these lines is one
 abbrev pub AreAbove : List (List ℕ) → Type 0
@@ -44,7 +44,7 @@ by_utf8 false f e = absurd (has_fault NotUtf8 e)
 refused_is : (r : TextFault) → Some r ≡ None → ⊥
 refused_is r e = cc
 
-none_later : (c : Option Cause) (n : ℕ) (later : Option TextFault) → or_later c n later ≡ None → (c ≡ None) × (later ≡ None)
+none_later : (c : Option Cause) (n : ℕ) (later : Option TextFault) → or_later_fault c n later ≡ None → (c ≡ None) × (later ≡ None)
 none_later None n later e = (refl, e)
 none_later (Some c) n later e = absurd (refused_is (record { line = n; cause = c }) e)
 
@@ -60,8 +60,8 @@ module _ (text : List ℕ) where
   on_clean above l ls true is none = absurd (trace_fault above l ls is none)
 
   -- lines without a fault have none
-  pub clean_above : (above ls : List (List ℕ)) → fault_from (outline_of text) above ls ≡ None → AreAbove ls
+  pub clean_above : (above ls : List (List ℕ)) → first_fault_from (outline_of text) above ls ≡ None → AreAbove ls
   clean_above above [] e = tt
   clean_above above (l ∷ ls) e =
-      let h = none_later (fault_on (outline_of text) (spot_of above l ls) l) (length above + 1) (fault_from (outline_of text) (l ∷ above) ls) e in
+      let h = none_later (fault_on (outline_of text) (spot_of above l ls) l) (length above + 1) (first_fault_from (outline_of text) (l ∷ above) ls) e in
       (on_clean above l ls (is_trace_line l) refl h.0, clean_above (l ∷ above) ls h.1)

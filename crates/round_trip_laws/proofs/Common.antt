@@ -1,7 +1,7 @@
 -- The names of lower crates and of the specifications that these proofs use. Declares nothing.
 pub use Rattle.hh_lang.specs.Form.{ProgramText}
 pub use Rattle.program_reader.specs.Around.{head_of_line, is_inside, outline_of}
-pub use Rattle.program_reader.specs.Fault.{fault_from, fault_on, first_cause, is_misplaced, or_later, spot_of, first_fault}
+pub use Rattle.program_reader.specs.Fault.{first_fault_from, fault_on, first_cause, is_misplaced, or_later_fault, spot_of, first_fault}
 pub use Rattle.program_reader.specs.Head.{head_of_word, head_of_words}
 pub use Rattle.program_reader.specs.Program.{program_of, unless_refused}
 pub use Rattle.program_reader.specs.declared.cause.Cause.{Cause}
@@ -21,6 +21,6 @@ pub use Rattle.std.specs.Prelude.{Option, Some, None, codes, Result, Ok, Err, â—
 pub use Rattle.std.specs.Str.{is_utf8, bytes_eq}
 pub use Rattle.text_lines.specs.Lines.{words_of, lines_of, most_bytes}
 pub use Rattle.trace_input.specs.Cut.{begins_trace, is_trace_line, lines_above, trace_lines, bytes_above, program_part, trace_number, with_feeds}
-pub use Rattle.trace_input.specs.Input.{IsInput, as_bad_line, bad_line, fault_by, input_fault, is_too_old, parts_fault, too_long}
+pub use Rattle.trace_input.specs.Input.{IsInput, as_bad_line, bad_line, first_input_fault, input_fault, is_too_old, parts_fault, too_long}
 pub use Rattle.trace_input.specs.declared.input.InputFault.TheVariants.{Source}
 pub use Rattle.trace_input.specs.declared.input.TraceInput.{TraceInput}

@@ -1,5 +1,5 @@
 -- A program's text followed by a trace is read as these.
-use Rattle.round_trip_laws.proofs.Common.{◌≡◌, ◌∙◌, ◌≤◌, ◌+◌, ◌++◌, ℕ, Bool, cond, true, false, List, [], ◌∷◌, length, refl, ap, sym, subst, append_assoc, length-append, Option, Some, None, Result, Ok, Err, codes, bytes_eq, is_utf8, le-leb, ProgramText, lines_of, most_bytes, words_of, TextFault, first_fault, program_of, unless_refused, Version, Trace, AreTraceLines, fault_in, trace_text, version_by, version_of, version_of_words, texts_are_read_again, Source, TraceInput, begins_trace, bytes_above, is_trace_line, lines_above, program_part, trace_lines, trace_number, with_feeds, IsInput, as_bad_line, bad_line, fault_by as fault_of_parts, input_fault, is_too_old, parts_fault, too_long, CanFollow, InputsAreRead, IsReadAs, RecordedInputsAreRead}
+use Rattle.round_trip_laws.proofs.Common.{◌≡◌, ◌∙◌, ◌≤◌, ◌+◌, ◌++◌, ℕ, Bool, cond, true, false, List, [], ◌∷◌, length, refl, ap, sym, subst, append_assoc, length-append, Option, Some, None, Result, Ok, Err, codes, bytes_eq, is_utf8, le-leb, ProgramText, lines_of, most_bytes, words_of, TextFault, first_fault, program_of, unless_refused, Version, Trace, AreTraceLines, fault_in, trace_text, version_by, version_of, version_of_words, texts_are_read_again, Source, TraceInput, begins_trace, bytes_above, is_trace_line, lines_above, program_part, trace_lines, trace_number, with_feeds, IsInput, as_bad_line, bad_line, first_input_fault as fault_of_parts, input_fault, is_too_old, parts_fault, too_long, CanFollow, InputsAreRead, IsReadAs, RecordedInputsAreRead}
 use Rattle.round_trip_laws.proofs.Lines.{fed_lines, lines_behind}
 use Rattle.round_trip_laws.proofs.Above.{AreAbove, above_both, clean_above, cut_above, cut_behind}
 

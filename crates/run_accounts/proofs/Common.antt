@@ -39,7 +39,7 @@ pub use Rattle.run_ledger.proofs.Stocks.{with_heap_any, StockedLedger, L}
 pub use Rattle.run_ledger.proofs.Use.{same_use}
 pub use Rattle.run_ledger.proofs.Weights.{collected_weight, weight, total, kept_weight, total_set, moves_total}
 pub use Rattle.run_ledger.specs.Entries.{kind_refusal, after_kind, out_from, is_ready, with_chunk, chunk_units}
-pub use Rattle.run_ledger.specs.Heaps.{heap_of, in_use, lacks_room, or_fresh, with_heap, placed, is_small, chunk_words, collected, swept_heap, words_at, words_in, units_in, units_sum, small_in, begun_in, take_of, end_numbers, sweep_number, left_in, marked_in, fresh, heap_at, with_heap_at, held_in, roots_of, within, put_last, forked_heap, emptied, let_go, units, large_survivors, in_snapshot, without_empty, words_sum}
+pub use Rattle.run_ledger.specs.Heaps.{heap_of, in_use, lacks_room, or_fresh, with_heap, with_allocation, is_small_size, chunk_words, collected, swept_heap, words_at, words_in, units_in, units_sum, small_in, begun_in, take_of, end_numbers, sweep_number, left_in, marked_in, fresh, heap_at, with_heap_at, held_in, roots_of, within, put_last, forked_heap, emptied, let_go, units, large_survivors, in_snapshot, without_empty, words_sum}
 pub use Rattle.run_ledger.specs.Reachable.{holds_name, reached_by}
 pub use Rattle.run_ledger.specs.Report.{held_not_running_from, held_not_running}
 pub use Rattle.run_ledger.specs.Steps.{is_due, is_in_need, moved_on, moved_to, on_asked, settled, standing, task_step, task_steps, allocated_by, allocated_in, stepped_to, at_fork, at_join, join_heaps, is_private, is_private_by, is_private_line, is_open, works_alone}

@@ -1,5 +1,5 @@
 -- Which worker holds which task, by the task that each worker took last.
-use Rattle.run_accounts.proofs.Common.{◌≡◌, ℕ, zero, suc, ◌+◌, ◌-◌, ◌<◌, Bool, true, false, cond, Option, Some, None, List, [], ◌∷◌, ◌++◌, length, slice_get, slice_set, nat_lt, inl, inr, refl, ap, sym, subst, ◌∙◌, arith, ◌⊎◌, is_none, unwrap_or, both_ways, cases_eq, same_Some, none-some, got_same, got_other, got_set, Kind, Took, Ran, Chunk, Begin, PutOff, Mark, More, Sweep, Fuel, SettingsValue, ProgramText, step, can_step, asked, next_name, Heap, Ledger, Pool, heap_of, or_fresh, with_heap, placed, is_small, in_use, chunk_words, collected, swept_heap, allocated_by, allocated_in, stepped_to, task_step, task_steps, on_asked, kind_refusal, after_kind, out_from, is_ready, with_chunk, chunk_units, option_is, moves_each, SoundLedger, SoundAt, step_keeps, step_leaves, task_step_sound, with_heap_any, none_unless, out_tells, held_is, is_held, none_holding, placed_worker, AccountsValue, CachesAgree, taken_after}
+use Rattle.run_accounts.proofs.Common.{◌≡◌, ℕ, zero, suc, ◌+◌, ◌-◌, ◌<◌, Bool, true, false, cond, Option, Some, None, List, [], ◌∷◌, ◌++◌, length, slice_get, slice_set, nat_lt, inl, inr, refl, ap, sym, subst, ◌∙◌, arith, ◌⊎◌, is_none, unwrap_or, both_ways, cases_eq, same_Some, none-some, got_same, got_other, got_set, Kind, Took, Ran, Chunk, Begin, PutOff, Mark, More, Sweep, Fuel, SettingsValue, ProgramText, step, can_step, asked, next_name, Heap, Ledger, Pool, heap_of, or_fresh, with_heap, with_allocation, is_small_size, in_use, chunk_words, collected, swept_heap, allocated_by, allocated_in, stepped_to, task_step, task_steps, on_asked, kind_refusal, after_kind, out_from, is_ready, with_chunk, chunk_units, option_is, moves_each, SoundLedger, SoundAt, step_keeps, step_leaves, task_step_sound, with_heap_any, none_unless, out_tells, held_is, is_held, none_holding, placed_worker, AccountsValue, CachesAgree, taken_after}
 use Rattle.run_trace.specs.declared.entry.Kind.TheVariants.{End as EndOf}
 
 -- WHO HOLDS A TASK
@@ -81,7 +81,7 @@ module _ (p : ProgramText) (l : Ledger) (t : ℕ) (S : SoundAt t l) (can : can_s
 
   held_b : (o : Option ℕ) → Held l (allocated_by l t o)
   held_b None u w e = e
-  held_b (Some v) u w e = held_set l t (λ h. placed h (next_name t l.machine.store) v) (λ h. placed_worker h (next_name t l.machine.store) v) u w e
+  held_b (Some v) u w e = held_set l t (λ h. with_allocation h (next_name t l.machine.store) v) (λ h. placed_worker h (next_name t l.machine.store) v) u w e
 
   abbrev Was : ℕ → Heap → Type 0
   Was u h = (w : ℕ) → h.worker ≡ Some w → worker_of b u ≡ Some w
@@ -109,7 +109,7 @@ held_steps p (suc n) l t S u w e = held_step p l t S u w (held_steps p n (task_s
 
 held_chunk : (l : Ledger) (t : ℕ) (next : Option ℕ) (full : Bool) → Held l (cond full (record l { end = Some (Pool (in_use l)) }) (with_heap l t (with_chunk next)))
 held_chunk l t next true u w e = e
-held_chunk l t next false u w e = held_set l t (with_chunk next) (λ h. held_chunk_by_cases h (on_asked next is_small)) u w e
+held_chunk l t next false u w e = held_set l t (with_chunk next) (λ h. held_chunk_by_cases h (on_asked next is_small_size)) u w e
   where
     held_chunk_by_cases : (h : Heap) (v : Bool) → (cond v (record h { chunks = h.chunks ++ [] ∷ []; room = chunk_words }) (record h { reserved = chunk_units next })).worker ≡ h.worker
     held_chunk_by_cases h true = refl

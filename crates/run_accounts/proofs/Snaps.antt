@@ -1,5 +1,5 @@
 -- How long snapshots are, and the positions of the children of a task.
-use Rattle.run_accounts.proofs.Common.{◌≡◌, ℕ, zero, suc, ◌+◌, ◌-◌, ◌<◌, ◌≤◌, ◌||◌, Bool, true, false, cond, Option, Some, None, List, [], ◌∷◌, ◌++◌, length, slice_get, slice_set, filter, sum_by, inl, inr, refl, ap, ◌∙◌, arith, length-set, false≢true, cases_eq, sum_by-cons, list_any, got_same, got_other, Name, Object, Task, End, TaskStatus, Running, Waiting, Ended, Joined, refs_at, is_left, is_joined, sibling, Heap, Ledger, holds_name, reached_by, fresh, heap_at, heap_of, or_fresh, with_heap, with_heap_at, held_in, roots_of, within, put_last, is_small, forked_heap, emptied, let_go, allocated_by, at_fork, at_join, join_heaps, moved_on, moved_to, settled, SoundLedger, weight, total, kept_weight, with_heap_any, ArePaired}
+use Rattle.run_accounts.proofs.Common.{◌≡◌, ℕ, zero, suc, ◌+◌, ◌-◌, ◌<◌, ◌≤◌, ◌||◌, Bool, true, false, cond, Option, Some, None, List, [], ◌∷◌, ◌++◌, length, slice_get, slice_set, filter, sum_by, inl, inr, refl, ap, ◌∙◌, arith, length-set, false≢true, cases_eq, sum_by-cons, list_any, got_same, got_other, Name, Object, Task, End, TaskStatus, Running, Waiting, Ended, Joined, refs_at, is_left, is_joined, sibling, Heap, Ledger, holds_name, reached_by, fresh, heap_at, heap_of, or_fresh, with_heap, with_heap_at, held_in, roots_of, within, put_last, is_small_size, forked_heap, emptied, let_go, allocated_by, at_fork, at_join, join_heaps, moved_on, moved_to, settled, SoundLedger, weight, total, kept_weight, with_heap_any, ArePaired}
 use Rattle.run_accounts.proofs.Uses.{one_of}
 
 -- SNAPSHOTS
@@ -56,7 +56,7 @@ snaps_more most (h ∷ heaps) I (suc u) = snaps_more most heaps (λ v. I (suc v)
 
 pub snaps_allocated : (most : ℕ) (l : Ledger) (t : ℕ) (o : Option ℕ) → Snaps most l → Snaps most (allocated_by l t o)
 snaps_allocated most l t None I = I
-snaps_allocated most l t (Some w) I = snaps_set most l t _ (λ h le. snaps_allocated_by_cases h _ (is_small w) le) I
+snaps_allocated most l t (Some w) I = snaps_set most l t _ (λ h le. snaps_allocated_by_cases h _ (is_small_size w) le) I
   where
     snaps_allocated_by_cases : (h : Heap) (n : Name) (v : Bool) → length h.snapshot ≤ most
         → length (cond v (record h { chunks = put_last h.chunks n; room = h.room - w; since = h.since + w }) (record h { large = h.large ++ n ∷ []; reserved = 0; since = h.since + w })).snapshot ≤ most

@@ -1,5 +1,5 @@
 -- One step of a task, put together from its parts.
-use Rattle.run_accounts.proofs.Common.{◌≡◌, ℕ, ◌+◌, ◌<◌, ◌≤◌, ◌^◌, ◌==◌, not, Bool, true, false, cond, List, [], ◌∷◌, ◌++◌, Option, Some, None, slice_get, slice_set, inl, inr, refl, ap, ap₂, sym, subst, ◌∙◌, arith, nat_lt, false≢true, cases_eq, eqb-true, leb-true, cond-true, not-false, same_Some, In, got_same, got_other, got_front, got_within, contains_from_in, in_from_contains, ProgramText, Name, Task, MachineState, End, TaskStatus, Running, Waiting, Ended, Joined, step, can_step, asked, is_joined, is_waiting, Heap, Ledger, heap_of, or_fresh, heap_at, fresh, with_heap, with_heap_at, held_in, in_use, placed, is_small, lacks_room, units, units_in, within, forked_heap, allocated_in, allocated_by, task_step, settled, moved_to, moved_on, at_fork, is_in_need, on_asked, heap_machine, placed_since, AreOwned, AccountsValue, Steady, ArePaired, Forks, large_by, next_large, used_by, used_after, went_on}
+use Rattle.run_accounts.proofs.Common.{◌≡◌, ℕ, ◌+◌, ◌<◌, ◌≤◌, ◌^◌, ◌==◌, not, Bool, true, false, cond, List, [], ◌∷◌, ◌++◌, Option, Some, None, slice_get, slice_set, inl, inr, refl, ap, ap₂, sym, subst, ◌∙◌, arith, nat_lt, false≢true, cases_eq, eqb-true, leb-true, cond-true, not-false, same_Some, In, got_same, got_other, got_front, got_within, contains_from_in, in_from_contains, ProgramText, Name, Task, MachineState, End, TaskStatus, Running, Waiting, Ended, Joined, step, can_step, asked, is_joined, is_waiting, Heap, Ledger, heap_of, or_fresh, heap_at, fresh, with_heap, with_heap_at, held_in, in_use, with_allocation, is_small_size, lacks_room, units, units_in, within, forked_heap, allocated_in, allocated_by, task_step, settled, moved_to, moved_on, at_fork, is_in_need, on_asked, heap_machine, placed_since, AreOwned, AccountsValue, Steady, ArePaired, Forks, large_by, next_large, used_by, used_after, went_on}
 use Rattle.run_accounts.proofs.Snaps.{settled_paired}
 
 pub allocated_machine : (l : Ledger) (t : ℕ) (o : Option ℕ) → (allocated_by l t o).machine ≡ l.machine
@@ -43,7 +43,7 @@ counts_nothing s k t r e = ap (λ (o : Option ℕ). record k { used = used_by k.
 -- WORDS SINCE THE LAST COLLECTION
 
 -- what has room is no larger than a chunk, or than the chunk reserved for it
-pub small_enough : (h : Heap) (w : ℕ) (b : Bool) → is_small w ≡ b → cond b (nat_lt h.room w) (not (h.reserved == units w)) ≡ false → h.reserved < 2 ^ 20 → w < 2 ^ 31
+pub small_enough : (h : Heap) (w : ℕ) (b : Bool) → is_small_size w ≡ b → cond b (nat_lt h.room w) (not (h.reserved == units w)) ≡ false → h.reserved < 2 ^ 20 → w < 2 ^ 31
 small_enough h w true is e few = let le : w ≤ 1024 = leb-true w 1024 is in omega arith
 small_enough h w false is e few =
     let r : h.reserved ≡ units w = eqb-true h.reserved (units w) (not-false (h.reserved == units w) e) in
@@ -61,7 +61,7 @@ module _ (l : Ledger) (t : ℕ) (S : Steady l) where
         let c : (heap_of l t).since ≡ h.since = ap (λ o. (or_fresh o).since) e in
         let c' : (heap_of l t).reserved ≡ h.reserved = ap (λ o. (or_fresh o).reserved) e in
         let r : h.reserved < 2 ^ 20 = omega arith in
-        let d = small_enough h w (is_small w) refl lacks r in
+        let d = small_enough h w (is_small_size w) refl lacks r in
         let f' = is h in
         let g : (heap_of (with_heap_at l t f (Some h)) u).since ≡ (f h).since = ap (λ (q : Heap). q.since) a in
         omega arith
@@ -74,7 +74,7 @@ module _ (l : Ledger) (t : ℕ) (S : Steady l) where
 
   since_by : (o : Option ℕ) → on_asked o (lacks_room (heap_of l t)) ≡ false → (u : ℕ) → (heap_of (allocated_by l t o) u).since < 2 ^ 62
   since_by None e u = let a = S.since u in omega arith
-  since_by (Some w) e u = at_heap w (heap_at l t) refl e (λ h. placed h _ w) (λ h. placed_since h _ w) u
+  since_by (Some w) e u = at_heap w (heap_at l t) refl e (λ h. with_allocation h _ w) (λ h. placed_since h _ w) u
 
 pub since_few : (p : ProgramText) (l : Ledger) (t : ℕ) → Steady l → is_in_need p l t ≡ false → (s s1 s2 s3 : AccountsValue) (used : ℕ) → s.program ≡ p → s.ledger ≡ l
     → s1 ≡ record s { ledger = allocated_in s.program s.ledger t } → s2 ≡ record s1 { ledger = advanced s1.program s1.ledger t } → s3 ≡ record s2 { used = used }

@@ -1,5 +1,5 @@
 -- The count of the chunks in use, as it is updated from entry to entry and from step to step.
-use Rattle.run_accounts.proofs.Common.{◌≡◌, ℕ, zero, suc, ◌+◌, ◌-◌, ◌≤◌, ◌==◌, ◌||◌, not, Bool, true, false, cond, Option, Some, None, List, [], ◌∷◌, ◌++◌, length, slice_get, slice_set, sum_by, nat_lt, refl, ap, sym, ◌∙◌, arith, map, ltb-false, sum_by-append, sum_by-cons, SettingsValue, ProgramText, Name, MachineState, step, can_step, asked, next_name, Heap, Ledger, units, is_small, words_at, units_sum, begun_in, units_in, fresh, heap_of, or_fresh, with_heap_at, in_use, placed, put_last, collected, large_survivors, swept_heap, sweep_number, in_snapshot, without_empty, allocated_by, allocated_in, stepped_to, task_step, is_due, is_in_need, stepped_machine, SoundAt, StepLeaves, total, total_set, moves_total, StockedLedger, L, BookedLedger, put_length, total_same, units_additive, survivors_units, snapshot_units, fewer_chunks, large_by, next_large, used_by, used_after}
+use Rattle.run_accounts.proofs.Common.{◌≡◌, ℕ, zero, suc, ◌+◌, ◌-◌, ◌≤◌, ◌==◌, ◌||◌, not, Bool, true, false, cond, Option, Some, None, List, [], ◌∷◌, ◌++◌, length, slice_get, slice_set, sum_by, nat_lt, refl, ap, sym, ◌∙◌, arith, map, ltb-false, sum_by-append, sum_by-cons, SettingsValue, ProgramText, Name, MachineState, step, can_step, asked, next_name, Heap, Ledger, units, is_small_size, words_at, units_sum, begun_in, units_in, fresh, heap_of, or_fresh, with_heap_at, in_use, with_allocation, put_last, collected, large_survivors, swept_heap, sweep_number, in_snapshot, without_empty, allocated_by, allocated_in, stepped_to, task_step, is_due, is_in_need, stepped_machine, SoundAt, StepLeaves, total, total_set, moves_total, StockedLedger, L, BookedLedger, put_length, total_same, units_additive, survivors_units, snapshot_units, fewer_chunks, large_by, next_large, used_by, used_after}
 use Rattle.run_ledger.proofs.Booked as booked
 
 -- one heap has no more than all heaps
@@ -36,7 +36,7 @@ module _ (p : ProgramText) (s : SettingsValue) (l : Ledger) (t : ℕ) (S : Sound
     abbrev large_at : Bool → Option Name
     large_at v = cond v None (Some next)
 
-    placed_units : (w : ℕ) → asked p m t ≡ Some w → (v : Bool) → is_small w ≡ v → cond v (nat_lt heap.0.room w) (not (heap.0.reserved == units w)) ≡ false
+    placed_units : (w : ℕ) → asked p m t ≡ Some w → (v : Bool) → is_small_size w ≡ v → cond v (nat_lt heap.0.room w) (not (heap.0.reserved == units w)) ≡ false
         → units_in m' (cond v (record heap.0 { chunks = put_last heap.0.chunks next; room = heap.0.room - w; since = heap.0.since + w }) (record heap.0 { large = heap.0.large ++ next ∷ []; reserved = 0; since = heap.0.since + w })) ≡ used_by (units_in m' heap.0) heap.0.reserved m' (large_at v)
     placed_units w e true is lacks =
         let a = (booked.at_least p s l t S I B can fine w e).0 in
@@ -53,17 +53,17 @@ module _ (p : ProgramText) (s : SettingsValue) (l : Ledger) (t : ℕ) (S : Sound
     use_by None e = total_same (units_in m') (units_in m) l.heaps (booked.units_same p s l t S I B can fine)
     use_by (Some w) e =
         let a = total_same (units_in m') (units_in m) l.heaps (booked.units_same p s l t S I B can fine) in
-        let c = total_set (units_in m') l.heaps t heap.0 (placed heap.0 next w) heap.1 in
-        let d : units_in m' (placed heap.0 next w) ≡ used_by (units_in m' heap.0) heap.0.reserved m' (large_at (is_small w)) = placed_units w e (is_small w) refl (booked.lacks_at p s l t S I B can fine w e) in
-        let f : total (units_in m') (allocated_by l t (Some w)).heaps ≡ total (units_in m') (slice_set l.heaps t (placed heap.0 next w)) = ap (λ (q : Ledger). total (units_in m') q.heaps) (ap (with_heap_at l t (λ g. placed g next w)) heap.1) in
+        let c = total_set (units_in m') l.heaps t heap.0 (with_allocation heap.0 next w) heap.1 in
+        let d : units_in m' (with_allocation heap.0 next w) ≡ used_by (units_in m' heap.0) heap.0.reserved m' (large_at (is_small_size w)) = placed_units w e (is_small_size w) refl (booked.lacks_at p s l t S I B can fine w e) in
+        let f : total (units_in m') (allocated_by l t (Some w)).heaps ≡ total (units_in m') (slice_set l.heaps t (with_allocation heap.0 next w)) = ap (λ (q : Ledger). total (units_in m') q.heaps) (ap (with_heap_at l t (λ g. with_allocation g next w)) heap.1) in
         let g : units_in m' (or_fresh (slice_get l.heaps t)) ≤ total (units_in m') l.heaps = one_of (units_in m') l.heaps t refl in
         let h : units_in m' (or_fresh (slice_get l.heaps t)) ≡ units_in m' heap.0 = ap (λ o. units_in m' (or_fresh o)) heap.1 in
-        f ∙ use_by_cases (is_small w) (units_in m' (placed heap.0 next w)) d c a g h
+        f ∙ use_by_cases (is_small_size w) (units_in m' (with_allocation heap.0 next w)) d c a g h
       where
         use_by_cases : (v : Bool) (after : ℕ) → after ≡ used_by (units_in m' heap.0) heap.0.reserved m' (large_at v)
-            → total (units_in m') (slice_set l.heaps t (placed heap.0 next w)) + units_in m' heap.0 ≡ total (units_in m') l.heaps + after → total (units_in m') l.heaps ≡ in_use l
+            → total (units_in m') (slice_set l.heaps t (with_allocation heap.0 next w)) + units_in m' heap.0 ≡ total (units_in m') l.heaps + after → total (units_in m') l.heaps ≡ in_use l
             → units_in m' (or_fresh (slice_get l.heaps t)) ≤ total (units_in m') l.heaps → units_in m' (or_fresh (slice_get l.heaps t)) ≡ units_in m' heap.0
-            → total (units_in m') (slice_set l.heaps t (placed heap.0 next w)) ≡ used_by (in_use l) heap.0.reserved m' (large_at v)
+            → total (units_in m') (slice_set l.heaps t (with_allocation heap.0 next w)) ≡ used_by (in_use l) heap.0.reserved m' (large_at v)
         use_by_cases true after d c a g h = omega arith
         use_by_cases false after d c a g h = omega arith
 

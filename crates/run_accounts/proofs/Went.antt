@@ -1,5 +1,5 @@
 -- What an entry changes of the accounts, with the count of the chunks in use.
-use Rattle.run_accounts.proofs.Common.{◌≡◌, ℕ, ◌+◌, ◌-◌, Bool, true, false, cond, Option, Some, None, List, [], ◌∷◌, ◌++◌, length, slice_set, nat_lt, refl, ap, ap₂, sym, ◌∙◌, arith, got_same, Took, Chunk, Begin, PutOff, Mark, More, Sweep, asked, Heap, Ledger, Pool, heap_at, heap_of, or_fresh, with_heap, with_heap_at, in_use, units_in, units_sum, begun_in, is_small, chunk_words, collected, end_numbers, swept_heap, sweep_number, on_asked, after_kind, with_chunk, chunk_units, Collected, with_collected, with_heap_any, same_use, AccountsValue, CachesAgree, went_on, places_in}
+use Rattle.run_accounts.proofs.Common.{◌≡◌, ℕ, ◌+◌, ◌-◌, Bool, true, false, cond, Option, Some, None, List, [], ◌∷◌, ◌++◌, length, slice_set, nat_lt, refl, ap, ap₂, sym, ◌∙◌, arith, got_same, Took, Chunk, Begin, PutOff, Mark, More, Sweep, asked, Heap, Ledger, Pool, heap_at, heap_of, or_fresh, with_heap, with_heap_at, in_use, units_in, units_sum, begun_in, is_small_size, chunk_words, collected, end_numbers, swept_heap, sweep_number, on_asked, after_kind, with_chunk, chunk_units, Collected, with_collected, with_heap_any, same_use, AccountsValue, CachesAgree, went_on, places_in}
 use Rattle.run_trace.specs.declared.entry.Kind.TheVariants.{End as EndOf}
 use Rattle.run_accounts.proofs.Uses.{use_set, use_least, use_collected, use_swept}
 
@@ -44,7 +44,7 @@ placed_went s s1 new t l before A was is e1 e =
     ∙ ap (λ (u : ℕ). record s { ledger = l; used = u }) (ap₂ (λ a b. a + places_in (heap_of l t) - b) A.used was ∙ sym is))
 
 chunk_units_in : (l : Ledger) (next : Option ℕ) (h : Heap) → units_in l.machine (with_chunk next h) + places_in h ≡ units_in l.machine h + places_in (with_chunk next h)
-chunk_units_in l next h = chunk_units_in_by_cases (on_asked next is_small)
+chunk_units_in l next h = chunk_units_in_by_cases (on_asked next is_small_size)
   where
     chunk_units_in_by_cases : (v : Bool) → let k = cond v (record h { chunks = h.chunks ++ [] ∷ []; room = chunk_words }) (record h { reserved = chunk_units next }) in units_in l.machine k + places_in h ≡ units_in l.machine h + places_in k
     chunk_units_in_by_cases true = omega arith

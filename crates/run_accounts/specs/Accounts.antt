@@ -15,7 +15,7 @@ use Rattle.hh_model.specs.Effect.{row_of}
 use Rattle.hh_model.specs.Step.{step, can_step, asked, parents, is_left}
 use Rattle.run_ledger.specs.declared.data.Ledger.{Ledger}
 use Rattle.run_ledger.specs.declared.data.Heap.{Heap}
-use Rattle.run_ledger.specs.Heaps.{fresh, with_heap, forked_heap, heap_of, begun_in, is_small, units, words_at, words_in, units_in, in_use}
+use Rattle.run_ledger.specs.Heaps.{fresh, with_heap, forked_heap, heap_of, begun_in, is_small_size, units, words_at, words_in, units_in, in_use}
 use Rattle.run_ledger.specs.Steps.{join_heaps, is_due, is_in_need, is_private, task_step, task_steps, standing}
 use Rattle.ledger_heaps.specs.Accounts.{AreOwned}
 use Rattle.run_accounts.specs.declared.ran.Stood.{Stood}
@@ -47,12 +47,12 @@ taken_after taken w (Took t) = slice_set taken w (Some t)
 taken_after taken w _ = taken
 
 -- the left one of the two children of which t is one
-abbrev pub left_of : ℕ → ℕ
-left_of t = if is_left t then t else t - 1
+abbrev pub left_of_pair : ℕ → ℕ
+left_of_pair t = if is_left t then t else t - 1
 
 -- each task with a parent is one of two children with consecutive numbers, above their parent's, and both have a heap
 abbrev pub ArePaired : Ledger → Type 0
-ArePaired l = (t p : ℕ) → parents l.machine.tasks t ≡ Some p → (p < left_of t) × (left_of t + 1 < length l.heaps)
+ArePaired l = (t p : ℕ) → parents l.machine.tasks t ≡ Some p → (p < left_of_pair t) × (left_of_pair t + 1 < length l.heaps)
 
 -- the counts of accounts fit their types; this holds for every legal journal
 pub record Steady (l : Ledger) : Type 0 where
@@ -94,7 +94,7 @@ places_in h = length h.chunks + h.reserved + begun_in h
 -- the large object that the next step of t allocates, if that allocates w words
 abbrev pub large_by : Ledger → ℕ → Option ℕ → Option Name
 large_by l t None = None
-large_by l t (Some w) = if is_small w then None else Some (record { task = t; count = length (row_of (slice_get l.machine.store t)) })
+large_by l t (Some w) = if is_small_size w then None else Some (record { task = t; count = length (row_of (slice_get l.machine.store t)) })
 
 abbrev pub next_large : ProgramText → Ledger → ℕ → Option Name
 next_large p l t = large_by l t (asked p l.machine t)

@@ -2,7 +2,7 @@
 
 ghost use Rattle.std.specs.Prelude.{◌≡◌, ℕ, ◌==◌, ◌<◌, ◌^◌, None, is_some};
 ghost use Rattle.run_trace.specs.declared.entry.Kind.TheVariants.{Took, Chunk, Begin, PutOff, Mark, More, Fuel};
-ghost use Rattle.run_ledger.specs.Entries.{kind_refusal, on_running, on_waiting, on_marking, on_due, is_pool_enough, is_out, refused_unless, counted, ends_as};
+ghost use Rattle.run_ledger.specs.Entries.{kind_refusal, on_running, on_waiting, on_marking, on_due, is_pool_enough, is_out, refused_unless, unless_wrong_number, ends_as};
 ghost use Rattle.run_ledger.specs.Heaps.{heap_of, left_in, marked_in};
 ghost use Rattle.run_ledger.specs.declared.data.Refused.TheVariants.{NotOut, NotCollecting, Left};
 ghost use Rattle.run_accounts.specs.Accounts.{Steady, CachesAgree};
@@ -196,7 +196,7 @@ impl<'p> Accounts<'p> {
 /// A number of an entry must have its right value.
 pub(crate) fn count_cause(said: u32, is: u64) -> Option<Refused>
     requires { is < 2 ^ 32 }
-    ensures { result ≡ counted said is None }
+    ensures { result ≡ unless_wrong_number said is None }
 {
     if said as u64 == is {
         None

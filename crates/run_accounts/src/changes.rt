@@ -6,7 +6,7 @@ ghost use Rattle.run_trace.specs.Settings.{worker_limit};
 ghost use Rattle.run_ledger.specs.Entries.{after_kind, chunk_units};
 ghost use Rattle.hh_model.specs.Step.{asked};
 ghost use Rattle.run_ledger.specs.Steps.{on_asked};
-ghost use Rattle.run_ledger.specs.Heaps.{is_small, heap_of, with_heap, collected, end_numbers, swept_heap, sweep_number, left_in, marked_in};
+ghost use Rattle.run_ledger.specs.Heaps.{is_small_size, heap_of, with_heap, collected, end_numbers, swept_heap, sweep_number, left_in, marked_in};
 ghost use Rattle.ledger_heaps.specs.Parts.{with_collected, with_swept};
 ghost use Rattle.run_accounts.specs.Accounts.{Steady, CachesAgree};
 
@@ -63,7 +63,7 @@ impl<'p> Accounts<'p> {
 
     // Whether the task's next step allocates an object that shares a chunk with others.
     fn needs_small(&self, task: u32) -> bool
-        ensures { result ≡ on_asked (asked self.now.program self.now.ledger.machine task) is_small }
+        ensures { result ≡ on_asked (asked self.now.program self.now.ledger.machine task) is_small_size }
     {
         match self.asked(task) {
             Some(words) => words <= CHUNK_WORDS,

@@ -5,7 +5,7 @@ ghost use Rattle.run_ledger.specs.Heaps.{heap_of, in_use, or_fresh, with_heap, l
 ghost use Rattle.run_ledger.specs.Steps.{allocated_in, is_in_need, task_step, at_fork, at_join, settled};
 ghost use Rattle.hh_model.specs.Step.{asked, step, is_joined, is_waiting};
 ghost use Rattle.ledger_heaps.specs.Accounts.{AreOwned};
-ghost use Rattle.run_accounts.specs.Accounts.{Steady, Forks, JoinsHeaps, ArePaired, left_of, next_large, used_after, went_on};
+ghost use Rattle.run_accounts.specs.Accounts.{Steady, Forks, JoinsHeaps, ArePaired, left_of_pair, next_large, used_after, went_on};
 
 use crate::accounts::Accounts;
 use hh_model::{MachineState, Name, TaskStatus};
@@ -72,7 +72,7 @@ impl<'p> Accounts<'p> {
     // The parent's heap gets all that the heaps of its children hold, one of which is the task.
     fn join(&mut self, parent: u32, t: u32) -> Result<(), AllocError>
         requires since { (u : ℕ) → (heap_of self.old.ledger u).since < 2 ^ 62 }
-        requires paired { (parent < left_of t) × (left_of t + 1 < length self.old.ledger.heaps) }
+        requires paired { (parent < left_of_pair t) × (left_of_pair t + 1 < length self.old.ledger.heaps) }
         ensures { OnOk result (self.new ≡ record self.old { ledger = at_join self.old.ledger t (Some parent) }) }
     {
         let left = if t % 2 == 1 { t } else { t.saturating_sub(1) };

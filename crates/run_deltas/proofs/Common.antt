@@ -1,7 +1,7 @@
 -- The names of lower crates and of the specifications that these proofs use. Declares nothing.
 pub use Rattle.hh_lang.specs.Form.{ProgramText}
 pub use Rattle.hh_lang.specs.declared.instr.Instr.{Instr}
-pub use Rattle.hh_model.specs.Names.{named, registers}
+pub use Rattle.hh_model.specs.Names.{names_of_references, registers}
 pub use Rattle.hh_model.specs.Step.{step, run_from}
 pub use Rattle.hh_model.specs.declared.data.Frame.{Frame}
 pub use Rattle.hh_model.specs.declared.data.MachineState.{MachineState}

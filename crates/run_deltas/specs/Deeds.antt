@@ -55,13 +55,13 @@ deed m t f (Freeze o) = with_object f m.store o (λ n x. if owner_of m.tasks n.t
 deed m t f (Out a) = Some (Prints (int_in f a))
 deed m t f _ = None
 
-abbrev pub act_line : MachineState → ℕ → Task → Option Line → Option StepAct
-act_line m t x None = None
-act_line m t x (Some line) = Some (record { line = line.number; instr = line.instr; deed = deed m t x.top line.instr })
+abbrev pub step_act_of : MachineState → ℕ → Task → Option Line → Option StepAct
+step_act_of m t x None = None
+step_act_of m t x (Some line) = Some (record { line = line.number; instr = line.instr; deed = deed m t x.top line.instr })
 
 abbrev pub act_by : ProgramText → MachineState → ℕ → Option Task → Option StepAct
 act_by p m t None = None
-act_by p m t (Some x) = act_line m t x (fetched p x.top)
+act_by p m t (Some x) = step_act_of m t x (fetched p x.top)
 
 -- the next step of a task, where it can take one
 abbrev pub act_of : ProgramText → MachineState → ℕ → Option StepAct

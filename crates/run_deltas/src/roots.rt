@@ -1,7 +1,7 @@
 // What tasks hold: the roots from which their objects are reached.
 
 ghost use Rattle.std.specs.Prelude.{◌≡◌, ◌∷◌, [], IfOk, OnOk};
-ghost use Rattle.hh_model.specs.Names.{named, registers, task_names};
+ghost use Rattle.hh_model.specs.Names.{names_of_references, registers, task_names};
 ghost use Rattle.run_ledger.specs.Reachable.{holds_name};
 ghost use Rattle.run_deltas.specs.Roots.{with_root, with_roots, roots};
 
@@ -28,7 +28,7 @@ fn add_root(found: &mut Listed<Name>, name: Name) -> Result<(), AllocError>
 
 // Adds the name in a reference, unless it is nil.
 fn add_reference(found: &mut Listed<Name>, reference: Option<Name>) -> Result<(), AllocError>
-    ensures { OnOk result (found.new ≡ with_roots found.old (named (reference ∷ []))) }
+    ensures { OnOk result (found.new ≡ with_roots found.old (names_of_references (reference ∷ []))) }
 {
     match reference {
         None => Ok(()),
@@ -38,7 +38,7 @@ fn add_reference(found: &mut Listed<Name>, reference: Option<Name>) -> Result<()
 
 // Adds the names in some references.
 fn add_references(found: &mut Listed<Name>, refs: &[Option<Name>]) -> Result<(), AllocError>
-    ensures { OnOk result (found.new ≡ with_roots found.old (named refs.now)) }
+    ensures { OnOk result (found.new ≡ with_roots found.old (names_of_references refs.now)) }
 {
     for reference in refs {
         add_reference(found, *reference)?;

@@ -29,7 +29,7 @@ pub use Rattle.run_ledger.proofs.Steps.{SoundAt, heap_of_task, can_tells, task_s
 pub use Rattle.run_ledger.proofs.Stocks.{names_are_held_once, StockedLedger, G, L, with_heap_any, same_weight, chunk_lighter, allocated_total, task_step_stocked, legal_stocked}
 pub use Rattle.run_ledger.proofs.Weights.{weight, weight_additive, total, total_set, moves_total, collected_weight, swept_weight}
 pub use Rattle.run_ledger.specs.Entries.{refusal, after, is_fuel, after_kind, chunk_units, with_chunk}
-pub use Rattle.run_ledger.specs.Heaps.{heap_of, or_fresh, held, held_in, words_at, words_sum, in_use, heap_at, fresh, words_in, units_in, is_small, lacks_room, placed, with_heap, with_heap_at, let_go, forked_heap, merged, emptied, collected, swept_heap}
+pub use Rattle.run_ledger.specs.Heaps.{heap_of, or_fresh, held, held_in, words_at, words_sum, in_use, heap_at, fresh, words_in, units_in, is_small_size, lacks_room, with_allocation, with_heap, with_heap_at, let_go, forked_heap, merged, emptied, collected, swept_heap}
 pub use Rattle.run_ledger.specs.Journals.{ledger_of, is_legal, opening, after_all, first_refused_from, refused_or, is_legal_from}
 pub use Rattle.run_ledger.specs.Laws.{HoldsOnce}
 pub use Rattle.run_ledger.specs.Report.{held_not_running}

@@ -1,5 +1,5 @@
 -- The counts of the accounts of every legal journal fit their types.
-use Rattle.run_journal.proofs.Common.{◌≡◌, ℕ, zero, suc, ◌+◌, ◌*◌, ◌<◌, ◌≤◌, ◌^◌, ◌||◌, Bool, true, false, cond, Option, Some, None, List, [], ◌∷◌, ◌++◌, length, slice_get, slice_set, nat_lt, is_none, is_some, inl, inr, refl, ap, sym, subst, ◌∙◌, arith, length-append, length-set, false≢true, and_parts, in_from_contains, Kind, Took, Ran, Chunk, Begin, End as EndOf, PutOff, Mark, More, Sweep, Fuel, EntryValue, SettingsValue, AreSettings, ProgramText, Name, MachineState, step, can_step, asked, next_name, Heap, Ledger, Pool, heap_of, heap_at, or_fresh, fresh, words_in, units_in, in_use, is_small, lacks_room, placed, with_heap, with_heap_at, let_go, forked_heap, merged, emptied, collected, swept_heap, allocated_in, allocated_by, stepped_to, task_step, task_steps, is_due, is_in_need, is_private, standing, on_asked, refusal, after_kind, after, chunk_units, with_chunk, opening, ledger_of, is_legal, is_legal_from, store_words, stepped_machine, SoundLedger, names_of, collecting, Moves, placed_since, SoundAt, heap_of_task, can_tells, task_step_sound, weight, weight_additive, total, total_set, moves_total, collected_weight, swept_weight, StockedLedger, G, L, with_heap_any, same_weight, chunk_lighter, allocated_total, task_step_stocked, legal_stocked, BookedLedger, task_steps_booked, heap_words, legal_booked, legal_sound, entry_tells, out_tells, after_cut, cut_legal, asked_bounds, stands_by, ran_tells, task_steps_steps, steps_are_bounded, since_additive, since_in, Steady, StaysSteady, small_enough, one_each, Snaps, snaps_set, snaps_allocated, snaps_settled, sound_paired, one_of, step_used}
+use Rattle.run_journal.proofs.Common.{◌≡◌, ℕ, zero, suc, ◌+◌, ◌*◌, ◌<◌, ◌≤◌, ◌^◌, ◌||◌, Bool, true, false, cond, Option, Some, None, List, [], ◌∷◌, ◌++◌, length, slice_get, slice_set, nat_lt, is_none, is_some, inl, inr, refl, ap, sym, subst, ◌∙◌, arith, length-append, length-set, false≢true, and_parts, in_from_contains, Kind, Took, Ran, Chunk, Begin, End as EndOf, PutOff, Mark, More, Sweep, Fuel, EntryValue, SettingsValue, AreSettings, ProgramText, Name, MachineState, step, can_step, asked, next_name, Heap, Ledger, Pool, heap_of, heap_at, or_fresh, fresh, words_in, units_in, in_use, is_small_size, lacks_room, with_allocation, with_heap, with_heap_at, let_go, forked_heap, merged, emptied, collected, swept_heap, allocated_in, allocated_by, stepped_to, task_step, task_steps, is_due, is_in_need, is_private, standing, on_asked, refusal, after_kind, after, chunk_units, with_chunk, opening, ledger_of, is_legal, is_legal_from, store_words, stepped_machine, SoundLedger, names_of, collecting, Moves, placed_since, SoundAt, heap_of_task, can_tells, task_step_sound, weight, weight_additive, total, total_set, moves_total, collected_weight, swept_weight, StockedLedger, G, L, with_heap_any, same_weight, chunk_lighter, allocated_total, task_step_stocked, legal_stocked, BookedLedger, task_steps_booked, heap_words, legal_booked, legal_sound, entry_tells, out_tells, after_cut, cut_legal, asked_bounds, stands_by, ran_tells, task_steps_steps, steps_are_bounded, since_additive, since_in, Steady, StaysSteady, small_enough, one_each, Snaps, snaps_set, snaps_allocated, snaps_settled, sound_paired, one_of, step_used}
 
 -- the most words of one object, in the runs that legal journals have
 abbrev most : ℕ
@@ -43,7 +43,7 @@ module _ (p : ProgramText) (s : SettingsValue) (A : AreSettings s) (l : Ledger) 
   few : (w : ℕ) → asked p m t ≡ Some w → w < most
   few w e =
       let lacks : lacks_room heap.0 w ≡ false = ap (λ o. lacks_room (or_fresh o) w) (sym heap.1) ∙ (asked_bounds s (heap_of l t) (asked p m t) w e fine).1 in
-      small_enough heap.0 w (is_small w) refl lacks reserved_few
+      small_enough heap.0 w (is_small_size w) refl lacks reserved_few
 
   placed_long : (w : ℕ) → length (allocated_by l t (Some w)).heaps ≡ length l.heaps
   placed_long w = with_heap_any (λ q. length q.heaps ≡ length l.heaps) l t _ refl (λ h e. length-set l.heaps t _)
@@ -64,11 +64,11 @@ module _ (p : ProgramText) (s : SettingsValue) (A : AreSettings s) (l : Ledger) 
     names = let c = X.names in let d = allocated_total one_each l t heap.0 heap.1 w in omega arith;
     since =
         let c = X.since in
-        let d = total_set since_in l.heaps t heap.0 (placed heap.0 (next_name t l.machine.store) w) heap.1 in
+        let d = total_set since_in l.heaps t heap.0 (with_allocation heap.0 (next_name t l.machine.store) w) heap.1 in
         let g = placed_since heap.0 (next_name t l.machine.store) w in
         let i = few w e in
-        let j : total since_in (allocated_by l t (Some w)).heaps ≡ total since_in (slice_set l.heaps t (placed heap.0 (next_name t l.machine.store) w)) =
-        ap (λ (q : Ledger). total since_in q.heaps) (ap (with_heap_at l t (λ h. placed h (next_name t l.machine.store) w)) heap.1) in
+        let j : total since_in (allocated_by l t (Some w)).heaps ≡ total since_in (slice_set l.heaps t (with_allocation heap.0 (next_name t l.machine.store) w)) =
+        ap (λ (q : Ledger). total since_in q.heaps) (ap (with_heap_at l t (λ h. with_allocation h (next_name t l.machine.store) w)) heap.1) in
         omega arith;
     heaps = placed_long w;
   }
@@ -212,7 +212,7 @@ module _ (p : ProgramText) (s : SettingsValue) (A : AreSettings s) where
 
   chunk_light : (l : Ledger) (t : ℕ) (next : Option ℕ) (full : Bool) (end : Ledger) → Light end → Light l → Light (cond full end (with_heap l t (with_chunk next)))
   chunk_light l t next true end E X = E
-  chunk_light l t next false end E X = lighter l t (with_chunk next) (λ h g. chunk_lighter next h g (on_asked next is_small)) (λ h. chunk_since next h (on_asked next is_small)) (λ h. chunk_snapshot next h (on_asked next is_small)) X
+  chunk_light l t next false end E X = lighter l t (with_chunk next) (λ h g. chunk_lighter next h g (on_asked next is_small_size)) (λ h. chunk_since next h (on_asked next is_small_size)) (λ h. chunk_snapshot next h (on_asked next is_small_size)) X
 
   ended_light : (l : Ledger) (n : ℕ) → Light l → Light (record l { end = Some (Pool n) })
   ended_light l n X = record { names = X.names; snapshots = X.snapshots; since = X.since; heaps = X.heaps; store = X.store }

@@ -1,6 +1,6 @@
 -- The chunks of heaps: what a leaf collection took, where room comes from, what is reserved for a large object, and how
 -- many are in use.
-use Rattle.run_ledger.proofs.Common.{◌≡◌, ℕ, zero, suc, ◌+◌, ◌-◌, ◌*◌, ◌<◌, ◌≤◌, ◌==◌, ◌||◌, not, max, Bool, true, false, cond, Option, Some, None, List, [], ◌∷◌, ◌++◌, length, slice_get, slice_set, sum_by, nat_lt, inl, inr, refl, ap, ap₂, sym, subst, ◌∙◌, arith, is_some, length-append, false≢true, both_ways, cases_eq, ltb-false, eqb-true, cases_lt, sum_by-append, sum_by-cons, same_Some, In, got_same, got_other, got_within, in_append_left, in_append_right, none_some, SettingsValue, ProgramText, Name, Waiting, Task, MachineState, onward, runs, is_running, child, joined_task, resumed, ended_task, result_of, step, can_step, asked, asked_by, asked_line, fetched, next_name, IsForkJoinState, step_cases, step_limit, waiting, grown_other, three_other, wp, below, waiting_stops, Heap, Ledger, units, is_small, words_of, words_at, small_in, held_in, begun_in, units_in, fresh, heap_of, or_fresh, with_heap_at, in_use, placed, put_last, lacks_room, take_of, chunk_words, allocated_by, allocated_in, stepped_to, task_step, task_steps, is_due, is_in_need, is_private, standing, last_words}
+use Rattle.run_ledger.proofs.Common.{◌≡◌, ℕ, zero, suc, ◌+◌, ◌-◌, ◌*◌, ◌<◌, ◌≤◌, ◌==◌, ◌||◌, not, max, Bool, true, false, cond, Option, Some, None, List, [], ◌∷◌, ◌++◌, length, slice_get, slice_set, sum_by, nat_lt, inl, inr, refl, ap, ap₂, sym, subst, ◌∙◌, arith, is_some, length-append, false≢true, both_ways, cases_eq, ltb-false, eqb-true, cases_lt, sum_by-append, sum_by-cons, same_Some, In, got_same, got_other, got_within, in_append_left, in_append_right, none_some, SettingsValue, ProgramText, Name, Waiting, Task, MachineState, onward, runs, is_running, child, joined_task, resumed, ended_task, result_of, step, can_step, asked, asked_by, asked_line, fetched, next_name, IsForkJoinState, step_cases, step_limit, waiting, grown_other, three_other, wp, below, waiting_stops, Heap, Ledger, units, is_small_size, object_words_of, words_at, small_in, held_in, begun_in, units_in, fresh, heap_of, or_fresh, with_heap_at, in_use, with_allocation, put_last, lacks_room, take_of, chunk_words, allocated_by, allocated_in, stepped_to, task_step, task_steps, is_due, is_in_need, is_private, standing, last_words}
 use Rattle.run_ledger.proofs.Chunks.{sum_same, Full, full_same, last_same, last_full, put_last_words, put_full, append_full, last_append}
 use Rattle.run_ledger.proofs.Machine.{stepped_machine}
 use Rattle.run_ledger.proofs.Sound.{collecting, names_of}
@@ -49,7 +49,7 @@ put_length (ns ∷ ms ∷ rest) n l = ap suc (put_length (ms ∷ rest) n (omega 
 pub record Booked (p : ProgramText) (s : SettingsValue) (m : MachineState) (u : ℕ) (h : Heap) : Type 0 where
   pub begun : (c : ℕ) → h.begun ≡ Some c → (c ≡ take_of m h) × (h.reserved ≡ 0)
   pub room : 0 < h.room → 0 < length h.chunks
-  pub reserved : 0 < h.reserved → (w : ℕ) × (asked p m u ≡ Some w) × (is_small w ≡ false) × (h.reserved ≡ units w) × (h.since < s.leaf)
+  pub reserved : 0 < h.reserved → (w : ℕ) × (asked p m u ≡ Some w) × (is_small_size w ≡ false) × (h.reserved ≡ units w) × (h.since < s.leaf)
   pub full : Full m h.chunks
   pub last : last_words m h.chunks + h.room ≤ chunk_words
 
@@ -180,7 +180,7 @@ module _ (p : ProgramText) (s : SettingsValue) (l : Ledger) (t : ℕ) (S : Sound
   pub at_least : (w : ℕ) → asked p m t ≡ Some w → (2 ≤ w) × (words_at m' next ≤ w)
   at_least w e =
       let q = grown.new w e in
-      let size : words_at m' next ≡ words_of (Some q.0.0) = ap words_of q.0.1 in
+      let size : words_at m' next ≡ object_words_of (Some q.0.0) = ap object_words_of q.0.1 in
       let le : words_at m' next ≤ w = q.1 in
       (omega arith, le)
 
@@ -195,12 +195,12 @@ module _ (p : ProgramText) (s : SettingsValue) (l : Ledger) (t : ℕ) (S : Sound
       omega arith
 
   -- or allocates these words
-  placed_by : (w : ℕ) → asked p m t ≡ Some w → (v : Bool) → is_small w ≡ v → cond v (nat_lt heap.0.room w) (not (heap.0.reserved == units w)) ≡ false
+  placed_by : (w : ℕ) → asked p m t ≡ Some w → (v : Bool) → is_small_size w ≡ v → cond v (nat_lt heap.0.room w) (not (heap.0.reserved == units w)) ≡ false
       → Booked p s m' t (cond v (record heap.0 { chunks = put_last heap.0.chunks next; room = heap.0.room - w; since = heap.0.since + w }) (record heap.0 { large = heap.0.large ++ next ∷ []; reserved = 0; since = heap.0.since + w }))
   placed_by w e true is lacks = record {
     begun = λ c q. no_begun heap.0 c idle_t q;
     room = λ pos. put_some heap.0.chunks next;
-    reserved = λ pos. (let q = B_t.reserved pos in absurd (false≢true (sym q.2 ∙ (ap is_small (same_Some q.0 w (sym q.1 ∙ e)) ∙ is))));
+    reserved = λ pos. (let q = B_t.reserved pos in absurd (false≢true (sym q.2 ∙ (ap is_small_size (same_Some q.0 w (sym q.1 ∙ e)) ∙ is))));
     full = put_full m' heap.0.chunks next (full_now t heap.0 heap.1) (fits w e lacks);
     last = let a = put_last_words m' heap.0.chunks next in let c = fits w e lacks in let d = last_now t heap.0 heap.1 in let f = (at_least w e).1 in let r = ltb-false heap.0.room w lacks in omega arith;
   }
@@ -220,13 +220,13 @@ module _ (p : ProgramText) (s : SettingsValue) (l : Ledger) (t : ℕ) (S : Sound
     | inr ne ↦ carried u h ne is
   ]
   each_by (Some w) e u h is0 =
-      let heaps1 : List Heap = slice_set l.heaps t (placed heap.0 next w) in
-      let is : slice_get heaps1 u ≡ Some h = ap (λ (q : Ledger). slice_get q.heaps u) (sym (ap (with_heap_at l t (λ g. placed g next w)) heap.1)) ∙ is0 in
+      let heaps1 : List Heap = slice_set l.heaps t (with_allocation heap.0 next w) in
+      let is : slice_get heaps1 u ≡ Some h = ap (λ (q : Ledger). slice_get q.heaps u) (sym (ap (with_heap_at l t (λ g. with_allocation g next w)) heap.1)) ∙ is0 in
       elim (cases_eq u t) [
         | inl same ↦
-            let at : placed heap.0 next w ≡ h = same_Some (placed heap.0 next w) h (sym (got_same l.heaps t heap.0 (placed heap.0 next w) heap.1) ∙ (ap (slice_get heaps1) (sym same) ∙ is)) in
-            subst (λ v. Booked p s m' v h) (sym same) (subst (Booked p s m' t) at (placed_by w e (is_small w) refl (lacks_at w e)))
-        | inr ne ↦ carried u h ne (sym (got_other l.heaps t u (placed heap.0 next w) ne) ∙ is)
+            let at : with_allocation heap.0 next w ≡ h = same_Some (with_allocation heap.0 next w) h (sym (got_same l.heaps t heap.0 (with_allocation heap.0 next w) heap.1) ∙ (ap (slice_get heaps1) (sym same) ∙ is)) in
+            subst (λ v. Booked p s m' v h) (sym same) (subst (Booked p s m' t) at (placed_by w e (is_small_size w) refl (lacks_at w e)))
+        | inr ne ↦ carried u h ne (sym (got_other l.heaps t u (with_allocation heap.0 next w) ne) ∙ is)
       ]
 
   -- a parent that waits has no reserved chunk
@@ -240,7 +240,7 @@ module _ (p : ProgramText) (s : SettingsValue) (l : Ledger) (t : ℕ) (S : Sound
       old_by : (o : Option ℕ) → (u ≡ t → ⊥) → slice_get (allocated_by l t o).heaps u ≡ Some h → slice_get l.heaps u ≡ Some h
       old_by None ne e = e
       old_by (Some w') ne e =
-          sym (got_other l.heaps t u (placed heap.0 next w') ne) ∙ (ap (λ (q : Ledger). slice_get q.heaps u) (sym (ap (with_heap_at l t (λ g. placed g next w')) heap.1)) ∙ e)
+          sym (got_other l.heaps t u (with_allocation heap.0 next w') ne) ∙ (ap (λ (q : Ledger). slice_get q.heaps u) (sym (ap (with_heap_at l t (λ g. with_allocation g next w')) heap.1)) ∙ e)
 
   merged_last : (xs ys : List (List Name)) (room : ℕ) → Full m' xs → (0 < room → 0 < length ys) → last_words m' ys + room ≤ chunk_words → last_words m' (xs ++ ys) + room ≤ chunk_words
   merged_last xs [] room F some h = let a = last_full m' (xs ++ []) (append_full m' xs [] F (λ ns i. absurd i)) in let z : room ≤ 0 = elim (cases_lt 0 room) [ inl pos ↦ let q = some pos in absurd (omega arith) | inr le ↦ le ] in omega arith
@@ -269,7 +269,7 @@ module _ (p : ProgramText) (s : SettingsValue) (l : Ledger) (t : ℕ) (S : Sound
 
   -- CHUNKS IN USE
 
-  placed_units : (w : ℕ) → asked p m t ≡ Some w → (v : Bool) → is_small w ≡ v → cond v (nat_lt heap.0.room w) (not (heap.0.reserved == units w)) ≡ false
+  placed_units : (w : ℕ) → asked p m t ≡ Some w → (v : Bool) → is_small_size w ≡ v → cond v (nat_lt heap.0.room w) (not (heap.0.reserved == units w)) ≡ false
       → units_in m' (cond v (record heap.0 { chunks = put_last heap.0.chunks next; room = heap.0.room - w; since = heap.0.since + w }) (record heap.0 { large = heap.0.large ++ next ∷ []; reserved = 0; since = heap.0.since + w })) ≤ units_in m' heap.0
   placed_units w e true is lacks =
       let a = (at_least w e).0 in
@@ -292,9 +292,9 @@ module _ (p : ProgramText) (s : SettingsValue) (l : Ledger) (t : ℕ) (S : Sound
   use_by None e = let a = total_same (units_in m') (units_in m) l.heaps units_same in omega arith
   use_by (Some w) e =
       let a = total_same (units_in m') (units_in m) l.heaps units_same in
-      let c = total_set (units_in m') l.heaps t heap.0 (placed heap.0 next w) heap.1 in
-      let d : units_in m' (placed heap.0 next w) ≤ units_in m' heap.0 = placed_units w e (is_small w) refl (lacks_at w e) in
-      let f : total (units_in m') (allocated_by l t (Some w)).heaps ≡ total (units_in m') (slice_set l.heaps t (placed heap.0 next w)) = ap (λ (q : Ledger). total (units_in m') q.heaps) (ap (with_heap_at l t (λ g. placed g next w)) heap.1) in
+      let c = total_set (units_in m') l.heaps t heap.0 (with_allocation heap.0 next w) heap.1 in
+      let d : units_in m' (with_allocation heap.0 next w) ≤ units_in m' heap.0 = placed_units w e (is_small_size w) refl (lacks_at w e) in
+      let f : total (units_in m') (allocated_by l t (Some w)).heaps ≡ total (units_in m') (slice_set l.heaps t (with_allocation heap.0 next w)) = ap (λ (q : Ledger). total (units_in m') q.heaps) (ap (with_heap_at l t (λ g. with_allocation g next w)) heap.1) in
       omega arith
 
   use_k : total (units_in m') k.heaps ≤ s.chunks

@@ -17,7 +17,7 @@ pub use Rattle.hh_model.proofs.Stores.{put_cases, made_cases, in_row}
 pub use Rattle.hh_model.proofs.Taken.{step_taken, can_task, can_runs, step_none, can_made}
 pub use Rattle.hh_model.proofs.Tree.{not_above, owner_not_joined}
 pub use Rattle.hh_model.specs.Effect.{onward, Effect, StepContext, effect, made, object_at, counts_in, int_in, or_trap, Goes, Prints, Calls, Forks, Returns, Traps, Stops, row_of, put_object, ref_in, with_object, read_effect, calculated, place_in, same_name}
-pub use Rattle.hh_model.specs.Names.{words_asked, words_for, refs_at, registers, task_names, named, names_from}
+pub use Rattle.hh_model.specs.Names.{words_asked, words_for, refs_at, registers, task_names, names_of_references, names_from}
 pub use Rattle.hh_model.specs.Precedence.{precedes}
 pub use Rattle.hh_model.specs.Step.{runs, is_running, child, joined_task, resumed, ended_task, result_of, step, can_step, asked, asked_by, asked_line, fetched, is_left, setting, follow, called, returned, returned_to, last_return, child_ended_by, last_of, result_at, sibling, or_same, join_of, ended_by, frame_limit, depth_limit, is_waiting, is_joined, parents, joined, owner_of, is_on_path, root, start, stepped, run_from, waits, is_over, parent_of, owner_in, goes_on, strand, strand_of, edge}
 pub use Rattle.hh_model.specs.Store.{IsStored}
@@ -43,8 +43,8 @@ pub use Rattle.plain_vec.proofs.Places.{got_some}
 pub use Rattle.plain_vec.specs.Members.{is_empty}
 pub use Rattle.plain_vec.specs.Options.{option_is}
 pub use Rattle.run_ledger.specs.Cuts.{JournalsCanBeCut, FirstRefusedIsFirst}
-pub use Rattle.run_ledger.specs.Entries.{after_kind, after, chunk_units, refusal, long_at, kind_refusal, is_out, is_ready, with_chunk, out_from, refused_holding, refused_unless, refused_if, on_running, on_waiting, is_fuel, is_pool_enough, counted}
-pub use Rattle.run_ledger.specs.Heaps.{units, is_small, words_of, words_at, small_in, held_in, begun_in, units_in, fresh, heap_of, or_fresh, with_heap_at, in_use, placed, put_last, lacks_room, take_of, chunk_words, with_heap, heap_at, within, let_go, emptied, forked_heap, words_sum, units_sum, words_in, lay, laid_onto, room_behind, without_empty, is_last_empty, in_snapshot, name_le, insert_name, by_birth, small_survivors, collected, swept_heap, merged, held, frames_of, roots_of, is_above, end_numbers, sweep_number, left_in}
+pub use Rattle.run_ledger.specs.Entries.{after_kind, after, chunk_units, refusal, long_at, kind_refusal, is_out, is_ready, with_chunk, out_from, refused_holding, refused_unless, refused_if, on_running, on_waiting, is_fuel, is_pool_enough, unless_wrong_number}
+pub use Rattle.run_ledger.specs.Heaps.{units, is_small_size, object_words_of, words_at, small_in, held_in, begun_in, units_in, fresh, heap_of, or_fresh, with_heap_at, in_use, with_allocation, put_last, lacks_room, take_of, chunk_words, with_heap, heap_at, within, let_go, emptied, forked_heap, words_sum, units_sum, words_in, lay, laid_onto, room_behind, without_empty, is_last_empty, in_snapshot, name_le, insert_name, by_birth, small_survivors, collected, swept_heap, merged, held, frames_of, roots_of, is_proper_ancestor, end_numbers, sweep_number, left_in}
 pub use Rattle.run_ledger.specs.Journals.{after_all, opening, is_legal_from, ledger_of, is_legal, refused_or, first_refused_from, tasks_in, tasks_of}
 pub use Rattle.run_ledger.specs.Laws.{AreByBirth, CollectionsKeepJust, EntriesLeaveOthers, MachineGoesOn, TasksAreOutOnce, IsNamedByTask, Refers, KeepsReachable, NothingReachableIsFreed, EntriesMoveMachine, MachineIsRun, ReachedIsWalks, StepsRunOn, NamesAreHeldOnce}
 pub use Rattle.run_ledger.specs.Reachable.{holds_name, is_name, once_more, reached_by, reached, StartsWithin, LeadsWithin, IsReachedWithin}

@@ -1,5 +1,5 @@
 -- What a step adds to the store: nothing, or the one object that it allocates; and objects keep their words.
-use Rattle.run_ledger.proofs.Common.{sum_by-append, sum_by-cons, ◌≡◌, ℕ, ℤ, zero, suc, pos, ◌+◌, ◌-◌, ◌==◌, ◌<◌, ◌≤◌, Bool, true, false, cond, Option, Some, None, List, [], ◌∷◌, ◌++◌, length, slice_get, slice_set, replicate, take, ◌⊎◌, inl, inr, refl, ap, ap₂, sym, subst, ◌∙◌, arith, is_some, nat_lt, sum_by, length-set, option_flatten, false≢true, same_Some, length-take, length-replicate, got_within, got_some, none_some, Instr, Set, Mov, Movr, Nil as NilOf, Calc, Same, Jmp, Jz, Newm, Pack, Getr, Geti, Putr, Puti, Cntr, Cnti, Freeze, Cas, Call, Par, Ret, Out, Line, ProgramText, Name, Object, Frame, Task, Trap, Range, Frozen, Div, Size, Depth, Trapped, MachineState, Effect, Goes, Prints, Calls, Forks, Returns, Traps, Stops, StepContext, effect, made, row_of, object_at, put_object, counts_in, int_in, ref_in, or_trap, with_object, read_effect, calculated, place_in, same_name, onward, words_asked, words_for, precedes, IsStored, setting, fetched, step, follow, called, returned, returned_to, last_return, child_ended_by, last_of, result_at, result_of, sibling, is_left, or_same, join_of, ended_by, can_step, is_running, asked, asked_line, frame_limit, depth_limit, put_cases, made_cases, in_row, next_name, IsForkJoinState, empty_rows, asked_at, object_later, made_here, can_runs, step_taken, step_none, store_words, words_of, words_at}
+use Rattle.run_ledger.proofs.Common.{sum_by-append, sum_by-cons, ◌≡◌, ℕ, ℤ, zero, suc, pos, ◌+◌, ◌-◌, ◌==◌, ◌<◌, ◌≤◌, Bool, true, false, cond, Option, Some, None, List, [], ◌∷◌, ◌++◌, length, slice_get, slice_set, replicate, take, ◌⊎◌, inl, inr, refl, ap, ap₂, sym, subst, ◌∙◌, arith, is_some, nat_lt, sum_by, length-set, option_flatten, false≢true, same_Some, length-take, length-replicate, got_within, got_some, none_some, Instr, Set, Mov, Movr, Nil as NilOf, Calc, Same, Jmp, Jz, Newm, Pack, Getr, Geti, Putr, Puti, Cntr, Cnti, Freeze, Cas, Call, Par, Ret, Out, Line, ProgramText, Name, Object, Frame, Task, Trap, Range, Frozen, Div, Size, Depth, Trapped, MachineState, Effect, Goes, Prints, Calls, Forks, Returns, Traps, Stops, StepContext, effect, made, row_of, object_at, put_object, counts_in, int_in, ref_in, or_trap, with_object, read_effect, calculated, place_in, same_name, onward, words_asked, words_for, precedes, IsStored, setting, fetched, step, follow, called, returned, returned_to, last_return, child_ended_by, last_of, result_at, result_of, sibling, is_left, or_same, join_of, ended_by, can_step, is_running, asked, asked_line, frame_limit, depth_limit, put_cases, made_cases, in_row, next_name, IsForkJoinState, empty_rows, asked_at, object_later, made_here, can_runs, step_taken, step_none, store_words, object_words_of, words_at}
 use Rattle.hh_model.specs.declared.data.Trap.TheVariants.{Nil}
 
 -- WORDS OF A STORE
@@ -18,26 +18,26 @@ sum_set g (z ∷ xs) (suc k) x y e =
     let b : sum_by g (slice_set (z ∷ xs) (suc k) y) ≡ g z + sum_by g (slice_set xs k y) = sum_by-cons g z (slice_set xs k y) in
     omega arith
 
-put_words : (store : List (List Object)) (n : Name) (x y : Object) → object_at store n ≡ Some x → words_of (Some y) ≡ words_of (Some x) → store_words (put_object store n y) ≡ store_words store
+put_words : (store : List (List Object)) (n : Name) (x y : Object) → object_at store n ≡ Some x → object_words_of (Some y) ≡ object_words_of (Some x) → store_words (put_object store n y) ≡ store_words store
 put_words store n x y is w =
     let row = in_row store (slice_get store n.task) n.task n.count x refl is in
     let new : List Object = slice_set (row_of (slice_get store n.task)) n.count y in
     let at : row_of (slice_get store n.task) ≡ row.0 = ap row_of row.1 in
-    let a = sum_set (λ r. sum_by (λ o. words_of (Some o)) r) store n.task row.0 new row.1 in
-    let b = sum_set (λ o. words_of (Some o)) row.0 n.count x y row.2 in
-    let c : sum_by (λ o. words_of (Some o)) new ≡ sum_by (λ o. words_of (Some o)) (slice_set row.0 n.count y) = ap (λ r. sum_by (λ o. words_of (Some o)) (slice_set r n.count y)) at in
+    let a = sum_set (λ r. sum_by (λ o. object_words_of (Some o)) r) store n.task row.0 new row.1 in
+    let b = sum_set (λ o. object_words_of (Some o)) row.0 n.count x y row.2 in
+    let c : sum_by (λ o. object_words_of (Some o)) new ≡ sum_by (λ o. object_words_of (Some o)) (slice_set row.0 n.count y) = ap (λ r. sum_by (λ o. object_words_of (Some o)) (slice_set r n.count y)) at in
     omega arith
 
 two_empty : (store : List (List Object)) → store_words (store ++ [] ∷ [] ∷ []) ≡ store_words store
-two_empty store = sum_by-append (λ row. sum_by (λ o. words_of (Some o)) row) store ([] ∷ [] ∷ []) ∙ omega arith
+two_empty store = sum_by-append (λ row. sum_by (λ o. object_words_of (Some o)) row) store ([] ∷ [] ∷ []) ∙ omega arith
 
-push_words : (store : List (List Object)) (t : ℕ) (row : List Object) (o : Object) → slice_get store t ≡ Some row → store_words (slice_set store t (row_of (slice_get store t) ++ o ∷ [])) ≡ store_words store + words_of (Some o)
+push_words : (store : List (List Object)) (t : ℕ) (row : List Object) (o : Object) → slice_get store t ≡ Some row → store_words (slice_set store t (row_of (slice_get store t) ++ o ∷ [])) ≡ store_words store + object_words_of (Some o)
 push_words store t row o e =
     let at : row_of (slice_get store t) ≡ row = ap row_of e in
-    let a = sum_set (λ r. sum_by (λ q. words_of (Some q)) r) store t row (row_of (slice_get store t) ++ o ∷ []) e in
-    let b = sum_by-append (λ q. words_of (Some q)) row (o ∷ []) in
-    let c : sum_by (λ q. words_of (Some q)) (row_of (slice_get store t) ++ o ∷ []) ≡ sum_by (λ q. words_of (Some q)) (row ++ o ∷ []) = ap (λ r. sum_by (λ q. words_of (Some q)) (r ++ o ∷ [])) at in
-    let d : sum_by (λ q. words_of (Some q)) (o ∷ []) ≡ words_of (Some o) = sum_by-cons (λ q. words_of (Some q)) o [] ∙ omega arith in
+    let a = sum_set (λ r. sum_by (λ q. object_words_of (Some q)) r) store t row (row_of (slice_get store t) ++ o ∷ []) e in
+    let b = sum_by-append (λ q. object_words_of (Some q)) row (o ∷ []) in
+    let c : sum_by (λ q. object_words_of (Some q)) (row_of (slice_get store t) ++ o ∷ []) ≡ sum_by (λ q. object_words_of (Some q)) (row ++ o ∷ []) = ap (λ r. sum_by (λ q. object_words_of (Some q)) (r ++ o ∷ [])) at in
+    let d : sum_by (λ q. object_words_of (Some q)) (o ∷ []) ≡ object_words_of (Some o) = sum_by-cons (λ q. object_words_of (Some q)) o [] ∙ omega arith in
     omega arith
 
 -- EFFECTS
@@ -49,7 +49,7 @@ Within store' store = ((n : Name) (q : Object) → object_at store' n ≡ Some q
 -- one more object, in the row of the task t, of at most these words
 pub record Adds (t words : ℕ) (store store' : List (List Object)) : Type 0 where
   pub new : Object
-  pub size : words_of (Some new) ≤ words
+  pub size : object_words_of (Some new) ≤ words
   pub is : store' ≡ slice_set store t (row_of (slice_get store t) ++ new ∷ [])
 
 abbrev pub Grows : ℕ → Option ℕ → List (List Object) → List (List Object) → Type 0
@@ -81,13 +81,13 @@ module _ (s : StepContext) (f : Frame) (store : List (List Object)) where
       object_by_cases None e = refl
       object_by_cases (Some x) e = each n x e
 
-  put : (n : Name) (x y : Object) → object_at store n ≡ Some x → words_of (Some y) ≡ words_of (Some x) → Grows s.task None store (put_object store n y)
+  put : (n : Name) (x y : Object) → object_at store n ≡ Some x → object_words_of (Some y) ≡ object_words_of (Some x) → Grows s.task None store (put_object store n y)
   put n x y is w = inl (refl, (λ k q e. elim (put_cases store n y k q e) [ inl p ↦ (x, ap (object_at store) p.0 ∙ is) | inr old ↦ (q, old) ], put_words store n x y is w))
 
-  refs_words : (x : Object) (at : ℕ) (v : Option Name) → words_of (Some (record x { refs = slice_set x.refs at v })) ≡ words_of (Some x)
+  refs_words : (x : Object) (at : ℕ) (v : Option Name) → object_words_of (Some (record x { refs = slice_set x.refs at v })) ≡ object_words_of (Some x)
   refs_words x at v = ap (λ k. 2 + k + length x.ints) (length-set x.refs at v)
 
-  ints_words : (x : Object) (at : ℕ) (v : ℤ) → words_of (Some (record x { ints = slice_set x.ints at v })) ≡ words_of (Some x)
+  ints_words : (x : Object) (at : ℕ) (v : ℤ) → object_words_of (Some (record x { ints = slice_set x.ints at v })) ≡ object_words_of (Some x)
   ints_words x at v = ap (λ k. 2 + length x.refs + k) (length-set x.ints at v)
 
   writable : (b : Bool) (go : Effect) → Makes s store None go → Makes s store None (cond b go (Traps Frozen))
@@ -215,11 +215,11 @@ pub next_unstored : (m : MachineState) (t : ℕ) → IsStored m (next_name t m.s
 next_unstored m t s = let lt : length (row_of (slice_get m.store t)) < length (row_of (slice_get m.store t)) = got_within (row_of (slice_get m.store t)) (length (row_of (slice_get m.store t))) s.0 s.1 in omega arith
 
 module _ (p : ProgramText) (m : MachineState) (t : ℕ) (K : IsForkJoinState m) (can : can_step m t ≡ true) (t_row : t < length m.store) where
-  same_words : (o new : Object) → length new.refs ≡ length o.refs → length new.ints ≡ length o.ints → words_of (Some new) ≡ words_of (Some o)
+  same_words : (o new : Object) → length new.refs ≡ length o.refs → length new.ints ≡ length o.ints → object_words_of (Some new) ≡ object_words_of (Some o)
   same_words o new r i = ap₂ (λ a b. 2 + a + b) r i
 
   old_words : (n : Name) → IsStored m n → words_at (step p m t) n ≡ words_at m n
-  old_words n s = let l = object_later p m t K n s.0 s.1 in ap words_of l.1 ∙ (same_words s.0 l.0 l.2.refs l.2.ints ∙ sym (ap words_of s.1))
+  old_words n s = let l = object_later p m t K n s.0 s.1 in ap object_words_of l.1 ∙ (same_words s.0 l.0 l.2.refs l.2.ints ∙ sym (ap object_words_of s.1))
 
   down_by : Grows t (asked p m t) m.store (step p m t).store → (n : Name) → IsStored (step p m t) n → IsStored m n ⊎ ((n ≡ next_name t m.store) × (is_some (asked p m t) ≡ true))
   down_by (inl g) n s = inl (g.1.0 n s.0 s.1)
@@ -234,7 +234,7 @@ module _ (p : ProgramText) (m : MachineState) (t : ℕ) (K : IsForkJoinState m) 
       let row = got_some m.store t t_row in
       let at : object_at (step p m t).store (next_name t m.store) ≡ Some a.new = ap (λ u. object_at u (next_name t m.store)) a.is ∙ made_here m.store t row.0 a.new row.1 in
       let same : v ≡ w = same_Some v w (sym e' ∙ e) in
-      ((a.new, at), subst (λ k. k ≤ w) (sym (ap words_of at)) (subst (λ k. words_of (Some a.new) ≤ k) same a.size))
+      ((a.new, at), subst (λ k. k ≤ w) (sym (ap object_words_of at)) (subst (λ k. object_words_of (Some a.new) ≤ k) same a.size))
 
   none_by : Grows t (asked p m t) m.store (step p m t).store → asked p m t ≡ None → store_words (step p m t).store ≡ store_words m.store
   none_by (inl g) e = g.1.1
@@ -245,7 +245,7 @@ module _ (p : ProgramText) (m : MachineState) (t : ℕ) (K : IsForkJoinState m) 
   some_by (inr (v, e', a)) w e =
       let row = got_some m.store t t_row in
       let at : object_at (step p m t).store (next_name t m.store) ≡ Some a.new = ap (λ u. object_at u (next_name t m.store)) a.is ∙ made_here m.store t row.0 a.new row.1 in
-      ap store_words a.is ∙ (push_words m.store t row.0 a.new row.1 ∙ ap (λ k. store_words m.store + k) (sym (ap words_of at)))
+      ap store_words a.is ∙ (push_words m.store t row.0 a.new row.1 ∙ ap (λ k. store_words m.store + k) (sym (ap object_words_of at)))
 
   pub grown : Grown p m t
   grown = record {

@@ -1,5 +1,5 @@
 -- The names that a heap's account holds after each change.
-use Rattle.run_ledger.proofs.Common.{◌≡◌, ℕ, ◌+◌, Bool, true, false, cond, List, [], ◌∷◌, ◌++◌, map, nat_le, ◌-◌, ◌⊎◌, inl, inr, refl, ap, sym, subst, ◌∙◌, append_assoc, append-nil, flat_map, flat_map-append, In, in_append_left, in_append_right, in_append_cases, in_kept, in_from_kept, Name, MachineState, Heap, holds_name, held_in, placed, put_last, is_small, merged, chunk_words, words_at, words_sum, collected, lay, laid_onto, by_birth, insert_name, name_le, small_survivors, swept_heap, without_empty, in_snapshot}
+use Rattle.run_ledger.proofs.Common.{◌≡◌, ℕ, ◌+◌, Bool, true, false, cond, List, [], ◌∷◌, ◌++◌, map, nat_le, ◌-◌, ◌⊎◌, inl, inr, refl, ap, sym, subst, ◌∙◌, append_assoc, append-nil, flat_map, flat_map-append, In, in_append_left, in_append_right, in_append_cases, in_kept, in_from_kept, Name, MachineState, Heap, holds_name, held_in, with_allocation, put_last, is_small_size, merged, chunk_words, words_at, words_sum, collected, lay, laid_onto, by_birth, insert_name, name_le, small_survivors, swept_heap, without_empty, in_snapshot}
 use Rattle.run_ledger.proofs.Members.{in_from_holds, holds_from_in}
 
 abbrev flat : List (List Name) → List Name
@@ -61,37 +61,37 @@ placed_cases_by h n w x false i = elim (held_cases (large_placed h n w) x i) [
   | inr j ↦ elim (in_append_cases h.large (n ∷ []) x j) [ inl k ↦ inl (in_large h x k) | inr k ↦ elim k [ inl e ↦ inr e | inr none ↦ absurd none ] ]
 ]
 
-pub placed_cases : (h : Heap) (n : Name) (w : ℕ) (x : Name) → In (held_in (placed h n w)) x → In (held_in h) x ⊎ (n ≡ x)
-placed_cases h n w x i = placed_cases_by h n w x (is_small w) i
+pub placed_cases : (h : Heap) (n : Name) (w : ℕ) (x : Name) → In (held_in (with_allocation h n w)) x → In (held_in h) x ⊎ (n ≡ x)
+placed_cases h n w x i = placed_cases_by h n w x (is_small_size w) i
 
 placed_old_by : (h : Heap) (n : Name) (w : ℕ) (x : Name) (b : Bool) → In (held_in h) x → In (held_in (cond b (small_placed h n w) (large_placed h n w))) x
 placed_old_by h n w x true i = elim (held_cases h x i) [ inl j ↦ in_chunks (small_placed h n w) x (put_old h.chunks n x j) | inr j ↦ in_large (small_placed h n w) x j ]
 placed_old_by h n w x false i = elim (held_cases h x i) [ inl j ↦ in_chunks (large_placed h n w) x j | inr j ↦ in_large (large_placed h n w) x (in_append_left h.large (n ∷ []) x j) ]
 
-pub placed_old : (h : Heap) (n : Name) (w : ℕ) (x : Name) → In (held_in h) x → In (held_in (placed h n w)) x
-placed_old h n w x i = placed_old_by h n w x (is_small w) i
+pub placed_old : (h : Heap) (n : Name) (w : ℕ) (x : Name) → In (held_in h) x → In (held_in (with_allocation h n w)) x
+placed_old h n w x i = placed_old_by h n w x (is_small_size w) i
 
 placed_new_by : (h : Heap) (n : Name) (w : ℕ) (b : Bool) → In (held_in (cond b (small_placed h n w) (large_placed h n w))) n
 placed_new_by h n w true = in_chunks (small_placed h n w) n (put_new h.chunks n)
 placed_new_by h n w false = in_large (large_placed h n w) n (in_append_right h.large (n ∷ []) n (inl refl))
 
-pub placed_new : (h : Heap) (n : Name) (w : ℕ) → In (held_in (placed h n w)) n
-placed_new h n w = placed_new_by h n w (is_small w)
+pub placed_new : (h : Heap) (n : Name) (w : ℕ) → In (held_in (with_allocation h n w)) n
+placed_new h n w = placed_new_by h n w (is_small_size w)
 
 placed_begun_by : (h : Heap) (n : Name) (w : ℕ) (b : Bool) → (cond b (small_placed h n w) (large_placed h n w)).begun ≡ h.begun
 placed_begun_by h n w true = refl
 placed_begun_by h n w false = refl
 
-pub placed_begun : (h : Heap) (n : Name) (w : ℕ) → (placed h n w).begun ≡ h.begun
-placed_begun h n w = placed_begun_by h n w (is_small w)
+pub placed_begun : (h : Heap) (n : Name) (w : ℕ) → (with_allocation h n w).begun ≡ h.begun
+placed_begun h n w = placed_begun_by h n w (is_small_size w)
 
 placed_since_by : (h : Heap) (n : Name) (w : ℕ) (b : Bool) → (cond b (small_placed h n w) (large_placed h n w)).since ≡ h.since + w
 placed_since_by h n w true = refl
 placed_since_by h n w false = refl
 
 -- a heap counts the words that are allocated in it
-pub placed_since : (h : Heap) (n : Name) (w : ℕ) → (placed h n w).since ≡ h.since + w
-placed_since h n w = placed_since_by h n w (is_small w)
+pub placed_since : (h : Heap) (n : Name) (w : ℕ) → (with_allocation h n w).since ≡ h.since + w
+placed_since h n w = placed_since_by h n w (is_small_size w)
 
 -- an empty chunk
 pub chunk_down : (h : Heap) (room : ℕ) (x : Name) → In (held_in (record h { chunks = h.chunks ++ [] ∷ []; room = room })) x → In (held_in h) x

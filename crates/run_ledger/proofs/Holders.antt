@@ -1,5 +1,5 @@
 -- Which worker holds which task.
-use Rattle.run_ledger.proofs.Common.{◌≡◌, ℕ, zero, suc, ◌+◌, ◌-◌, Bool, true, false, cond, Option, Some, None, List, [], ◌∷◌, ◌++◌, slice_get, slice_set, nat_lt, inl, inr, refl, ap, sym, subst, ◌∙◌, is_some, is_none, eq-eqb, false≢true, both_ways, cases_eq, and_parts, got_same, got_other, none_some, Kind, Took, Ran, Chunk, Begin, End as EndOf, PutOff, Mark, More, Sweep, Fuel, SettingsValue, ProgramText, Name, TaskStatus, Running, Waiting, Ended, Joined, Task, MachineState, step, can_step, asked, is_running, is_left, next_name, option_is, Heap, Ledger, RunEnd, Pool, heap_at, heap_of, or_fresh, with_heap, with_heap_at, placed, is_small, fresh, forked_heap, emptied, let_go, within, in_use, collected, swept_heap, put_last, chunk_words, allocated_by, allocated_in, settled, moved_on, moved_to, join_heaps, stepped_to, task_step, task_steps, on_asked, kind_refusal, after_kind, is_ready, is_out, out_from, refused_holding, with_chunk, chunk_units, opening, ledger_of, TasksAreOutOnce}
+use Rattle.run_ledger.proofs.Common.{◌≡◌, ℕ, zero, suc, ◌+◌, ◌-◌, Bool, true, false, cond, Option, Some, None, List, [], ◌∷◌, ◌++◌, slice_get, slice_set, nat_lt, inl, inr, refl, ap, sym, subst, ◌∙◌, is_some, is_none, eq-eqb, false≢true, both_ways, cases_eq, and_parts, got_same, got_other, none_some, Kind, Took, Ran, Chunk, Begin, End as EndOf, PutOff, Mark, More, Sweep, Fuel, SettingsValue, ProgramText, Name, TaskStatus, Running, Waiting, Ended, Joined, Task, MachineState, step, can_step, asked, is_running, is_left, next_name, option_is, Heap, Ledger, RunEnd, Pool, heap_at, heap_of, or_fresh, with_heap, with_heap_at, with_allocation, is_small_size, fresh, forked_heap, emptied, let_go, within, in_use, collected, swept_heap, put_last, chunk_words, allocated_by, allocated_in, settled, moved_on, moved_to, join_heaps, stepped_to, task_step, task_steps, on_asked, kind_refusal, after_kind, is_ready, is_out, out_from, refused_holding, with_chunk, chunk_units, opening, ledger_of, TasksAreOutOnce}
 use Rattle.hh_model.specs.declared.data.End.{End}
 use Rattle.run_ledger.proofs.Machine.{stepped_machine}
 use Rattle.run_ledger.proofs.Sound.{SoundLedger, collecting}
@@ -76,8 +76,8 @@ still l t I h e c = sym (ap (λ o. is_some (worker_at o)) e) ∙ I.out t (ap col
 -- A STEP
 
 -- the worker of a heap stays when an object is placed in it
-pub placed_worker : (h : Heap) (n : Name) (w : ℕ) → (placed h n w).worker ≡ h.worker
-placed_worker h n w = placed_worker_by_cases (is_small w)
+pub placed_worker : (h : Heap) (n : Name) (w : ℕ) → (with_allocation h n w).worker ≡ h.worker
+placed_worker h n w = placed_worker_by_cases (is_small_size w)
   where
     placed_worker_by_cases : (v : Bool) → (cond v (record h { chunks = put_last h.chunks n; room = h.room - w; since = h.since + w }) (record h { large = h.large ++ n ∷ []; reserved = 0; since = h.since + w })).worker ≡ h.worker
     placed_worker_by_cases true = refl
@@ -99,8 +99,8 @@ module _ (p : ProgramText) (l : Ledger) (t : ℕ) (S : SoundAt t l) (I : MannedL
   worker_b : (o : Option ℕ) (u : ℕ) → worker_at (slice_get (allocated_by l t o).heaps u) ≡ worker_at (slice_get l.heaps u)
   worker_b None u = refl
   worker_b (Some w) u =
-      let h1 : Heap = placed heap.0 (next_name t l.machine.store) w in
-      ap (λ (q : Ledger). worker_at (slice_get q.heaps u)) (ap (with_heap_at l t (λ g. placed g (next_name t l.machine.store) w)) heap.1)
+      let h1 : Heap = with_allocation heap.0 (next_name t l.machine.store) w in
+      ap (λ (q : Ledger). worker_at (slice_get q.heaps u)) (ap (with_heap_at l t (λ g. with_allocation g (next_name t l.machine.store) w)) heap.1)
       ∙ elim (cases_eq u t) [
         | inl q ↦
             ap (λ v. worker_at (slice_get (slice_set l.heaps t h1) v)) q
@@ -111,8 +111,8 @@ module _ (p : ProgramText) (l : Ledger) (t : ℕ) (S : SoundAt t l) (I : MannedL
   collecting_b : (o : Option ℕ) (u : ℕ) → (u ≡ t → ⊥) → collecting (slice_get (allocated_by l t o).heaps u) ≡ collecting (slice_get l.heaps u)
   collecting_b None u ne = refl
   collecting_b (Some w) u ne =
-      ap (λ (q : Ledger). collecting (slice_get q.heaps u)) (ap (with_heap_at l t (λ g. placed g (next_name t l.machine.store) w)) heap.1)
-      ∙ ap collecting (got_other l.heaps t u (placed heap.0 (next_name t l.machine.store) w) ne)
+      ap (λ (q : Ledger). collecting (slice_get q.heaps u)) (ap (with_heap_at l t (λ g. with_allocation g (next_name t l.machine.store) w)) heap.1)
+      ∙ ap collecting (got_other l.heaps t u (with_allocation heap.0 (next_name t l.machine.store) w) ne)
 
   -- whoever holds a task after the step held it before
   abbrev Was : ℕ → Heap → Type 0
@@ -245,7 +245,7 @@ chunk_begun_by h n false = refl
 chunk_manned : (l : Ledger) (t : ℕ) (next : Option ℕ) (full : Bool) (end : RunEnd) → MannedLedger l → MannedLedger (cond full (record l { end = Some end }) (with_heap l t (with_chunk next)))
 chunk_manned l t next true end I = record { runs = λ on. absurd cc; one = I.one; out = I.out }
 chunk_manned l t next false end I =
-    same_manned l t (with_chunk next) (λ h. chunk_worker_by h (chunk_units next) (on_asked next is_small)) (λ h e c. still l t I h e (sym (ap is_some (chunk_begun_by h (chunk_units next) (on_asked next is_small))) ∙ c)) I
+    same_manned l t (with_chunk next) (λ h. chunk_worker_by h (chunk_units next) (on_asked next is_small_size)) (λ h e c. still l t I h e (sym (ap is_some (chunk_begun_by h (chunk_units next) (on_asked next is_small_size))) ∙ c)) I
 
 held_some : (o : Option ℕ) (w : ℕ) → option_is o w ≡ true → is_some o ≡ true
 held_some None w h = h

@@ -1,5 +1,5 @@
 -- Invariants of legal journals: nothing reachable is freed.
-use Rattle.run_ledger.proofs.Common.{◌≡◌, ℕ, zero, suc, ◌+◌, ◌&&◌, Bool, true, false, not, cond, Option, Some, None, List, [], ◌∷◌, ◌++◌, length, slice_get, slice_set, nat_lt, nat_le, inl, inr, refl, ap, sym, subst, ◌∙◌, is_some, is_none, cases_eq, both_ways, false≢true, and_parts, same_Some, In, in_from_contains, contains_from_in, none_of, ProgramText, Name, Task, refs_at, registers, task_names, is_running, is_waiting, is_joined, parents, joined, owner_of, is_on_path, root, start, asked, not_above, owner_not_joined, waiting, running_tells, start_is_fork_join_state, runs_is, run_names, Closed, start_disentangled, Kind, Took, Ran, Chunk, Begin, End, PutOff, Mark, More, Sweep, Fuel, EntryValue, SettingsValue, field_limit, reached_within, option_is, Heap, Ledger, Refused, Pool, held, held_in, heap_at, heap_of, or_fresh, frames_of, within, with_heap, with_heap_at, fresh, chunk_words, in_use, is_small, take_of, collected, swept_heap, on_asked, kind_refusal, refusal, refused_unless, refused_if, is_out, on_running, on_waiting, after_kind, after, chunk_units, is_fuel, opening, after_all, ledger_of, is_legal_from, is_legal, IsNamedByTask, Refers, KeepsReachable, NothingReachableIsFreed}
+use Rattle.run_ledger.proofs.Common.{◌≡◌, ℕ, zero, suc, ◌+◌, ◌&&◌, Bool, true, false, not, cond, Option, Some, None, List, [], ◌∷◌, ◌++◌, length, slice_get, slice_set, nat_lt, nat_le, inl, inr, refl, ap, sym, subst, ◌∙◌, is_some, is_none, cases_eq, both_ways, false≢true, and_parts, same_Some, In, in_from_contains, contains_from_in, none_of, ProgramText, Name, Task, refs_at, registers, task_names, is_running, is_waiting, is_joined, parents, joined, owner_of, is_on_path, root, start, asked, not_above, owner_not_joined, waiting, running_tells, start_is_fork_join_state, runs_is, run_names, Closed, start_disentangled, Kind, Took, Ran, Chunk, Begin, End, PutOff, Mark, More, Sweep, Fuel, EntryValue, SettingsValue, field_limit, reached_within, option_is, Heap, Ledger, Refused, Pool, held, held_in, heap_at, heap_of, or_fresh, frames_of, within, with_heap, with_heap_at, fresh, chunk_words, in_use, is_small_size, take_of, collected, swept_heap, on_asked, kind_refusal, refusal, refused_unless, refused_if, is_out, on_running, on_waiting, after_kind, after, chunk_units, is_fuel, opening, after_all, ledger_of, is_legal_from, is_legal, IsNamedByTask, Refers, KeepsReachable, NothingReachableIsFreed}
 use Rattle.run_ledger.proofs.Held.{chunk_down, chunk_up, collected_down, collected_up, swept_down, swept_up}
 use Rattle.run_ledger.proofs.Sound.{InHeaps, Keeps, Spares, collecting, snapshot_at, survivors_at, Sound, SoundLedger, closed_same, frozen, renewed, changed, cut, spares_kept, up_with, down, in_held, held_keeps}
 use Rattle.run_ledger.proofs.Steps.{named_live, task_steps_sound}
@@ -119,7 +119,7 @@ pub kind_sound : (p : ProgramText) (s : SettingsValue) (l : Ledger) (w : ℕ) (k
 kind_sound p s l w (Took t) S h = plain l t _ S (λ h n i. i) (λ h n i. i) (λ h. refl) (λ h. refl) (λ h. refl)
 kind_sound p s l w (Ran t k) S h = (task_steps_sound p k l t (S, (out_tells l w t _ h).1)).0
 kind_sound p s l w (Chunk t) S h =
-    chunk_sound p l t S (nat_lt s.chunks (in_use l + chunk_units (asked p l.machine t))) (on_asked (asked p l.machine t) is_small) (record l { end = Some (Pool (in_use l)) }) (chunk_units (asked p l.machine t)) S
+    chunk_sound p l t S (nat_lt s.chunks (in_use l + chunk_units (asked p l.machine t))) (on_asked (asked p l.machine t) is_small_size) (record l { end = Some (Pool (in_use l)) }) (chunk_units (asked p l.machine t)) S
 kind_sound p s l w (Begin t) S h = begin_sound l S t (out_tells l w t _ h).0 (take_of l.machine)
 kind_sound p s l w (End t x g n) S h =
     let a = none_unless (is_out l w t) _ _ h in

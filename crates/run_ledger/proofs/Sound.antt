@@ -1,5 +1,5 @@
 -- The invariant of heaps for legal journals, and what a change of one heap's account keeps of it.
-use Rattle.run_ledger.proofs.Common.{◌≡◌, ℕ, ◌==◌, true, not, Option, Some, None, List, slice_get, slice_set, inl, inr, refl, ap, sym, subst, ◌∙◌, length-set, is_some, ne_eqb, cases_eq, and_from, In, got_same, got_other, got_in, in_flat, flat_in, in_kept, in_append_left, in_append_right, Name, Object, Edge, Task, refs_at, registers, task_names, is_running, owner_of, is_on_path, waiting, Closed, Disentangled, Heap, Ledger, held, held_in, heap_at, frames_of, roots_of, within, is_above}
+use Rattle.run_ledger.proofs.Common.{◌≡◌, ℕ, ◌==◌, true, not, Option, Some, None, List, slice_get, slice_set, inl, inr, refl, ap, sym, subst, ◌∙◌, length-set, is_some, ne_eqb, cases_eq, and_from, In, got_same, got_other, got_in, in_flat, flat_in, in_kept, in_append_left, in_append_right, Name, Object, Edge, Task, refs_at, registers, task_names, is_running, owner_of, is_on_path, waiting, Closed, Disentangled, Heap, Ledger, held, held_in, heap_at, frames_of, roots_of, within, is_proper_ancestor}
 use Rattle.run_ledger.proofs.Reached.{reached_root, reached_more}
 pub use Rattle.run_ledger.specs.Sound.{names_of, InHeaps, Keeps, Owners, Spares, collecting, snapshot_at, survivors_at, Sound, SoundLedger}
 
@@ -40,10 +40,10 @@ module _ (l : Ledger) (t : ℕ) (apart : Disentangled l.machine.tasks l.machine.
 
   above_field : (n r : Name) → Keeps l.heaps n → In (refs_at l.machine.store n) r → In names r → (own n ≡ t → ⊥) → is_on_path l.machine.tasks (own n) t ≡ true → In (within l t) r
   above_field n r k i j ne h =
-      let above : is_above l.machine.tasks (own n) t ≡ true =
+      let above : is_proper_ancestor l.machine.tasks (own n) t ≡ true =
       and_from (is_on_path l.machine.tasks (own n) t) (not (own n == t)) h (ap not (ne_eqb (own n) t ne)) in
       root r j (in_append_right (registers (frames_of (slice_get l.machine.tasks t))) _ r
-      (in_flat (refs_at l.machine.store) _ n r (in_kept (λ w. is_above l.machine.tasks (own w) t) (held l) n (in_held l n k) above) i))
+      (in_flat (refs_at l.machine.store) _ n r (in_kept (λ w. is_proper_ancestor l.machine.tasks (own w) t) (held l) n (in_held l n k) above) i))
 
   field : (n r : Name) → Keeps l.heaps n → (In names n → In (within l t) n) → In (refs_at l.machine.store n) r → In names r → In (within l t) r
   field n r k f i j =

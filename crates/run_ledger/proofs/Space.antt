@@ -1,5 +1,5 @@
 -- Space by count in legal journals.
-use Rattle.run_ledger.proofs.Common.{◌≡◌, ℕ, zero, suc, ◌+◌, ◌<◌, ◌≤◌, Bool, true, false, cond, Option, Some, None, List, [], ◌∷◌, ◌++◌, map, length, slice_get, slice_set, nat_lt, nat_le, ◌⊎◌, inl, inr, refl, ap, sym, subst, ◌∙◌, arith, is_some, is_none, length-append, filter, ◌*◌, false≢true, both_ways, cases_lt, and_parts, leb-true, leb-false, ltb-false, unwrap_or, length-map, same_Some, in_from_contains, got_same, in_from_kept, In, Kind, Took, Ran, Chunk, Begin, End as EndOf, PutOff, Mark, More, Sweep, Fuel, EntryValue, SettingsValue, ProgramText, Name, MachineState, asked, waiting, sum_by-cons, Heap, Ledger, Pool, chunk_words, units, is_small, words_at, units_sum, begun_in, units_in, fresh, heap_at, heap_of, or_fresh, with_heap, with_heap_at, in_use, within, lacks_room, take_of, collected, swept_heap, in_snapshot, is_last_empty, without_empty, laid_onto, small_survivors, small_in, held_in, words_sum, words_in, on_asked, is_due, is_in_need, refusal, after_kind, after, is_out, is_pool_enough, chunk_units, with_chunk, peak_from, opening, after_all, ledger_of, is_legal_from, is_legal, EachHasName, LeafCollectionsAreBounded, SweptWithin, SweepsAreBounded, UseIsBounded, last_words, FitsInChunks, HeapsFit, holds_name}
+use Rattle.run_ledger.proofs.Common.{◌≡◌, ℕ, zero, suc, ◌+◌, ◌<◌, ◌≤◌, Bool, true, false, cond, Option, Some, None, List, [], ◌∷◌, ◌++◌, map, length, slice_get, slice_set, nat_lt, nat_le, ◌⊎◌, inl, inr, refl, ap, sym, subst, ◌∙◌, arith, is_some, is_none, length-append, filter, ◌*◌, false≢true, both_ways, cases_lt, and_parts, leb-true, leb-false, ltb-false, unwrap_or, length-map, same_Some, in_from_contains, got_same, in_from_kept, In, Kind, Took, Ran, Chunk, Begin, End as EndOf, PutOff, Mark, More, Sweep, Fuel, EntryValue, SettingsValue, ProgramText, Name, MachineState, asked, waiting, sum_by-cons, Heap, Ledger, Pool, chunk_words, units, is_small_size, words_at, units_sum, begun_in, units_in, fresh, heap_at, heap_of, or_fresh, with_heap, with_heap_at, in_use, within, lacks_room, take_of, collected, swept_heap, in_snapshot, is_last_empty, without_empty, laid_onto, small_survivors, small_in, held_in, words_sum, words_in, on_asked, is_due, is_in_need, refusal, after_kind, after, is_out, is_pool_enough, chunk_units, with_chunk, peak_from, opening, after_all, ledger_of, is_legal_from, is_legal, EachHasName, LeafCollectionsAreBounded, SweptWithin, SweepsAreBounded, UseIsBounded, last_words, FitsInChunks, HeapsFit, holds_name}
 use Rattle.run_ledger.proofs.Sound.{collecting, SoundLedger}
 use Rattle.run_ledger.proofs.Weights.{sum_flat, total, total_set, kept_weight}
 use Rattle.run_ledger.proofs.Chunks.{Full, last_full, append_full, last_append, onto_full, room_full, small_full, swept_full, swept_last, heap_words}
@@ -69,7 +69,7 @@ module _ (p : ProgramText) (s : SettingsValue) where
     chunk_by : (h : Heap) → slice_get l.heaps t ≡ Some h → Booked p s l.machine t h → (o : Option ℕ) → asked p l.machine t ≡ o → on_asked o (λ w. nat_le s.leaf h.since) ≡ false → on_asked o (lacks_room h) ≡ true
         → Booked p s l.machine t (with_chunk o h) × (units_in l.machine (with_chunk o h) ≤ units_in l.machine h + chunk_units o)
     chunk_by h e b None is no_due needs = absurd (false≢true needs)
-    chunk_by h e b (Some w) is no_due needs = chunk_by_cases (is_small w) refl
+    chunk_by h e b (Some w) is no_due needs = chunk_by_cases (is_small_size w) refl
       where
         none : is_some h.begun ≡ false
         none = ap collecting (sym e) ∙ idle
@@ -78,7 +78,7 @@ module _ (p : ProgramText) (s : SettingsValue) where
         one_empty ns (inl q) = subst (λ ys. words_sum l.machine ys ≤ chunk_words) q (omega arith)
         one_empty ns (inr i) = absurd i
 
-        chunk_by_cases : (v : Bool) → is_small w ≡ v
+        chunk_by_cases : (v : Bool) → is_small_size w ≡ v
             → Booked p s l.machine t (cond v (record h { chunks = h.chunks ++ [] ∷ []; room = chunk_words }) (record h { reserved = cond v 1 (units w) }))
             × (units_in l.machine (cond v (record h { chunks = h.chunks ++ [] ∷ []; room = chunk_words }) (record h { reserved = cond v 1 (units w) })) ≤ units_in l.machine h + cond v 1 (units w))
         chunk_by_cases true small = (

@@ -1,5 +1,5 @@
 -- A step of a task keeps the invariant of heaps.
-use Rattle.run_ledger.proofs.Common.{◌≡◌, ℕ, ℤ, zero, suc, ◌+◌, ◌-◌, ◌<◌, ◌≤◌, Bool, true, false, cond, Option, Some, None, List, [], ◌∷◌, ◌++◌, length, slice_get, slice_set, ◌⊎◌, inl, inr, refl, ap, ap₂, sym, subst, ◌∙◌, arith, length-set, length-append, is_some, cases_eq, cases_lt, both_ways, false≢true, cond-true, cond-false, same_Some, fun_ext, In, got_same, got_other, got_front, got_past, got_within, same_view, in_append_left, got_some, ProgramText, Name, TaskStatus, Running, Waiting, Ended, Joined, Task, Done, MachineState, onward, int_in, ref_in, named, registers, names_from, task_names, runs, waits, is_over, is_running, is_waiting, is_joined, is_left, parent_of, parents, joined, owner_in, owner_of, is_on_path, joined_task, resumed, child, step, can_step, goes_on, asked, join_of, ended_task, result_of, ended_by, strand, strand_of, edge, owner_le, owner_same, path_same, owner_joins, not_above, owner_not_joined, next_name, named_from_in, waiting, running_tells, grown_length, grown_view, grown_view_front, grown_at, grown_other, wrest_fork, three_length, three_top, three_left, three_right, three_other, three_view, parl, parr, below, dp, wp, drest, IsForkJoinStateIn, step_is_fork_join_state, step_cases, runs_is, register_cases, Closed, closed_step, grown_cases, owner_here, Disentangled, disentangled_step, Heap, Ledger, held_in, frames_of, within, placed, with_heap, with_heap_at, fresh, let_go, merged, emptied, or_fresh, forked_heap, join_heaps, at_join, allocated_by, allocated_in, moved_on, moved_to, settled, stepped_to, task_step, task_steps}
+use Rattle.run_ledger.proofs.Common.{◌≡◌, ℕ, ℤ, zero, suc, ◌+◌, ◌-◌, ◌<◌, ◌≤◌, Bool, true, false, cond, Option, Some, None, List, [], ◌∷◌, ◌++◌, length, slice_get, slice_set, ◌⊎◌, inl, inr, refl, ap, ap₂, sym, subst, ◌∙◌, arith, length-set, length-append, is_some, cases_eq, cases_lt, both_ways, false≢true, cond-true, cond-false, same_Some, fun_ext, In, got_same, got_other, got_front, got_past, got_within, same_view, in_append_left, got_some, ProgramText, Name, TaskStatus, Running, Waiting, Ended, Joined, Task, Done, MachineState, onward, int_in, ref_in, names_of_references, registers, names_from, task_names, runs, waits, is_over, is_running, is_waiting, is_joined, is_left, parent_of, parents, joined, owner_in, owner_of, is_on_path, joined_task, resumed, child, step, can_step, goes_on, asked, join_of, ended_task, result_of, ended_by, strand, strand_of, edge, owner_le, owner_same, path_same, owner_joins, not_above, owner_not_joined, next_name, named_from_in, waiting, running_tells, grown_length, grown_view, grown_view_front, grown_at, grown_other, wrest_fork, three_length, three_top, three_left, three_right, three_other, three_view, parl, parr, below, dp, wp, drest, IsForkJoinStateIn, step_is_fork_join_state, step_cases, runs_is, register_cases, Closed, closed_step, grown_cases, owner_here, Disentangled, disentangled_step, Heap, Ledger, held_in, frames_of, within, with_allocation, with_heap, with_heap_at, fresh, let_go, merged, emptied, or_fresh, forked_heap, join_heaps, at_join, allocated_by, allocated_in, moved_on, moved_to, settled, stepped_to, task_step, task_steps}
 use Rattle.hh_model.specs.declared.data.End.{End}
 use Rattle.run_ledger.proofs.Held.{placed_cases, placed_old, placed_new, placed_begun, merged_cases, merged_left, merged_right, merged_own}
 use Rattle.run_ledger.proofs.Moves.{Moves}
@@ -40,7 +40,7 @@ allots l t h is None = record {
   long = refl;
   still = refl;
 }
-allots l t h is (Some w) = subst (λ (k : Ledger). Allots t next true l.heaps k.heaps) (sym (ap (with_heap_at l t (λ h. placed h next w)) is)) (record {
+allots l t h is (Some w) = subst (λ (k : Ledger). Allots t next true l.heaps k.heaps) (sym (ap (with_heap_at l t (λ h. with_allocation h next w)) is)) (record {
   down = λ u n i. elim (cases_eq u t) [
     | inl e ↦ elim (placed_cases h next w n (subst (λ o. In (names_of o) n) allots_at (subst (λ v. InHeaps heaps1 v n) e i))) [
       | inl old ↦ inl (subst (λ v. InHeaps l.heaps v n) (sym e) (subst (λ o. In (names_of o) n) (sym is) old))
@@ -62,15 +62,15 @@ allots l t h is (Some w) = subst (λ (k : Ledger). Allots t next true l.heaps k.
     next = next_name t l.machine.store
 
     h1 : Heap
-    h1 = placed h (next_name t l.machine.store) w
+    h1 = with_allocation h (next_name t l.machine.store) w
 
     heaps1 : List Heap
-    heaps1 = slice_set l.heaps t (placed h (next_name t l.machine.store) w)
+    heaps1 = slice_set l.heaps t (with_allocation h (next_name t l.machine.store) w)
 
-    allots_at : slice_get (slice_set l.heaps t (placed h (next_name t l.machine.store) w)) t ≡ Some (placed h (next_name t l.machine.store) w)
-    allots_at = got_same l.heaps t h (placed h (next_name t l.machine.store) w) is
+    allots_at : slice_get (slice_set l.heaps t (with_allocation h (next_name t l.machine.store) w)) t ≡ Some (with_allocation h (next_name t l.machine.store) w)
+    allots_at = got_same l.heaps t h (with_allocation h (next_name t l.machine.store) w) is
 
-    begun_same : collecting (Some (placed h (next_name t l.machine.store) w)) ≡ collecting (Some h)
+    begun_same : collecting (Some (with_allocation h (next_name t l.machine.store) w)) ≡ collecting (Some h)
     begun_same = ap is_some (placed_begun h (next_name t l.machine.store) w)
 
 -- two fresh heaps hold nothing
@@ -281,9 +281,9 @@ module _ (p : ProgramText) (l : Ledger) (S : SoundLedger l) (t : ℕ) (x : Task)
     ])
       where
         kid : (q : ℕ) → In (task_names (child t (x.depth + 1) q x.top)) r → In (registers (y.top ∷ y.below)) r
-        kid q j = elim (register_cases x.top [] r j) [ inl w ↦ in_append_left (named x.top.refs) (registers x.below) r (kid_named w) | inr none ↦ absurd none ]
+        kid q j = elim (register_cases x.top [] r j) [ inl w ↦ in_append_left (names_of_references x.top.refs) (registers x.below) r (kid_named w) | inr none ↦ absurd none ]
           where
-            kid_named : In x.top.refs (Some r) → In (named x.top.refs) r
+            kid_named : In x.top.refs (Some r) → In (names_of_references x.top.refs) r
             kid_named w = named_from_in x.top.refs r w
 
     alone : (n : Name) → Keeps b.heaps n → is_on_path all t (owner_of all n.task) ≡ true → owner_of all n.task ≡ t

@@ -1,5 +1,5 @@
 -- Each held name is held once, and is in the store.
-use Rattle.run_ledger.proofs.Common.{◌≡◌, ℕ, zero, suc, ◌+◌, ◌<◌, ◌≤◌, Bool, true, false, cond, Option, Some, None, List, [], ◌∷◌, ◌++◌, length, slice_get, slice_set, sum_by, nat_lt, inl, inr, refl, ap, sym, subst, ◌∙◌, arith, is_none, AllByRecursion, cases_lt, sum_by-cons, In, in_from_contains, Kind, Took, Ran, Chunk, Begin, End as EndOf, PutOff, Mark, More, Sweep, Fuel, EntryValue, SettingsValue, field_limit, ProgramText, Name, MachineState, step, can_step, asked, IsStored, next_name, IsForkJoinState, can_made, Counted, counted_step, start_counted, Heap, Ledger, Pool, is_name, held_in, held, heap_at, with_heap, with_heap_at, placed, chunk_words, is_small, in_use, collected, swept_heap, fresh, allocated_by, allocated_in, stepped_to, task_step, task_steps, on_asked, kind_refusal, after_kind, chunk_units, with_chunk, opening, ledger_of, is_legal, NamesAreHeldOnce}
+use Rattle.run_ledger.proofs.Common.{◌≡◌, ℕ, zero, suc, ◌+◌, ◌<◌, ◌≤◌, Bool, true, false, cond, Option, Some, None, List, [], ◌∷◌, ◌++◌, length, slice_get, slice_set, sum_by, nat_lt, inl, inr, refl, ap, sym, subst, ◌∙◌, arith, is_none, AllByRecursion, cases_lt, sum_by-cons, In, in_from_contains, Kind, Took, Ran, Chunk, Begin, End as EndOf, PutOff, Mark, More, Sweep, Fuel, EntryValue, SettingsValue, field_limit, ProgramText, Name, MachineState, step, can_step, asked, IsStored, next_name, IsForkJoinState, can_made, Counted, counted_step, start_counted, Heap, Ledger, Pool, is_name, held_in, held, heap_at, with_heap, with_heap_at, with_allocation, chunk_words, is_small_size, in_use, collected, swept_heap, fresh, allocated_by, allocated_in, stepped_to, task_step, task_steps, on_asked, kind_refusal, after_kind, chunk_units, with_chunk, opening, ledger_of, is_legal, NamesAreHeldOnce}
 use Rattle.std.specs.List.{IsDistinct}
 use Rattle.run_ledger.proofs.Members.{same_from_is_name, is_name_itself}
 use Rattle.run_ledger.proofs.Machine.{stepped_machine}
@@ -117,8 +117,8 @@ chunk_lighter next h g false = same_weight h g
 -- an allocation
 pub allocated_total : (g : Name → ℕ) (l : Ledger) (t : ℕ) (h : Heap) → slice_get l.heaps t ≡ Some h → (w : ℕ) → total (weight g) (allocated_by l t (Some w)).heaps ≡ total (weight g) l.heaps + g (next_name t l.machine.store)
 allocated_total g l t h e w =
-    ap (λ (k : Ledger). total (weight g) k.heaps) (ap (with_heap_at l t (λ h. placed h (next_name t l.machine.store) w)) e)
-    ∙ (let a = total_set (weight g) l.heaps t h (placed h (next_name t l.machine.store) w) e in
+    ap (λ (k : Ledger). total (weight g) k.heaps) (ap (with_heap_at l t (λ h. with_allocation h (next_name t l.machine.store) w)) e)
+    ∙ (let a = total_set (weight g) l.heaps t h (with_allocation h (next_name t l.machine.store) w) e in
     let b = placed_weight g h (next_name t l.machine.store) w in
     omega arith)
 
@@ -194,7 +194,7 @@ task_steps_stocked p k l t S I = steps_keep StockedLedger p t (λ m R J. task_st
 
 chunk_stocked : (l : Ledger) (t : ℕ) (next : Option ℕ) (full : Bool) (end : Ledger) → StockedLedger end → StockedLedger l → StockedLedger (cond full end (with_heap l t (with_chunk next)))
 chunk_stocked l t next true end E I = E
-chunk_stocked l t next false end E I = lighter l t (with_chunk next) (λ h g. chunk_lighter next h g (on_asked next is_small)) I
+chunk_stocked l t next false end E I = lighter l t (with_chunk next) (λ h g. chunk_lighter next h g (on_asked next is_small_size)) I
 
 pub kind_stocked : (p : ProgramText) (s : SettingsValue) (l : Ledger) (w : ℕ) (kind : Kind) → SoundLedger l → is_none (kind_refusal p s l w kind) ≡ true → StockedLedger l → StockedLedger (after_kind p s l w kind)
 kind_stocked p s l w (Took t) S h I = lighter l t _ (λ h g. same_weight h g) I

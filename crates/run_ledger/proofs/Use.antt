@@ -1,5 +1,5 @@
 -- How each entry changes the chunks in use.
-use Rattle.run_ledger.proofs.Common.{◌≡◌, ℕ, zero, suc, ◌+◌, ◌-◌, ◌<◌, ◌≤◌, ◌==◌, ◌||◌, not, arith, Bool, true, false, cond, Option, Some, None, List, [], ◌∷◌, ◌++◌, map, length, length-append, slice_get, slice_set, sum_by, nat_lt, is_none, is_some, unwrap_or, ◌⊎◌, inl, inr, refl, ap, sym, subst, ◌∙◌, false≢true, both_ways, ltb-false, eqb-true, cases_lt, not-false, not-true, length-map, sum_by-append, sum_by-cons, same_Some, ProgramText, Kind, Took, Ran, Chunk, Begin, End as EndOf, PutOff, Mark, More, Sweep, Fuel, EntryValue, SettingsValue, Name, MachineState, step, can_step, asked, next_name, packs_are_few, Heap, Ledger, Refused, Pool, chunk_words, units, is_small, words_at, units_sum, begun_in, units_in, heap_at, heap_of, or_fresh, with_heap, with_heap_at, in_use, placed, put_last, lacks_room, take_of, collected, end_numbers, swept_heap, sweep_number, in_snapshot, within, left_in, on_asked, allocated_by, allocated_in, stepped_to, task_step, task_steps, is_due, is_in_need, is_private, standing, refusal, after, after_kind, chunk_units, with_chunk, is_out, counted, ledger_of, is_legal, ChunkGoes, UseGoes, EntriesUse, ChunksAreUsed}
+use Rattle.run_ledger.proofs.Common.{◌≡◌, ℕ, zero, suc, ◌+◌, ◌-◌, ◌<◌, ◌≤◌, ◌==◌, ◌||◌, not, arith, Bool, true, false, cond, Option, Some, None, List, [], ◌∷◌, ◌++◌, map, length, length-append, slice_get, slice_set, sum_by, nat_lt, is_none, is_some, unwrap_or, ◌⊎◌, inl, inr, refl, ap, sym, subst, ◌∙◌, false≢true, both_ways, ltb-false, eqb-true, cases_lt, not-false, not-true, length-map, sum_by-append, sum_by-cons, same_Some, ProgramText, Kind, Took, Ran, Chunk, Begin, End as EndOf, PutOff, Mark, More, Sweep, Fuel, EntryValue, SettingsValue, Name, MachineState, step, can_step, asked, next_name, packs_are_few, Heap, Ledger, Refused, Pool, chunk_words, units, is_small_size, words_at, units_sum, begun_in, units_in, heap_at, heap_of, or_fresh, with_heap, with_heap_at, in_use, with_allocation, put_last, lacks_room, take_of, collected, end_numbers, swept_heap, sweep_number, in_snapshot, within, left_in, on_asked, allocated_by, allocated_in, stepped_to, task_step, task_steps, is_due, is_in_need, is_private, standing, refusal, after, after_kind, chunk_units, with_chunk, is_out, unless_wrong_number, ledger_of, is_legal, ChunkGoes, UseGoes, EntriesUse, ChunksAreUsed}
 use Rattle.std.proofs.lemmas.Bool.{eq-eqb}
 use Rattle.run_ledger.proofs.Booked as booked
 use Rattle.run_ledger.proofs.Booked.{BookedLedger, asked_runs, put_length, units_additive, total_same, task_step_booked}
@@ -38,7 +38,7 @@ module _ (p : ProgramText) (s : SettingsValue) (packs : PacksAreSmall p) (l : Le
   abbrev next : Name
   next = next_name t l.machine.store
 
-  placed_units : (w : ℕ) → asked p m t ≡ Some w → (v : Bool) → is_small w ≡ v → cond v (nat_lt heap.0.room w) (not (heap.0.reserved == units w)) ≡ false
+  placed_units : (w : ℕ) → asked p m t ≡ Some w → (v : Bool) → is_small_size w ≡ v → cond v (nat_lt heap.0.room w) (not (heap.0.reserved == units w)) ≡ false
       → units_in m' (cond v (record heap.0 { chunks = put_last heap.0.chunks next; room = heap.0.room - w; since = heap.0.since + w }) (record heap.0 { large = heap.0.large ++ next ∷ []; reserved = 0; since = heap.0.since + w })) ≡ units_in m' heap.0
   placed_units w e true is lacks =
       let a = (booked.at_least p s l t S I B can fine w e).0 in
@@ -57,9 +57,9 @@ module _ (p : ProgramText) (s : SettingsValue) (packs : PacksAreSmall p) (l : Le
   use_by None e = total_same (units_in m') (units_in m) l.heaps (booked.units_same p s l t S I B can fine)
   use_by (Some w) e =
       let a = total_same (units_in m') (units_in m) l.heaps (booked.units_same p s l t S I B can fine) in
-      let c = total_set (units_in m') l.heaps t heap.0 (placed heap.0 next w) heap.1 in
-      let d : units_in m' (placed heap.0 next w) ≡ units_in m' heap.0 = placed_units w e (is_small w) refl (booked.lacks_at p s l t S I B can fine w e) in
-      let f : total (units_in m') (allocated_by l t (Some w)).heaps ≡ total (units_in m') (slice_set l.heaps t (placed heap.0 next w)) = ap (λ (q : Ledger). total (units_in m') q.heaps) (ap (with_heap_at l t (λ g. placed g next w)) heap.1) in
+      let c = total_set (units_in m') l.heaps t heap.0 (with_allocation heap.0 next w) heap.1 in
+      let d : units_in m' (with_allocation heap.0 next w) ≡ units_in m' heap.0 = placed_units w e (is_small_size w) refl (booked.lacks_at p s l t S I B can fine w e) in
+      let f : total (units_in m') (allocated_by l t (Some w)).heaps ≡ total (units_in m') (slice_set l.heaps t (with_allocation heap.0 next w)) = ap (λ (q : Ledger). total (units_in m') q.heaps) (ap (with_heap_at l t (λ g. with_allocation g next w)) heap.1) in
       omega arith
 
   pub step_use : in_use k ≡ in_use l
@@ -107,9 +107,9 @@ module _ (p : ProgramText) (s : SettingsValue) (l : Ledger) (t : ℕ) (S : Sound
   -- a chunk is given, or the run ends
   chunk_by : (h : Heap) → slice_get l.heaps t ≡ Some h → (o : Option ℕ) → asked p l.machine t ≡ o → on_asked o (lacks_room h) ≡ true → units_in l.machine (with_chunk o h) ≡ units_in l.machine h + chunk_units o
   chunk_by h e None is needs = absurd (false≢true needs)
-  chunk_by h e (Some w) is needs = chunk_by_cases (is_small w) refl needs
+  chunk_by h e (Some w) is needs = chunk_by_cases (is_small_size w) refl needs
     where
-      chunk_by_cases : (v : Bool) → is_small w ≡ v → cond v (nat_lt h.room w) (not (h.reserved == units w)) ≡ true
+      chunk_by_cases : (v : Bool) → is_small_size w ≡ v → cond v (nat_lt h.room w) (not (h.reserved == units w)) ≡ true
           → units_in l.machine (cond v (record h { chunks = h.chunks ++ [] ∷ []; room = chunk_words }) (record h { reserved = cond v 1 (units w) })) ≡ units_in l.machine h + cond v 1 (units w)
       chunk_by_cases true small lacks = omega (arith, length-append h.chunks ([] ∷ []))
       chunk_by_cases false small lacks = let z : h.reserved ≡ 0 = none (cases_lt 0 h.reserved) in omega arith
@@ -167,7 +167,7 @@ module _ (p : ProgramText) (s : SettingsValue) (l : Ledger) (t : ℕ) (S : Sound
 
 -- EACH
 
-counted_is : (said is : ℕ) (rest : Option Refused) → is_none (counted said is rest) ≡ true → (said ≡ is) × (is_none rest ≡ true)
+counted_is : (said is : ℕ) (rest : Option Refused) → is_none (unless_wrong_number said is rest) ≡ true → (said ≡ is) × (is_none rest ≡ true)
 counted_is said is rest h = let a = none_unless (said == is) _ _ h in (eqb-true said is a.0, a.1)
 
 heap_from : (l : Ledger) (t : ℕ) → is_some (heap_of l t).begun ≡ true → (h : Heap) × (c : ℕ) × (slice_get l.heaps t ≡ Some h) × (h.begun ≡ Some c)
@@ -239,7 +239,7 @@ module _ (p : ProgramText) (s : SettingsValue) (l : Ledger) (B : BookedLedger p 
   room_by None e pos = absurd (omega arith)
   room_by (Some h) e pos = (B.each t h e).room pos
 
-  reserved_by : (o : Option Heap) → heap_at l t ≡ o → 0 < (or_fresh o).reserved → (w : ℕ) × (asked p l.machine t ≡ Some w) × (is_small w ≡ false) × ((or_fresh o).reserved ≡ units w) × ((or_fresh o).since < s.leaf)
+  reserved_by : (o : Option Heap) → heap_at l t ≡ o → 0 < (or_fresh o).reserved → (w : ℕ) × (asked p l.machine t ≡ Some w) × (is_small_size w ≡ false) × ((or_fresh o).reserved ≡ units w) × ((or_fresh o).since < s.leaf)
   reserved_by None e pos = absurd (omega arith)
   reserved_by (Some h) e pos = (B.each t h e).reserved pos
 

@@ -1,5 +1,5 @@
 -- Sums over the held names, and how each change of the heaps changes them.
-use Rattle.run_ledger.proofs.Common.{◌≡◌, ℕ, zero, suc, ◌+◌, ◌-◌, ◌<◌, ◌≤◌, Bool, true, false, cond, Option, Some, None, List, [], ◌∷◌, ◌++◌, map, slice_get, slice_set, filter, sum_by, inl, inr, refl, ap, sym, subst, ◌∙◌, arith, append-nil, flat_map, sum_by-append, sum_by-cons, flat_map-append, got_other, got_front, got_within, Name, Task, MachineState, Heap, holds_name, held_in, small_in, placed, put_last, is_small, merged, emptied, let_go, forked_heap, fresh, collected, by_birth, insert_name, name_le, small_survivors, swept_heap, without_empty, in_snapshot}
+use Rattle.run_ledger.proofs.Common.{◌≡◌, ℕ, zero, suc, ◌+◌, ◌-◌, ◌<◌, ◌≤◌, Bool, true, false, cond, Option, Some, None, List, [], ◌∷◌, ◌++◌, map, slice_get, slice_set, filter, sum_by, inl, inr, refl, ap, sym, subst, ◌∙◌, arith, append-nil, flat_map, sum_by-append, sum_by-cons, flat_map-append, got_other, got_front, got_within, Name, Task, MachineState, Heap, holds_name, held_in, small_in, with_allocation, put_last, is_small_size, merged, emptied, let_go, forked_heap, fresh, collected, by_birth, insert_name, name_le, small_survivors, swept_heap, without_empty, in_snapshot}
 use Rattle.run_ledger.proofs.Held.{laid_flat}
 use Rattle.run_ledger.proofs.Moves.{Forks, Joins, Moves}
 
@@ -51,8 +51,8 @@ module _ (f : Name → ℕ) where
       let d = one n in
       omega arith
 
-  pub placed_weight : (h : Heap) (n : Name) (w : ℕ) → weight (placed h n w) ≡ weight h + f n
-  placed_weight h n w = placed_by h n w (is_small w)
+  pub placed_weight : (h : Heap) (n : Name) (w : ℕ) → weight (with_allocation h n w) ≡ weight h + f n
+  placed_weight h n w = placed_by h n w (is_small_size w)
 
   three : (a b c : List Name) → sum_by f (a ++ b ++ c) ≡ sum_by f a + sum_by f b + sum_by f c
   three a b c = let x = sum_by-append f (a ++ b) c in let y = sum_by-append f a b in omega arith

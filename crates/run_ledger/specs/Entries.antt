@@ -6,7 +6,7 @@ use Rattle.run_ledger.specs.declared.data.Ledger.{Ledger}
 use Rattle.run_ledger.specs.declared.data.RunEnd.TheVariants.{Fuel as FuelEnd, Pool}
 use Rattle.run_ledger.specs.declared.data.Refused.{Refused}
 use Rattle.run_ledger.specs.declared.data.Refused.TheVariants.{Over, Spent, NoWorker, NotReady, Holding, NotOut, Collecting, NotCollecting, NotWaiting, Swept, Marking, NotMarking, Long, Due, NotNeeded, NotDue, PoolShort, PoolEnough, Marked, Left, Count, NotSpent}
-use Rattle.run_ledger.specs.Heaps.{chunk_words, units, is_small, heap_of, with_heap, words_in, in_use, within, take_of, collected, end_numbers, marked_in, left_in, swept_heap, sweep_number}
+use Rattle.run_ledger.specs.Heaps.{chunk_words, units, is_small_size, heap_of, with_heap, words_in, in_use, within, take_of, collected, end_numbers, marked_in, left_in, swept_heap, sweep_number}
 use Rattle.run_ledger.specs.Steps.{task_steps, on_asked, is_due, is_in_need, most_steps, standing}
 
 -- WHICH WORKER HOLDS WHICH TASK
@@ -39,8 +39,8 @@ refused_holding None rest = rest
 refused_holding (Some t) rest = Some (Holding t)
 
 -- a number has its right value
-abbrev pub counted : ℕ → ℕ → Option Refused → Option Refused
-counted said is rest = refused_unless (said == is) (Count said is) rest
+abbrev pub unless_wrong_number : ℕ → ℕ → Option Refused → Option Refused
+unless_wrong_number said is rest = refused_unless (said == is) (Count said is) rest
 
 -- the worker holds the task t, which is in no leaf collection
 abbrev pub on_running : Ledger → ℕ → ℕ → Option Refused → Option Refused
@@ -68,7 +68,7 @@ long_at k m = refused_unless (nat_le k m) (Long m) None
 
 -- the numbers in an entry that ends a leaf collection, and the right ones
 abbrev pub ends_as : ℕ × ℕ × ℕ → ℕ × ℕ × ℕ → Option Refused
-ends_as said is = counted said.0 is.0 (counted said.1 is.1 (counted said.2 is.2 None))
+ends_as said is = unless_wrong_number said.0 is.0 (unless_wrong_number said.1 is.1 (unless_wrong_number said.2 is.2 None))
 
 -- why an entry is refused because of its kind, or none
 abbrev pub kind_refusal : ProgramText → SettingsValue → Ledger → ℕ → Kind → Option Refused
@@ -85,7 +85,7 @@ kind_refusal p s l w (Mark t) =
     refused_unless (nat_le s.inner (words_in l.machine (heap_of l t))) (NotDue (words_in l.machine (heap_of l t))) None))
 kind_refusal p s l w (More t n) = on_marking l t (refused_if (left_in (heap_of l t) == 0) Marked None)
 kind_refusal p s l w (Sweep t given) =
-    on_marking l t (refused_unless (left_in (heap_of l t) == 0) (Left (marked_in (heap_of l t))) (counted given (sweep_number l.machine (heap_of l t)) None))
+    on_marking l t (refused_unless (left_in (heap_of l t) == 0) (Left (marked_in (heap_of l t))) (unless_wrong_number given (sweep_number l.machine (heap_of l t)) None))
 kind_refusal p s l w Fuel = refused_unless (nat_le s.fuel l.steps) (NotSpent l.steps) None
 
 abbrev pub is_fuel : Kind → Bool
@@ -105,12 +105,12 @@ refusal p s l e =
 -- the units of the chunk that the next step needs
 abbrev pub chunk_units : Option ℕ → ℕ
 chunk_units None = 1
-chunk_units (Some w) = if is_small w then 1 else units w
+chunk_units (Some w) = if is_small_size w then 1 else units w
 
 -- one more chunk: an empty one for small objects, or one for the large object
 abbrev pub with_chunk : Option ℕ → Heap → Heap
 with_chunk next h =
-    if on_asked next is_small
+    if on_asked next is_small_size
     then record h { chunks = h.chunks ++ [] ∷ []; room = chunk_words }
     else record h { reserved = chunk_units next }
 

@@ -11,16 +11,16 @@ use Rattle.run_ledger.specs.Reachable.{holds_name, reached}
 -- SIZES
 
 -- an object of n words shares a chunk with others
-abbrev pub is_small : ℕ → Bool
-is_small words = nat_le words chunk_words
+abbrev pub is_small_size : ℕ → Bool
+is_small_size words = nat_le words chunk_words
 
-abbrev pub words_of : Option Object → ℕ
-words_of None = 0
-words_of (Some o) = 2 + length o.refs + length o.ints
+abbrev pub object_words_of : Option Object → ℕ
+object_words_of None = 0
+object_words_of (Some o) = 2 + length o.refs + length o.ints
 
 -- the words of a name's object
 abbrev pub words_at : MachineState → Name → ℕ
-words_at m n = words_of (object_at m.store n)
+words_at m n = object_words_of (object_at m.store n)
 
 abbrev pub words_sum : MachineState → List Name → ℕ
 words_sum m ns = sum_by (words_at m) ns
@@ -96,8 +96,8 @@ in_use l = sum_by (units_in l.machine) l.heaps
 -- REACHABILITY WITHIN A HEAP
 
 -- a proper ancestor
-abbrev pub is_above : List Task → ℕ → ℕ → Bool
-is_above tasks a t = is_on_path tasks a t && not (a == t)
+abbrev pub is_proper_ancestor : List Task → ℕ → ℕ → Bool
+is_proper_ancestor tasks a t = is_on_path tasks a t && not (a == t)
 
 abbrev pub frames_of : Option Task → List Frame
 frames_of None = []
@@ -105,7 +105,7 @@ frames_of (Some x) = x.top ∷ x.below
 
 -- what the held objects of a task's proper ancestors refer to
 abbrev pub down_roots : Ledger → ℕ → List Name
-down_roots l t = flat_map (refs_at l.machine.store) (filter (λ n. is_above l.machine.tasks (owner_of l.machine.tasks n.task) t) (held l))
+down_roots l t = flat_map (refs_at l.machine.store) (filter (λ n. is_proper_ancestor l.machine.tasks (owner_of l.machine.tasks n.task) t) (held l))
 
 -- the roots of a task's heap: what its frames' registers hold, and what its ancestors' objects refer to
 abbrev pub roots_of : Ledger → ℕ → List Name
@@ -124,15 +124,15 @@ put_last (ns ∷ []) n = (ns ++ n ∷ []) ∷ []
 put_last (ns ∷ ms ∷ rest) n = ns ∷ put_last (ms ∷ rest) n
 
 -- an allocation of n words: a small object takes room in the last chunk, a large one the reserved chunk
-abbrev pub placed : Heap → Name → ℕ → Heap
-placed h n w =
-    if is_small w
+abbrev pub with_allocation : Heap → Name → ℕ → Heap
+with_allocation h n w =
+    if is_small_size w
     then record h { chunks = put_last h.chunks n; room = h.room - w; since = h.since + w }
     else record h { large = h.large ++ n ∷ []; reserved = 0; since = h.since + w }
 
 -- an object of n words doesn't fit yet
 abbrev pub lacks_room : Heap → ℕ → Bool
-lacks_room h w = if is_small w then nat_lt h.room w else not (h.reserved == units w)
+lacks_room h w = if is_small_size w then nat_lt h.room w else not (h.reserved == units w)
 
 -- FORKS AND JOINS
 

@@ -80,13 +80,13 @@ fork_of t None = []
 fork_of t (Some x) = strand_of t x ∷ []
 
 -- the record of the worker after its entry, by the accounts after it
-abbrev pub noted : Ledger → WorkerPace → Kind → WorkerPace
-noted l x (Ran t k) = record x { previous = previous_by t (slice_get l.machine.tasks t) }
-noted l x (Mark t) = record { previous = Other; marks = fork_of t (slice_get l.machine.tasks t) ++ x.marks }
-noted l x _ = record x { previous = Other }
+abbrev pub pace_noted : Ledger → WorkerPace → Kind → WorkerPace
+pace_noted l x (Ran t k) = record x { previous = previous_by t (slice_get l.machine.tasks t) }
+pace_noted l x (Mark t) = record { previous = Other; marks = fork_of t (slice_get l.machine.tasks t) ++ x.marks }
+pace_noted l x _ = record x { previous = Other }
 
 abbrev pub pace_after : Ledger → List WorkerPace → EntryValue → List WorkerPace
-pace_after l pace e = slice_set pace e.worker (noted l (pace_of pace e.worker) e.kind)
+pace_after l pace e = slice_set pace e.worker (pace_noted l (pace_of pace e.worker) e.kind)
 
 -- PACED JOURNALS
 

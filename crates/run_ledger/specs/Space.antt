@@ -3,7 +3,7 @@ use Rattle.std.specs.Prelude.{◌≡◌, ℕ, ◌+◌, ◌*◌, ◌<◌, ◌≤�
 use Rattle.run_ledger.specs.Common.{End, Sweep, EntryValue, private_limit, SettingsValue, field_limit, ProgramText, IsProgram, most_fields, Name, Object, MachineState, asked, Counted}
 use Rattle.run_ledger.specs.declared.data.Heap.{Heap}
 use Rattle.run_ledger.specs.declared.data.Ledger.{Ledger}
-use Rattle.run_ledger.specs.Heaps.{chunk_words, words_sum, held, heap_of, begun_in, take_of, in_use, words_of}
+use Rattle.run_ledger.specs.Heaps.{chunk_words, words_sum, held, heap_of, begun_in, take_of, in_use, object_words_of}
 use Rattle.run_ledger.specs.Steps.{task_steps}
 use Rattle.run_ledger.specs.Entries.{after}
 use Rattle.run_ledger.specs.Journals.{ledger_of, is_legal, tasks_of}
@@ -101,7 +101,7 @@ HeapsFit = (p : ProgramText) (s : SettingsValue) (journal : List EntryValue) →
 
 -- the words of all objects of a store
 abbrev pub store_words : List (List Object) → ℕ
-store_words store = sum_by (λ row. sum_by (λ o. words_of (Some o)) row) store
+store_words store = sum_by (λ row. sum_by (λ o. object_words_of (Some o)) row) store
 
 -- each word that was allocated is held, or was dropped by the end of a leaf collection or a sweep
 abbrev pub WordsAreAccounted : Type 0

@@ -4,14 +4,14 @@ use Rattle.run_ledger.specs.Common.{is_empty, private_limit, SettingsValue, Inst
 use Rattle.hh_model.specs.declared.data.End.{End}
 use Rattle.run_ledger.specs.declared.data.Ledger.{Ledger}
 use Rattle.run_ledger.specs.declared.data.RunEnd.TheVariants.{Machine}
-use Rattle.run_ledger.specs.Heaps.{heap_of, with_heap, within, placed, lacks_room, fresh, forked_heap, merged, emptied, let_go}
+use Rattle.run_ledger.specs.Heaps.{heap_of, with_heap, within, with_allocation, lacks_room, fresh, forked_heap, merged, emptied, let_go}
 
 -- WHAT A STEP CHANGES
 
 -- the next step of the task t allocates n words: the name is held from then on
 abbrev pub allocated_by : Ledger → ℕ → Option ℕ → Ledger
 allocated_by l t None = l
-allocated_by l t (Some w) = with_heap l t (λ h. placed h (record { task = t; count = length (row_of (slice_get l.machine.store t)) }) w)
+allocated_by l t (Some w) = with_heap l t (λ h. with_allocation h (record { task = t; count = length (row_of (slice_get l.machine.store t)) }) w)
 
 abbrev pub allocated_in : ProgramText → Ledger → ℕ → Ledger
 allocated_in p l t = allocated_by l t (asked p l.machine t)

@@ -3,7 +3,7 @@ use Rattle.std.specs.Prelude.{◌≡◌, ℕ, ◌+◌, ◌<◌, ◌≤◌, Bool,
 use Rattle.run_ledger.specs.Common.{Kind, Chunk, Begin, End, Sweep, EntryValue, SettingsValue, ProgramText, IsProgram, asked, is_running}
 use Rattle.run_ledger.specs.declared.data.Ledger.{Ledger}
 use Rattle.run_ledger.specs.declared.data.RunEnd.TheVariants.{Pool}
-use Rattle.run_ledger.specs.Heaps.{heap_of, in_use, is_small, take_of, units}
+use Rattle.run_ledger.specs.Heaps.{heap_of, in_use, is_small_size, take_of, units}
 use Rattle.run_ledger.specs.Entries.{refusal, after, chunk_units}
 use Rattle.run_ledger.specs.Journals.{ledger_of, is_legal}
 
@@ -36,7 +36,7 @@ pub record ReservesFor (p : ProgramText) (s : SettingsValue) (l : Ledger) (t : �
   pub runs : is_running (slice_get l.machine.tasks t) ≡ true
   pub words : ℕ
   pub asks : asked p l.machine t ≡ Some words
-  pub large : is_small words ≡ false
+  pub large : is_small_size words ≡ false
   pub fits : (heap_of l t).reserved ≡ units words
   pub early : (heap_of l t).since < s.leaf
 

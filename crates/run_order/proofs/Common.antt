@@ -20,9 +20,9 @@ pub use Rattle.log_walk.specs.Value.{WalkValue, IsWalked}
 pub use Rattle.plain_vec.proofs.Members.{In, any_from_in, in_from_any}
 pub use Rattle.plain_vec.proofs.Options.{none_some}
 pub use Rattle.plain_vec.specs.Options.{option_is}
-pub use Rattle.race_cells.specs.Order.{MeetsAsInTree}
+pub use Rattle.race_cells.specs.Order.{MeetsAsInTree, ExtendsPrecedence}
 pub use Rattle.run_order.specs.Laws.{IsOrderOf, WalksHaveAnOrder}
-pub use Rattle.run_order.specs.Order.{way_up, exit_of, is_upto, is_no_later, depth_of, after_join, if_there, steps_from, is_above}
+pub use Rattle.run_order.specs.Order.{way_up, exit_of, is_upto, is_no_later, depth_of, after_join, if_there, steps_from, is_above_strand}
 pub use Rattle.std.proofs.Common.{◌≡◌, ◌↔◌, ℕ, zero, suc, ◌+◌, ◌<◌, ◌≤◌, List, length, slice_get, Some, ◌⊎◌, inl, inr, refl, ap, sym, subst, ◌∙◌, arith, ◌-◌, Bool, true, false, Option, None, nat_le, ◌==◌, ◌&&◌, cond, [], ◌∷◌, get_or, position, find, nat_lt, eqb, eq-eqb, if◌then◌else◌}
 pub use Rattle.std.proofs.lemmas.Bool.{cases_lt, false≢true, leb-true, le-leb, cases_eq, eqb-true, lt-ltb, ltb-true}
 pub use Rattle.std.proofs.lemmas.List.Sums.{position_or_len_is}

@@ -1,6 +1,5 @@
 -- The order of a run's strands: what it says of precedence, and how strands meet.
-use Rattle.run_order.proofs.Common.{◌≡◌, ◌↔◌, ℕ, zero, suc, ◌+◌, ◌-◌, ◌<◌, ◌≤◌, Bool, true, false, Option, Some, None, length, nat_le, ◌⊎◌, inl, inr, refl, ap, sym, subst, ◌∙◌, arith, cases_lt, false≢true, leb-true, le-leb, same_Some, GraphStrand, tasks_in, strand, Precedes, IsLowestCommon, AreBlocks, TellsPrecedence, IsLine, rooted_above, precedes_itself, both, are_blocks, tells_precedence, strand_at, task_at, WalkValue, IsWalked, IsExitAt, MeetsAsInTree, way_up, exit_of, is_upto, is_no_later, depth_of, IsOrderOf, WalksHaveAnOrder}
-use Rattle.race_cells.specs.Order.{ExtendsPrecedence}
+use Rattle.run_order.proofs.Common.{◌≡◌, ◌↔◌, ℕ, zero, suc, ◌+◌, ◌-◌, ◌<◌, ◌≤◌, Bool, true, false, Option, Some, None, length, nat_le, ◌⊎◌, inl, inr, refl, ap, sym, subst, ◌∙◌, arith, cases_lt, false≢true, leb-true, le-leb, same_Some, GraphStrand, tasks_in, strand, Precedes, IsLowestCommon, AreBlocks, TellsPrecedence, IsLine, rooted_above, precedes_itself, both, are_blocks, tells_precedence, strand_at, task_at, WalkValue, IsWalked, IsExitAt, MeetsAsInTree, way_up, exit_of, is_upto, is_no_later, depth_of, IsOrderOf, WalksHaveAnOrder, ExtendsPrecedence}
 use Rattle.run_order.specs.Order.{run_order}
 use Rattle.run_order.proofs.Exits.{at_place, strand_is_at, line_once, no_deeper, same_lowest, exit_once, same_exit, exit_tells, meets_higher, exits_stay}
 use Rattle.run_order.proofs.Ways.{levels, serial, rooted, line_at, way_up_length, exit_is, exit_within}

@@ -1,5 +1,5 @@
 -- The ways of strands up to the root, as they are computed.
-use Rattle.run_order.proofs.Common.{◌≡◌, ◌==◌, ◌&&◌, ℕ, zero, suc, ◌+◌, ◌<◌, ◌≤◌, Bool, true, false, cond, Option, Some, None, List, [], ◌∷◌, length, slice_get, get_or, position, find, nat_lt, eqb, ◌⊎◌, inl, inr, refl, ap, sym, subst, ◌∙◌, arith, eq-eqb, if◌then◌else◌, cases_eq, cases_lt, eqb-true, false≢true, lt-ltb, ltb-true, position_or_len_is, same_Some, slice_get_within, slice_get-get_or, position_or_len, option_is, In, any_from_in, in_from_any, none_some, GraphTurn, Join, GraphStrand, tasks_in, strand, Does, IsParent, IsAncestor, IsExit, AreLevels, IsSerialOrder, IsLine, itself, same_ancestor, below, up_cases, no_root_parent, parent_line, IsRooted, serial_order_extends, levels_are_few, joined_before, strand_at, task_at, WalkValue, IsWalked, IsExitAt, line_short, is_joined, joined_mark, same_joined, after_join, if_there, steps_from, way_up, is_above, exit_of}
+use Rattle.run_order.proofs.Common.{◌≡◌, ◌==◌, ◌&&◌, ℕ, zero, suc, ◌+◌, ◌<◌, ◌≤◌, Bool, true, false, cond, Option, Some, None, List, [], ◌∷◌, length, slice_get, get_or, position, find, nat_lt, eqb, ◌⊎◌, inl, inr, refl, ap, sym, subst, ◌∙◌, arith, eq-eqb, if◌then◌else◌, cases_eq, cases_lt, eqb-true, false≢true, lt-ltb, ltb-true, position_or_len_is, same_Some, slice_get_within, slice_get-get_or, position_or_len, option_is, In, any_from_in, in_from_any, none_some, GraphTurn, Join, GraphStrand, tasks_in, strand, Does, IsParent, IsAncestor, IsExit, AreLevels, IsSerialOrder, IsLine, itself, same_ancestor, below, up_cases, no_root_parent, parent_line, IsRooted, serial_order_extends, levels_are_few, joined_before, strand_at, task_at, WalkValue, IsWalked, IsExitAt, line_short, is_joined, joined_mark, same_joined, after_join, if_there, steps_from, way_up, is_above_strand, exit_of}
 use Rattle.run_order.proofs.Exits.{at_place, strand_is_at, rooted_at, next_there}
 
 -- PLACES OF WHAT PASSES A TEST
@@ -158,14 +158,14 @@ module _ (walk : WalkValue) (w : IsWalked walk) where
             (m.0, inr (subst (λ o. In (if_there (Goes most) o) m.0) (sym s.1.found) m.1), m.2)
       ]
 
-  above_is : (t j : ℕ) → j < length walk.order → is_above walk t j ≡ true → IsAncestor (tasks_in walk.tasks) t (task_at walk.order j)
+  above_is : (t j : ℕ) → j < length walk.order → is_above_strand walk t j ≡ true → IsAncestor (tasks_in walk.tasks) t (task_at walk.order j)
   above_is t j lt h =
       let line = line_at j lt in
       let m = in_from_any (λ e. task_at walk.order e == t) (way_up walk j) h in
       subst (λ x. IsAncestor (tasks_in walk.tasks) x (task_at walk.order j)) (eqb-true (task_at walk.order m.0) t m.2)
       (way_in line.0 (length walk.tasks) j m.0 lt line.1 m.1)
 
-  is_above_if : (t j : ℕ) → j < length walk.order → IsAncestor (tasks_in walk.tasks) t (task_at walk.order j) → is_above walk t j ≡ true
+  is_above_if : (t j : ℕ) → j < length walk.order → IsAncestor (tasks_in walk.tasks) t (task_at walk.order j) → is_above_strand walk t j ≡ true
   is_above_if t j lt up =
       let line = line_at j lt in
       let m = way_has line.0 (length walk.tasks) j t line.2 lt line.1 up in
@@ -174,7 +174,7 @@ module _ (walk : WalkValue) (w : IsWalked walk) where
   -- WHERE A WAY COMES IN
 
   abbrev Finds : ℕ → ℕ → ℕ → ℕ → Type 0
-  Finds most i j e = (find (λ x. is_above walk (task_at walk.order x) j) (Goes most i) ≡ Some e) × (e < length walk.order) × IsExitAt (tasks_in walk.tasks) walk.order i j e
+  Finds most i j e = (find (λ x. is_above_strand walk (task_at walk.order x) j) (Goes most i) ≡ Some e) × (e < length walk.order) × IsExitAt (tasks_in walk.tasks) walk.order i j e
 
   own_exit : (i j : ℕ) → i < length walk.order → IsAncestor (tasks_in walk.tasks) (task_at walk.order i) (task_at walk.order j) → IsExitAt (tasks_in walk.tasks) walk.order i j i
   own_exit i j lt up = record {
@@ -220,17 +220,17 @@ module _ (walk : WalkValue) (w : IsWalked walk) where
         at = x.at;
       }
 
-  found_here : (most i j : ℕ) → i < length walk.order → j < length walk.order → is_above walk (task_at walk.order i) j ≡ true → (e : ℕ) × Finds (suc most) i j e
+  found_here : (most i j : ℕ) → i < length walk.order → j < length walk.order → is_above_strand walk (task_at walk.order i) j ≡ true → (e : ℕ) × Finds (suc most) i j e
   found_here most i j lt lt' e = (
     i,
     (
-      ap (λ t. cond t (Some i) (find (λ x. is_above walk (task_at walk.order x) j) (if_there (Goes most) (next i)))) e,
+      ap (λ t. cond t (Some i) (find (λ x. is_above_strand walk (task_at walk.order x) j) (if_there (Goes most) (next i)))) e,
       lt,
       own_exit i j lt (above_is (task_at walk.order i) j lt' e),
     ),
   )
 
-  found_further : (m most i j p : ℕ) → i < length walk.order → j < length walk.order → is_above walk (task_at walk.order i) j ≡ false
+  found_further : (m most i j p : ℕ) → i < length walk.order → j < length walk.order → is_above_strand walk (task_at walk.order i) j ≡ false
       → ((f : ℕ) → f < length walk.order → IsLine (tasks_in walk.tasks) 0 m (task_at walk.order f) → (e : ℕ) × Finds most f j e)
       → IsLine (tasks_in walk.tasks) 0 m p → IsParent (tasks_in walk.tasks) p (task_at walk.order i) → (e : ℕ) × Finds (suc most) i j e
   found_further m most i j p lt lt' e again up par =
@@ -238,8 +238,8 @@ module _ (walk : WalkValue) (w : IsWalked walk) where
       let found = again s.0 s.1.within (subst (λ x. IsLine (tasks_in walk.tasks) 0 m x) (sym (next_task p (task_at walk.order i) s.0 s.1)) up) in (
         found.0,
         (
-          ap (λ t. cond t (Some i) (find (λ x. is_above walk (task_at walk.order x) j) (if_there (Goes most) (next i)))) e
-              ∙ (ap (λ o. find (λ x. is_above walk (task_at walk.order x) j) (if_there (Goes most) o)) s.1.found ∙ found.1.0),
+          ap (λ t. cond t (Some i) (find (λ x. is_above_strand walk (task_at walk.order x) j) (if_there (Goes most) (next i)))) e
+              ∙ (ap (λ o. find (λ x. is_above_strand walk (task_at walk.order x) j) (if_there (Goes most) o)) s.1.found ∙ found.1.0),
           found.1.1,
           further_exit i j p s.0 found.0 par s.1 (λ over. false≢true (sym e ∙ is_above_if (task_at walk.order i) j lt' over)) found.1.2,
         ),
@@ -247,7 +247,7 @@ module _ (walk : WalkValue) (w : IsWalked walk) where
 
   found_by : (k most i j : ℕ) → k < suc most → i < length walk.order → j < length walk.order → IsLine (tasks_in walk.tasks) 0 k (task_at walk.order i)
       → ((m f : ℕ) → m < most → f < length walk.order → IsLine (tasks_in walk.tasks) 0 m (task_at walk.order f) → (e : ℕ) × Finds most f j e)
-      → (b : Bool) → is_above walk (task_at walk.order i) j ≡ b → (e : ℕ) × Finds (suc most) i j e
+      → (b : Bool) → is_above_strand walk (task_at walk.order i) j ≡ b → (e : ℕ) × Finds (suc most) i j e
   found_by k most i j less lt lt' line again true e = found_here most i j lt lt' e
   found_by zero most i j less lt lt' line again false e =
       absurd (false≢true (sym e ∙ is_above_if (task_at walk.order i) j lt' (subst (λ t. IsAncestor (tasks_in walk.tasks) t (task_at walk.order j)) (sym line) (rooted j lt').rooted)))
@@ -257,7 +257,7 @@ module _ (walk : WalkValue) (w : IsWalked walk) where
   exit_found : (k most i j : ℕ) → k < most → i < length walk.order → j < length walk.order → IsLine (tasks_in walk.tasks) 0 k (task_at walk.order i) → (e : ℕ) × Finds most i j e
   exit_found k zero i j less lt lt' line = absurd (omega arith)
   exit_found k (suc most) i j less lt lt' line =
-      found_by k most i j less lt lt' line (λ m f few within more. exit_found m most f j few within lt' more) (is_above walk (task_at walk.order i) j) refl
+      found_by k most i j less lt lt' line (λ m f few within more. exit_found m most f j few within lt' more) (is_above_strand walk (task_at walk.order i) j) refl
 
   abbrev pub Exits : ℕ → ℕ → ℕ → Type 0
   Exits i j e = (exit_of walk i j ≡ Some e) × (e < length walk.order) × IsExitAt (tasks_in walk.tasks) walk.order i j e
@@ -269,8 +269,8 @@ module _ (walk : WalkValue) (w : IsWalked walk) where
       let is = found.1.0 in (
         found.0,
         (
-          ap (λ b. if b && nat_lt j (length walk.order) then find (λ x. is_above walk (task_at walk.order x) j) (way_up walk i) else None) (lt-ltb i (length walk.order) lt)
-              ∙ (ap (λ b. if b then find (λ x. is_above walk (task_at walk.order x) j) (way_up walk i) else None) (lt-ltb j (length walk.order) lt') ∙ is),
+          ap (λ b. if b && nat_lt j (length walk.order) then find (λ x. is_above_strand walk (task_at walk.order x) j) (way_up walk i) else None) (lt-ltb i (length walk.order) lt)
+              ∙ (ap (λ b. if b then find (λ x. is_above_strand walk (task_at walk.order x) j) (way_up walk i) else None) (lt-ltb j (length walk.order) lt') ∙ is),
           found.1.1,
           found.1.2,
         ),
@@ -278,7 +278,7 @@ module _ (walk : WalkValue) (w : IsWalked walk) where
 
   exit_none : (i j : ℕ) → ((i < length walk.order) × (j < length walk.order) → ⊥) → exit_of walk i j ≡ None
   exit_none i j apart =
-      ap (λ b. if b then find (λ x. is_above walk (task_at walk.order x) j) (way_up walk i) else None)
+      ap (λ b. if b then find (λ x. is_above_strand walk (task_at walk.order x) j) (way_up walk i) else None)
       (not_true (nat_lt i (length walk.order) && nat_lt j (length walk.order)) (λ h. apart (both_below i j (length walk.order) h)))
 
   pub exit_within : (i j e : ℕ) → exit_of walk i j ≡ Some e → (i < length walk.order) × (j < length walk.order)

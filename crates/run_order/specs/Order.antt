@@ -26,14 +26,14 @@ abbrev pub way_up : WalkValue → ℕ → List ℕ
 way_up walk i = steps_from (λ e. after_join walk (task_at walk.order e)) (length walk.tasks) i
 
 -- the task is that of the strand at a place, or an ancestor of it
-abbrev pub is_above : WalkValue → ℕ → ℕ → Bool
-is_above walk t i = list_any (λ e. task_at walk.order e == t) (way_up walk i)
+abbrev pub is_above_strand : WalkValue → ℕ → ℕ → Bool
+is_above_strand walk t i = list_any (λ e. task_at walk.order e == t) (way_up walk i)
 
 -- where the way from the first place comes into the lowest task that is above the second one's
 abbrev pub exit_of : WalkValue → ℕ → ℕ → Option ℕ
 exit_of walk i j =
     if nat_lt i (length walk.order) && nat_lt j (length walk.order)
-    then find (λ e. is_above walk (task_at walk.order e) j) (way_up walk i) else None
+    then find (λ e. is_above_strand walk (task_at walk.order e) j) (way_up walk i) else None
 
 abbrev pub is_upto : Option ℕ → ℕ → Bool
 is_upto None j = false

@@ -1,9 +1,9 @@
 -- The totals of a journal, entry by entry.
-use Rattle.run_report.proofs.Common.{◌≡◌, ℕ, zero, suc, ◌+◌, ◌-◌, ◌<◌, ◌≤◌, ◌^◌, ◌&&◌, true, is_none, take, ap₂, subst, Option, Some, None, List, [], ◌∷◌, ◌++◌, length, drop, get_or, max, refl, ap, sym, ◌∙◌, arith, length-append, length-take-le, take_all, got_same, Kind, Took, Ran, Chunk, Begin, End, PutOff, Mark, More, Sweep, Fuel, EntryValue, SettingsValue, AreSettings, ProgramText, Heap, Ledger, fresh, heap_at, heap_of, or_fresh, with_heap, with_heap_at, words_in, in_use, collected, swept_heap, refusal, after_kind, after, tally, lost, count_end, count_putoff, count_sweep, freed_by_end, freed_by_sweep, opening, after_all, ledger_of, is_legal, first_refused_from, first_refused, BookValue, after_cut, joined_legal, words_are_accounted, legal_stored, accounts_next, refused_next, Totals, AreFew, no_totals, joined, counted, cleared_words, entry_totals, totals_from}
+use Rattle.run_report.proofs.Common.{◌≡◌, ℕ, zero, suc, ◌+◌, ◌-◌, ◌<◌, ◌≤◌, ◌^◌, ◌&&◌, true, is_none, take, ap₂, subst, Option, Some, None, List, [], ◌∷◌, ◌++◌, length, drop, get_or, max, refl, ap, sym, ◌∙◌, arith, length-append, length-take-le, take_all, got_same, Kind, Took, Ran, Chunk, Begin, End, PutOff, Mark, More, Sweep, Fuel, EntryValue, SettingsValue, AreSettings, ProgramText, Heap, Ledger, fresh, heap_at, heap_of, or_fresh, with_heap, with_heap_at, words_in, in_use, collected, swept_heap, refusal, after_kind, after, tally, lost, count_end, count_putoff, count_sweep, freed_by_end, freed_by_sweep, opening, after_all, ledger_of, is_legal, first_refused_from, first_refused, BookValue, after_cut, joined_legal, words_are_accounted, legal_stored, accounts_next, refused_next, Totals, AreFew, no_totals, totals_joined, counted, cleared_words, entry_totals, totals_from}
 
 -- SUMS
 
-pub joined_assoc : (a b c : Totals) → joined (joined a b) c ≡ joined a (joined b c)
+pub joined_assoc : (a b c : Totals) → totals_joined (totals_joined a b) c ≡ totals_joined a (totals_joined b c)
 joined_assoc a b c =
     let e1 : (a.leaf + b.leaf) + c.leaf ≡ a.leaf + (b.leaf + c.leaf) = omega arith in
     let e2 : (a.putoff + b.putoff) + c.putoff ≡ a.putoff + (b.putoff + c.putoff) = omega arith in
@@ -19,11 +19,11 @@ same_fields a b e1 e2 e3 e4 e5 e6 =
     ≡ record { leaf = b.leaf; putoff = b.putoff; leaf_freed = b.leaf_freed; inner = b.inner; inner_freed = b.inner_freed; peak = b.peak } = cc in
     e
 
-pub joined_none : (a : Totals) → joined a no_totals ≡ a
-joined_none a = same_fields (joined a no_totals) a (omega arith) (omega arith) (omega arith) (omega arith) (omega arith) (omega arith)
+pub joined_none : (a : Totals) → totals_joined a no_totals ≡ a
+joined_none a = same_fields (totals_joined a no_totals) a (omega arith) (omega arith) (omega arith) (omega arith) (omega arith) (omega arith)
 
-pub none_joined : (a : Totals) → joined no_totals a ≡ a
-none_joined a = same_fields (joined no_totals a) a (omega arith) (omega arith) (omega arith) (omega arith) (omega arith) (omega arith)
+pub none_joined : (a : Totals) → totals_joined no_totals a ≡ a
+none_joined a = same_fields (totals_joined no_totals a) a (omega arith) (omega arith) (omega arith) (omega arith) (omega arith) (omega arith)
 
 -- ONE ENTRY
 
@@ -60,18 +60,18 @@ module _ (p : ProgramText) (s : SettingsValue) (l : Ledger) where
   counted_is w (Sweep t given) used = ap (λ n. record no_totals { inner = 1; inner_freed = n; peak = used }) (lost_is l t swept_heap)
   counted_is w Fuel used = refl
 
-  totals_next : (e : EntryValue) (rest : List EntryValue) → totals_from p s l (e ∷ rest) ≡ joined (entry_totals p s l e) (totals_from p s (after p s l e) rest)
-  totals_next e rest = ap (λ a. joined a (totals_from p s (after p s l e) rest)) (sym (counted_is e.worker e.kind (in_use (after p s l e))))
+  totals_next : (e : EntryValue) (rest : List EntryValue) → totals_from p s l (e ∷ rest) ≡ totals_joined (entry_totals p s l e) (totals_from p s (after p s l e) rest)
+  totals_next e rest = ap (λ a. totals_joined a (totals_from p s (after p s l e) rest)) (sym (counted_is e.worker e.kind (in_use (after p s l e))))
 
 module _ (p : ProgramText) (s : SettingsValue) where
   -- one more entry at the end
-  pub totals_last : (before : List EntryValue) (l : Ledger) (e : EntryValue) → totals_from p s l (before ++ e ∷ []) ≡ joined (totals_from p s l before) (entry_totals p s (after_all p s l before) e)
+  pub totals_last : (before : List EntryValue) (l : Ledger) (e : EntryValue) → totals_from p s l (before ++ e ∷ []) ≡ totals_joined (totals_from p s l before) (entry_totals p s (after_all p s l before) e)
   totals_last [] l e = totals_next p s l e [] ∙ (joined_none (entry_totals p s l e) ∙ sym (none_joined (entry_totals p s l e)))
   totals_last (x ∷ before) l e =
       totals_next p s l x (before ++ e ∷ [])
-      ∙ (ap (joined (entry_totals p s l x)) (totals_last before (after p s l x) e)
+      ∙ (ap (totals_joined (entry_totals p s l x)) (totals_last before (after p s l x) e)
       ∙ (sym (joined_assoc (entry_totals p s l x) (totals_from p s (after p s l x) before) (entry_totals p s (after_all p s (after p s l x) before) e))
-      ∙ ap (λ sums. joined sums (entry_totals p s (after_all p s (after p s l x) before) e)) (sym (totals_next p s l x before))))
+      ∙ ap (λ sums. totals_joined sums (entry_totals p s (after_all p s (after p s l x) before) e)) (sym (totals_next p s l x before))))
 
 -- NO TOTAL IS TOO LARGE
 
@@ -158,20 +158,20 @@ module _ (journal : List EntryValue) (b : BookValue) (i : ℕ) (e : EntryValue) 
       ap (λ l. after b.program b.settings l e) at.ledger
       ∙ (sym (after_cut b.program b.settings (take i journal) (e ∷ []) (opening b.program b.settings)) ∙ ap (ledger_of b.program b.settings) (sym (take_next journal i e lt is)))
 
-  sums_next : joined sums (entry_totals b.program b.settings b.ledger e) ≡ totals_from b.program b.settings (opening b.program b.settings) (take (i + 1) journal)
+  sums_next : totals_joined sums (entry_totals b.program b.settings b.ledger e) ≡ totals_from b.program b.settings (opening b.program b.settings) (take (i + 1) journal)
   sums_next =
-      ap₂ (λ a l. joined a (entry_totals b.program b.settings l e)) at.sums_are at.ledger
+      ap₂ (λ a l. totals_joined a (entry_totals b.program b.settings l e)) at.sums_are at.ledger
       ∙ (sym (totals_last b.program b.settings (take i journal) (opening b.program b.settings) e)
       ∙ ap (totals_from b.program b.settings (opening b.program b.settings)) (sym (take_next journal i e lt is)))
 
-  pub few_next : AreSettings b.settings → i + 1 < 2 ^ 64 → AreFew (joined sums (entry_totals b.program b.settings b.ledger e))
+  pub few_next : AreSettings b.settings → i + 1 < 2 ^ 64 → AreFew (totals_joined sums (entry_totals b.program b.settings b.ledger e))
   few_next A short =
       let long : length (take (i + 1) journal) ≡ length (take i journal ++ e ∷ []) = ap length (take_next journal i e lt is) in
       let a = length-append (take i journal) (e ∷ []) in
       let c = length-take-le i journal (omega arith) in
       subst AreFew (sym sums_next) (legal_few b.program b.settings A (take (i + 1) journal) legal_next (omega arith))
 
-  pub at_next : (b' : BookValue) (sums' : Totals) → b' ≡ record b { ledger = after b.program b.settings b.ledger e } → sums' ≡ joined sums (entry_totals b.program b.settings b.ledger e) → IsAt journal b' (i + 1) sums'
+  pub at_next : (b' : BookValue) (sums' : Totals) → b' ≡ record b { ledger = after b.program b.settings b.ledger e } → sums' ≡ totals_joined sums (entry_totals b.program b.settings b.ledger e) → IsAt journal b' (i + 1) sums'
   at_next b' sums' eb es =
       subst (λ x. IsAt journal x (i + 1) sums') (sym eb)
       (subst (λ z. IsAt journal (record b { ledger = after b.program b.settings b.ledger e }) (i + 1) z) (sym es) (record { legal = legal_next; ledger = ledger_next; sums_are = sums_next }))

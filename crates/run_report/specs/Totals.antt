@@ -17,8 +17,8 @@ abbrev pub no_totals : Totals
 no_totals = record { leaf = 0; putoff = 0; leaf_freed = 0; inner = 0; inner_freed = 0; peak = 0 }
 
 -- the totals of two parts of a journal together
-abbrev pub joined : Totals → Totals → Totals
-joined a b = record {
+abbrev pub totals_joined : Totals → Totals → Totals
+totals_joined a b = record {
   leaf = a.leaf + b.leaf;
   putoff = a.putoff + b.putoff;
   leaf_freed = a.leaf_freed + b.leaf_freed;

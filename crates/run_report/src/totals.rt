@@ -1,7 +1,7 @@
 // The totals of a journal, added up entry by entry.
 
 ghost use Rattle.std.specs.Prelude.{◌≡◌};
-ghost use Rattle.run_report.specs.Totals.{AreFew, no_totals, joined, counted};
+ghost use Rattle.run_report.specs.Totals.{AreFew, no_totals, totals_joined, counted};
 
 use run_trace::Kind;
 
@@ -60,8 +60,8 @@ impl Totals {
 
     /// The totals of two parts of a journal together.
     pub fn join(self, other: Totals) -> Totals
-        requires { AreFew (joined self other) }
-        ensures { result ≡ joined self other }
+        requires { AreFew (totals_joined self other) }
+        ensures { result ≡ totals_joined self other }
     {
         Totals {
             leaf: self.leaf + other.leaf,

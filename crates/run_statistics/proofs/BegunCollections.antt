@@ -1,5 +1,5 @@
 -- A leaf collection in progress: whose heap it collects, and how many words that has, over one more entry.
-use Rattle.run_statistics.proofs.Common.{◌≡◌, ℕ, zero, suc, ◌+◌, ◌&&◌, ◌==◌, not, nat_le, Bool, true, false, cond, Option, Some, None, List, [], ◌∷◌, ◌++◌, slice_get, nat_lt, inl, inr, refl, ap, ap₂, sym, subst, ◌∙◌, is_some, is_none, false≢true, both_ways, cases_eq, and_parts, eqb-false, eqb-true, sum_by-cons, In, contains_from_in, none_some, ProgramText, Kind, Took, Ran, Chunk, Begin, End as EndOf, PutOff, Mark, More, Sweep, Fuel, EntryValue, SettingsValue, Name, MachineState, object_at, asked, can_step, is_running, is_waiting, step, Heap, Ledger, Pool, Refused, chunk_words, collected, end_numbers, heap_of, held_in, in_use, is_small, or_fresh, swept_heap, take_of, with_heap, within, words_at, words_in, words_of, words_sum, allocated_in, on_asked, stepped_to, task_step, task_steps, after, after_kind, chunk_units, ends_as, is_fuel, is_out, is_ready, kind_refusal, on_waiting, refusal, refused_unless, with_chunk, is_legal, ledger_of, HoldsOnce, TasksAreOut, LeavesTask, SoundAt, SoundLedger, collecting, begins, option_is, legal_then, none_is, entries_leave_others, held_is, left_step, heap_off, heap_view, tasks_are_out_once, collecting_is, entry_tells, legal_sound, none_unless, none_where, out_tells, wait_tells, task_step_sound, task_steps_sound, names_are_held_once, heap_machine, waiters_are_free, idle_then, heap_then, with_at}
+use Rattle.run_statistics.proofs.Common.{◌≡◌, ℕ, zero, suc, ◌+◌, ◌&&◌, ◌==◌, not, nat_le, Bool, true, false, cond, Option, Some, None, List, [], ◌∷◌, ◌++◌, slice_get, nat_lt, inl, inr, refl, ap, ap₂, sym, subst, ◌∙◌, is_some, is_none, false≢true, both_ways, cases_eq, and_parts, eqb-false, eqb-true, sum_by-cons, In, contains_from_in, none_some, ProgramText, Kind, Took, Ran, Chunk, Begin, End as EndOf, PutOff, Mark, More, Sweep, Fuel, EntryValue, SettingsValue, Name, MachineState, object_at, asked, can_step, is_running, is_waiting, step, Heap, Ledger, Pool, Refused, chunk_words, collected, end_numbers, heap_of, held_in, in_use, is_small_size, or_fresh, swept_heap, take_of, with_heap, within, words_at, words_in, object_words_of, words_sum, allocated_in, on_asked, stepped_to, task_step, task_steps, after, after_kind, chunk_units, ends_as, is_fuel, is_out, is_ready, kind_refusal, on_waiting, refusal, refused_unless, with_chunk, is_legal, ledger_of, HoldsOnce, TasksAreOut, LeavesTask, SoundAt, SoundLedger, collecting, begins, option_is, legal_then, none_is, entries_leave_others, held_is, left_step, heap_off, heap_view, tasks_are_out_once, collecting_is, entry_tells, legal_sound, none_unless, none_where, out_tells, wait_tells, task_step_sound, task_steps_sound, names_are_held_once, heap_machine, waiters_are_free, idle_then, heap_then, with_at}
 use Rattle.heap_reading.specs.below.run_ledger.{Fuel as FuelEnd}
 
 -- STEPS of a task begin no leaf collection of another one
@@ -26,7 +26,7 @@ words_same : (m m' : MachineState) (ns : List Name) → ((n : Name) → In ns n 
 words_same m m' [] same = refl
 words_same m m' (n ∷ ns) same =
     sum_by-cons (words_at m') n ns
-    ∙ (ap₂ (λ x y. x + y) (ap words_of (same n (inl refl))) (words_same m m' ns (λ k i. same k (inr i))) ∙ sym (sum_by-cons (words_at m) n ns))
+    ∙ (ap₂ (λ x y. x + y) (ap object_words_of (same n (inl refl))) (words_same m m' ns (λ k i. same k (inr i))) ∙ sym (sum_by-cons (words_at m) n ns))
 
 -- the collection of t, whose task the worker k holds, was in progress before: the heap had as many words
 pub record WentOn (l l' : Ledger) (t k : ℕ) : Type 0 where
@@ -115,7 +115,7 @@ module _ (p : ProgramText) (s : SettingsValue) (journal : List EntryValue) (e : 
 
     went_chunk : (u : ℕ) (next : Option ℕ) (full : Bool) → collecting (slice_get l.heaps u) ≡ false → Went (cond full (record l { end = Some (Pool (in_use l)) }) (with_heap l u (with_chunk next)))
     went_chunk u next true idle = went_same l (record l { end = Some (Pool (in_use l)) }) t k refl refl
-    went_chunk u next false idle = went_idle u (with_chunk next) (λ h. went_chunk_same h (on_asked next is_small)) idle
+    went_chunk u next false idle = went_idle u (with_chunk next) (λ h. went_chunk_same h (on_asked next is_small_size)) idle
       where
         went_chunk_same : (h : Heap) (v : Bool) → (cond v (record h { chunks = h.chunks ++ [] ∷ []; room = chunk_words }) (record h { reserved = chunk_units next })).begun ≡ h.begun
         went_chunk_same h true = refl

@@ -19,17 +19,17 @@ pub use Rattle.heap_reading.specs.below.heap_tree.{TaskNode, state_of}
 pub use Rattle.heap_reading.specs.below.hh_lang.{ProgramText}
 pub use Rattle.heap_reading.specs.below.hh_model.{Name, MachineState, object_at, asked, can_step, is_running, is_waiting, step}
 pub use Rattle.heap_reading.specs.below.journal_laws.{begins}
-pub use Rattle.heap_reading.specs.below.leaf_heap.{counted}
+pub use Rattle.heap_reading.specs.below.leaf_heap.{saturating_words}
 pub use Rattle.heap_reading.specs.below.ledger_step_laws.{aside, rested}
 pub use Rattle.heap_reading.specs.below.object_layout.{held_words}
 pub use Rattle.heap_reading.specs.below.plain_vec.{option_is}
 pub use Rattle.heap_reading.specs.below.refinement.{with_belongings, Belongings, Memory}
-pub use Rattle.heap_reading.specs.below.run_ledger.{Heap, Ledger, Pool, Refused, chunk_words, collected, end_numbers, heap_of, held_in, in_use, is_small, or_fresh, swept_heap, take_of, with_heap, within, words_at, words_in, words_of, words_sum, allocated_in, on_asked, stepped_to, task_step, task_steps, after, after_kind, chunk_units, ends_as, is_fuel, is_out, is_ready, kind_refusal, on_waiting, refusal, refused_unless, with_chunk, is_legal, ledger_of, HoldsOnce, TasksAreOut, LeavesTask, SoundAt, SoundLedger, collecting, opening, lost, held, let_go, Report, report_of, held_not_running}
+pub use Rattle.heap_reading.specs.below.run_ledger.{Heap, Ledger, Pool, Refused, chunk_words, collected, end_numbers, heap_of, held_in, in_use, is_small_size, or_fresh, swept_heap, take_of, with_heap, within, words_at, words_in, object_words_of, words_sum, allocated_in, on_asked, stepped_to, task_step, task_steps, after, after_kind, chunk_units, ends_as, is_fuel, is_out, is_ready, kind_refusal, on_waiting, refusal, refused_unless, with_chunk, is_legal, ledger_of, HoldsOnce, TasksAreOut, LeavesTask, SoundAt, SoundLedger, collecting, opening, lost, held, let_go, Report, report_of, held_not_running}
 pub use Rattle.heap_reading.specs.below.run_trace.{Kind, Took, Ran, Chunk, Begin, End, PutOff, Mark, More, Sweep, Fuel, EntryValue, SettingsValue}
 pub use Rattle.heap_reading.specs.below.task_machine.{Private}
 pub use Rattle.heap_reading.specs.below.task_slots.{ParkedTask}
 pub use Rattle.run_report.proofs.Sums.{legal_few, lost_is, totals_last}
-pub use Rattle.run_report.specs.Totals.{AreFew, cleared_words, entry_totals, joined, no_totals, totals_from}
+pub use Rattle.run_report.specs.Totals.{AreFew, cleared_words, entry_totals, totals_joined, no_totals, totals_from, counted}
 pub use Rattle.run_report.specs.declared.totals.Totals.{Totals}
 pub use Rattle.run_statistics.specs.JournalCounts.{HasWords, IsMade, CountsJournal, begun_with, totals_of}
 pub use Rattle.run_statistics.specs.declared.counting.JournalCounts.{JournalCounts}

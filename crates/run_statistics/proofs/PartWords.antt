@@ -1,5 +1,5 @@
 -- The words of a part's heap are those of the names that the accounts hold for it.
-use Rattle.run_statistics.proofs.Common.{◌≡◌, ℕ, zero, suc, ◌+◌, ◌*◌, ◌^◌, ◌≤◌, arith, List, [], ◌∷◌, ◌++◌, slice_get, sum_by, refl, ap, sym, ◌∙◌, flat_map, sum_by-append, Name, MachineState, object_at, Heap, Ledger, heap_of, held, held_in, in_use, let_go, or_fresh, words_at, words_in, words_of, words_sum, heaps_fit, use_is_bounded, heap_machine, held_words, aside, rested, rested_view, rested_worker, with_belongings, Belongings, Memory, at_belongings, Private, Fits, belongings_of_part, IsSharedValue, SharedValue, accounts, value_of, words_are}
+use Rattle.run_statistics.proofs.Common.{◌≡◌, ℕ, zero, suc, ◌+◌, ◌*◌, ◌^◌, ◌≤◌, arith, List, [], ◌∷◌, ◌++◌, slice_get, sum_by, refl, ap, sym, ◌∙◌, flat_map, sum_by-append, Name, MachineState, object_at, Heap, Ledger, heap_of, held, held_in, in_use, let_go, or_fresh, words_at, words_in, object_words_of, words_sum, heaps_fit, use_is_bounded, heap_machine, held_words, aside, rested, rested_view, rested_worker, with_belongings, Belongings, Memory, at_belongings, Private, Fits, belongings_of_part, IsSharedValue, SharedValue, accounts, value_of, words_are}
 
 -- A HEAP IS SMALL
 heap_least : (g : List Name → ℕ) → ((xs ys : List Name) → g (xs ++ ys) ≡ g xs + g ys) → (heaps : List Heap) (t : ℕ) → g (held_in (or_fresh (slice_get heaps t))) ≤ g (flat_map held_in heaps) + g []
@@ -39,7 +39,7 @@ module _ (w : SharedValue) (k : ℕ) (p : Private) (F : Fits w k (record p { fre
   L = rested (aside l) t
 
   same_words : (ns : List Name) → words_sum L.machine ns ≡ words_sum l.machine ns
-  same_words ns = ap (λ s. sum_by (λ n. words_of (object_at s n)) ns) (ap (λ (m : MachineState). m.store) (heap_machine (aside l) t let_go))
+  same_words ns = ap (λ s. sum_by (λ n. object_words_of (object_at s n)) ns) (ap (λ (m : MachineState). m.store) (heap_machine (aside l) t let_go))
 
   held_is : held_in (heap_of L t) ≡ held_in (heap_of l t)
   held_is = rested_view held_in (λ z. refl) (aside l) t

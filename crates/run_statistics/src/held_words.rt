@@ -2,7 +2,7 @@
 
 ghost use Rattle.std.specs.Prelude.{◌≡◌, ◌<◌, length};
 ghost use Rattle.heap_reading.specs.below.run_ledger.{words_sum, held_not_running};
-ghost use Rattle.heap_reading.specs.below.leaf_heap.{counted};
+ghost use Rattle.heap_reading.specs.below.leaf_heap.{saturating_words};
 ghost use Rattle.heap_reading.specs.below.core_invariant.{accounts};
 ghost use Rattle.heap_reading.specs.HeldNames.{held_unless_running};
 
@@ -12,8 +12,8 @@ use shared_tree::Shared;
 // How many objects are in the heap of a task, and their words, saturating at 64 bits; 0 for a task that runs.
 fn held_of(shared: &Shared, t: u32) -> (u64, u64)
     requires made { t < length shared.now.rests }
-    ensures objects { result.0 ≡ counted (length (held_unless_running (accounts shared.now) t)) }
-    ensures words { result.1 ≡ counted (words_sum (accounts shared.now).machine (held_unless_running (accounts shared.now) t)) }
+    ensures objects { result.0 ≡ saturating_words (length (held_unless_running (accounts shared.now) t)) }
+    ensures words { result.1 ≡ saturating_words (words_sum (accounts shared.now).machine (held_unless_running (accounts shared.now) t)) }
 {
     shared.stands();
     if is_running(shared.tree().state(t)) {
@@ -27,7 +27,7 @@ fn held_of(shared: &Shared, t: u32) -> (u64, u64)
 
 // The words of the heap of a task, saturating at 64 bits, and 0 for one that runs or doesn't exist.
 pub(crate) fn words_held(shared: &Shared, t: u32) -> u64
-    ensures { result ≡ counted (words_sum (accounts shared.now).machine (held_unless_running (accounts shared.now) t)) }
+    ensures { result ≡ saturating_words (words_sum (accounts shared.now).machine (held_unless_running (accounts shared.now) t)) }
 {
     shared.stands();
     if (t as usize) < shared.heaps().task_slots.len() {

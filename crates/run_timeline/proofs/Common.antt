@@ -17,10 +17,10 @@ pub use Rattle.run_journal.specs.declared.replay.ReplayError.{ReplayError}
 pub use Rattle.run_journal.specs.declared.replay.ReplayError.TheVariants.{NoMemory}
 pub use Rattle.run_report.proofs.Sums.{lost_is, accounts_on, refused_on}
 pub use Rattle.run_report.specs.Totals.{cleared_words}
-pub use Rattle.run_timeline.specs.Entries.{slice_name, entry_events, forked, task_begins, slice, begins_and_ends, taken, first_taken, ended, ended_by, joined, chunks_counted, counter, counted, run_ended, words_counted, numbers_of, collection, fork_line, marking, end_name, end_members}
+pub use Rattle.run_timeline.specs.Entries.{slice_name, entry_events, fork_events, task_begins, slice, begins_and_ends, taken, first_taken, task_end_events, end_events, join_events, chunks_counted, counter, counter_events, run_ended, words_counted, numbers_of, collection, fork_line, marking, end_name, end_members}
 pub use Rattle.run_timeline.specs.Events.{process, lane, arrow_begins, arrow_ends, arguments, two_numbers, event, end_time, middle_time, span, one_number}
 pub use Rattle.run_timeline.specs.Laws.{is_slice, slices_of, SlicesAreEntries}
-pub use Rattle.run_timeline.specs.Pieces.{beginning, ending, span_head, head}
+pub use Rattle.run_timeline.specs.Pieces.{beginning, event_ending, span_head, event_head}
 pub use Rattle.run_timeline.specs.Timeline.{events_from, events_of, lanes, timeline}
 pub use Rattle.run_timeline.specs.Words.{WordsFollowEntries, objects_by, objects_made, words_by, words_held, words_made, counts_of}
 pub use Rattle.run_timeline.specs.declared.words.AccountCounts.{AccountCounts}

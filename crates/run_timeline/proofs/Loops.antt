@@ -1,5 +1,5 @@
 -- What is left to be written of a timeline, entry by entry.
-use Rattle.run_timeline.proofs.Common.{◌≡◌, ◌<◌, ◌+◌, ◌==◌, ℕ, suc, false, List, [], ◌∷◌, ◌++◌, length, take, drop, get_or, ap, sym, ◌∙◌, append_assoc, append-nil, arith, ◌-◌, length-append, ◌≢◌, codes, slice_set, Option, flat_map, flat_map-append, take-append_seam, ProgramText, EntryValue, SettingsValue, Ledger, after, RefusedAt, RunEnd, or_short, ReplayError, NoMemory, ReplayFails, cut, quoted, task_name, Json, Word, NoMember, Member, Members, json, further, more_member, more_members, arrays_are_joined, counts_of, process, lane, arrow_begins, arrow_ends, arguments, two_numbers, event, end_time, slice_name, entry_events, forked, task_begins, events_from, events_of, lanes, timeline, beginning, ending, span_head, head}
+use Rattle.run_timeline.proofs.Common.{◌≡◌, ◌<◌, ◌+◌, ◌==◌, ℕ, suc, false, List, [], ◌∷◌, ◌++◌, length, take, drop, get_or, ap, sym, ◌∙◌, append_assoc, append-nil, arith, ◌-◌, length-append, ◌≢◌, codes, slice_set, Option, flat_map, flat_map-append, take-append_seam, ProgramText, EntryValue, SettingsValue, Ledger, after, RefusedAt, RunEnd, or_short, ReplayError, NoMemory, ReplayFails, cut, quoted, task_name, Json, Word, NoMember, Member, Members, json, further, more_member, more_members, arrays_are_joined, counts_of, process, lane, arrow_begins, arrow_ends, arguments, two_numbers, event, end_time, slice_name, entry_events, fork_events, task_begins, events_from, events_of, lanes, timeline, beginning, event_ending, span_head, event_head}
 use Rattle.run_journal.specs.declared.replay.ReplayError.TheVariants.{RefusedAt as FailsAt}
 use Rattle.run_timeline.proofs.Made.{span_made, event_made}
 
@@ -21,13 +21,13 @@ abbrev whole : List ℕ → List ℕ
 whole array = 123 ∷ ((quoted (codes "traceEvents") ++ 58 ∷ (array ++ more_members (Member (codes "displayTimeUnit") (Word (codes "ms")) NoMember))) ++ 125 ∷ []) ++ 10 ∷ []
 
 -- the whole text
-pub timeline_made : (p : ProgramText) (s : SettingsValue) (journal : List EntryValue) → (beginning s.workers ++ flat_map further (events_of p s journal)) ++ ending ≡ timeline p s journal
+pub timeline_made : (p : ProgramText) (s : SettingsValue) (journal : List EntryValue) → (beginning s.workers ++ flat_map further (events_of p s journal)) ++ event_ending ≡ timeline p s journal
 timeline_made p s journal =
     five (json process) (flat_map further (lanes s.workers)) (flat_map further (events_of p s journal))
     ∙ ap (λ x. whole (91 ∷ ((json process ++ x) ++ 93 ∷ []))) (sym (flat_map-append further (lanes s.workers) (events_of p s journal)))
     ∙ ap whole (sym (arrays_are_joined process (lanes s.workers ++ events_of p s journal)))
   where
-    five : (a b c : List ℕ) → ((codes "{\"traceEvents\":[" ++ a ++ b) ++ c) ++ ending ≡ whole (91 ∷ ((a ++ (b ++ c)) ++ 93 ∷ []))
+    five : (a b c : List ℕ) → ((codes "{\"traceEvents\":[" ++ a ++ b) ++ c) ++ event_ending ≡ whole (91 ∷ ((a ++ (b ++ c)) ++ 93 ∷ []))
     five a b c = simp append_assoc
 
 -- one event alone
@@ -53,7 +53,7 @@ two_told v w before now later e f = f ∙ ap (λ x. x ++ further w) e ∙ three 
 
 -- a fork's arrows, where there are other tasks than before
 pub forked_told : (made there n w : ℕ) (before now later : List ℕ) → there ≢ made → now ≡ before ++ further (arrow_begins (codes "fork") made n w) → later ≡ now ++ further (arrow_begins (codes "fork") (made + 1) n w)
-    → later ≡ before ++ flat_map further (forked made there n w)
+    → later ≡ before ++ flat_map further (fork_events made there n w)
 forked_told made there n w before now later ne e f =
     let q : (there == made) ≡ false = grind (arith, ne) in
     rw q (two_told (arrow_begins (codes "fork") made n w) (arrow_begins (codes "fork") (made + 1) n w) before now later e f)
@@ -92,12 +92,12 @@ without_feed bytes j e =
     ∙ take-append_seam j (10 ∷ [])
 
 -- the event of a run's end
-pub end_told : (name kept : List ℕ) (n w : ℕ) (more : Members) (before a b c d e : List ℕ) → kept ≡ name → a ≡ before ++ 44 ∷ 10 ∷ [] → b ≡ a ++ head kept (codes "end") (codes "i") (end_time n) w
+pub end_told : (name kept : List ℕ) (n w : ℕ) (more : Members) (before a b c d e : List ℕ) → kept ≡ name → a ≡ before ++ 44 ∷ 10 ∷ [] → b ≡ a ++ event_head kept (codes "end") (codes "i") (end_time n) w
     → c ≡ b ++ more_member (codes "s") (Word (codes "g")) → d ≡ c ++ more_members more → e ≡ d ++ 125 ∷ []
     → e ≡ before ++ further (event name (codes "end") (codes "i") (end_time n) w (Member (codes "s") (Word (codes "g")) more))
 end_told name kept n w more before a b c d e ek ea eb ec ed ee =
     event_made name (codes "end") (codes "i") (end_time n) w (Member (codes "s") (Word (codes "g")) more) before a b e ea
-    (eb ∙ ap (λ x. a ++ head x (codes "end") (codes "i") (end_time n) w) ek)
+    (eb ∙ ap (λ x. a ++ event_head x (codes "end") (codes "i") (end_time n) w) ek)
     (ee ∙ ap (λ z. z ++ 125 ∷ []) (ed ∙ ap (λ z. z ++ more_members more) ec) ∙ four (44 ∷ []) (58 ∷ []) (125 ∷ []) b (quoted (codes "s")) (quoted (codes "g")) (more_members more))
   where
     four : (y s z b q v m : List ℕ) → ((b ++ (y ++ (q ++ (s ++ v)))) ++ m) ++ z ≡ b ++ ((y ++ (q ++ (s ++ (v ++ m)))) ++ z)

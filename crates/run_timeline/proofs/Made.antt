@@ -1,9 +1,9 @@
 -- How the text of an event is put together.
-use Rattle.run_timeline.proofs.Common.{◌≡◌, ℕ, List, [], ◌∷◌, ◌++◌, ap, sym, ◌∙◌, append_assoc, append-nil, codes, decimal, quoted, Members, Number, Word, NoMember, Member, json, further, first_members, more_members, first_member, more_member, event, arguments, end_time, middle_time, span, arrow_begins, arrow_ends, head, span_head}
+use Rattle.run_timeline.proofs.Common.{◌≡◌, ℕ, List, [], ◌∷◌, ◌++◌, ap, sym, ◌∙◌, append_assoc, append-nil, codes, decimal, quoted, Members, Number, Word, NoMember, Member, json, further, first_members, more_members, first_member, more_member, event, arguments, end_time, middle_time, span, arrow_begins, arrow_ends, event_head, span_head}
 
 -- the members that all events have, and those of its own
 event_text : (name category phase : List ℕ) (time lane : ℕ) (more : Members)
-    → json (event name category phase time lane more) ≡ head name category phase time lane ++ (more_members more ++ 125 ∷ [])
+    → json (event name category phase time lane more) ≡ event_head name category phase time lane ++ (more_members more ++ 125 ∷ [])
 event_text name category phase time lane more =
     flat (123 ∷ []) (58 ∷ []) (44 ∷ []) (125 ∷ [])
     (quoted (codes "name")) (quoted name) (quoted (codes "cat")) (quoted category) (quoted (codes "ph")) (quoted phase) (quoted (codes "ts")) (decimal time)
@@ -16,11 +16,11 @@ event_text name category phase time lane more =
 
 module _ (name category phase : List ℕ) (time lane : ℕ) where
   -- an event behind a comma: its head, and the members of its own
-  pub event_made : (more : Members) (before a b c : List ℕ) → a ≡ before ++ 44 ∷ 10 ∷ [] → b ≡ a ++ head name category phase time lane → c ≡ b ++ (more_members more ++ 125 ∷ [])
+  pub event_made : (more : Members) (before a b c : List ℕ) → a ≡ before ++ 44 ∷ 10 ∷ [] → b ≡ a ++ event_head name category phase time lane → c ≡ b ++ (more_members more ++ 125 ∷ [])
       → c ≡ before ++ further (event name category phase time lane more)
   event_made more before a b c ea eb ec =
-      ec ∙ ap (λ x. x ++ (more_members more ++ 125 ∷ [])) (eb ∙ ap (λ x. x ++ head name category phase time lane) ea)
-      ∙ four before (head name category phase time lane) (more_members more ++ 125 ∷ [])
+      ec ∙ ap (λ x. x ++ (more_members more ++ 125 ∷ [])) (eb ∙ ap (λ x. x ++ event_head name category phase time lane) ea)
+      ∙ four before (event_head name category phase time lane) (more_members more ++ 125 ∷ [])
       ∙ ap (λ x. before ++ 44 ∷ 10 ∷ x) (sym (event_text name category phase time lane more))
     where
       four : (z a b : List ℕ) → ((z ++ 44 ∷ 10 ∷ []) ++ a) ++ b ≡ z ++ 44 ∷ 10 ∷ (a ++ b)
@@ -56,11 +56,11 @@ word_made x w before a b c ea eb ec =
     three o s y z b r p d = simp (append_assoc, append-nil)
 
 -- an event with no comma in front
-pub first_made : (name category phase : List ℕ) (time lane : ℕ) (more : Members) (before a b : List ℕ) → a ≡ before ++ head name category phase time lane → b ≡ a ++ (more_members more ++ 125 ∷ [])
+pub first_made : (name category phase : List ℕ) (time lane : ℕ) (more : Members) (before a b : List ℕ) → a ≡ before ++ event_head name category phase time lane → b ≡ a ++ (more_members more ++ 125 ∷ [])
     → b ≡ before ++ json (event name category phase time lane more)
 first_made name category phase time lane more before a b ea eb =
     eb ∙ ap (λ z. z ++ (more_members more ++ 125 ∷ [])) ea
-    ∙ append_assoc before (head name category phase time lane) (more_members more ++ 125 ∷ [])
+    ∙ append_assoc before (event_head name category phase time lane) (more_members more ++ 125 ∷ [])
     ∙ ap (λ z. before ++ z) (sym (event_text name category phase time lane more))
 
 -- a span: its head with its number, and the members of its own
@@ -68,21 +68,21 @@ pub span_made : (phase name category : List ℕ) (id n lane : ℕ) (more : Membe
     → b ≡ before ++ further (span phase name category id n lane more)
 span_made phase name category id n lane more before a b ea eb =
     eb ∙ ap (λ z. z ++ (more_members more ++ 125 ∷ [])) ea
-    ∙ four before (head name category phase (end_time n) lane) (quoted (codes "id")) (decimal id) (more_members more)
+    ∙ four before (event_head name category phase (end_time n) lane) (quoted (codes "id")) (decimal id) (more_members more)
     ∙ ap (λ z. before ++ 44 ∷ 10 ∷ z) (sym (event_text name category phase (end_time n) lane (Member (codes "id") (Number id) more)))
   where
     four : (z h a d m : List ℕ) → (z ++ 44 ∷ 10 ∷ (h ++ 44 ∷ (a ++ 58 ∷ d))) ++ (m ++ 125 ∷ []) ≡ z ++ 44 ∷ 10 ∷ (h ++ (44 ∷ (a ++ 58 ∷ (d ++ m)) ++ 125 ∷ []))
     four z h a d m = simp append_assoc
 
 -- where an arrow begins
-pub begins_made : (name : List ℕ) (id n lane : ℕ) (before a b c d : List ℕ) → a ≡ before ++ 44 ∷ 10 ∷ [] → b ≡ a ++ head name name (codes "s") (middle_time n) lane → c ≡ b ++ more_member (codes "id") (Number id)
+pub begins_made : (name : List ℕ) (id n lane : ℕ) (before a b c d : List ℕ) → a ≡ before ++ 44 ∷ 10 ∷ [] → b ≡ a ++ event_head name name (codes "s") (middle_time n) lane → c ≡ b ++ more_member (codes "id") (Number id)
     → d ≡ c ++ 125 ∷ [] → d ≡ before ++ further (arrow_begins name id n lane)
 begins_made name id n lane before a b c d ea eb ec ed =
     event_made name name (codes "s") (middle_time n) lane (Member (codes "id") (Number id) NoMember) before a b d ea eb
     (numbered (codes "id") id b c d ec ed)
 
 -- where an arrow ends
-pub ends_made : (name : List ℕ) (id n lane : ℕ) (before a b c d e : List ℕ) → a ≡ before ++ 44 ∷ 10 ∷ [] → b ≡ a ++ head name name (codes "f") (middle_time n) lane → c ≡ b ++ more_member (codes "id") (Number id)
+pub ends_made : (name : List ℕ) (id n lane : ℕ) (before a b c d e : List ℕ) → a ≡ before ++ 44 ∷ 10 ∷ [] → b ≡ a ++ event_head name name (codes "f") (middle_time n) lane → c ≡ b ++ more_member (codes "id") (Number id)
     → d ≡ c ++ more_member (codes "bp") (Word (codes "e")) → e ≡ d ++ 125 ∷ [] → e ≡ before ++ further (arrow_ends name id n lane)
 ends_made name id n lane before a b c d e ea eb ec ed ee =
     event_made name name (codes "f") (middle_time n) lane (Member (codes "id") (Number id) (Member (codes "bp") (Word (codes "e")) NoMember)) before a b e ea eb

@@ -1,5 +1,5 @@
 -- Each entry is one slice.
-use Rattle.run_timeline.proofs.Common.{◌≡◌, ◌+◌, ◌==◌, ℕ, zero, suc, Bool, cond, true, false, List, [], ◌∷◌, ◌++◌, length, refl, ap, ◌∙◌, arith, Option, Some, None, codes, slice_get, take, filter, filter-append, ProgramText, TaskStatus, Running, Waiting, Ended, Joined, Task, MachineState, Kind, Took, Ran, Chunk, Begin, End, PutOff, Mark, More, Sweep, Fuel, EntryValue, SettingsValue, RunEnd, Ledger, in_use, after, after_all, opening, Json, AccountCounts, counts_of, words_held, arrow_begins, arrow_ends, slice, slice_name, begins_and_ends, taken, first_taken, forked, ended, ended_by, joined, chunks_counted, counter, counted, run_ended, words_counted, entry_events, events_from, events_of, is_slice, slices_of, SlicesAreEntries}
+use Rattle.run_timeline.proofs.Common.{◌≡◌, ◌+◌, ◌==◌, ℕ, zero, suc, Bool, cond, true, false, List, [], ◌∷◌, ◌++◌, length, refl, ap, ◌∙◌, arith, Option, Some, None, codes, slice_get, take, filter, filter-append, ProgramText, TaskStatus, Running, Waiting, Ended, Joined, Task, MachineState, Kind, Took, Ran, Chunk, Begin, End, PutOff, Mark, More, Sweep, Fuel, EntryValue, SettingsValue, RunEnd, Ledger, in_use, after, after_all, opening, Json, AccountCounts, counts_of, words_held, arrow_begins, arrow_ends, slice, slice_name, begins_and_ends, taken, first_taken, fork_events, task_end_events, end_events, join_events, chunks_counted, counter, counter_events, run_ended, words_counted, entry_events, events_from, events_of, is_slice, slices_of, SlicesAreEntries}
 
 abbrev slices : List Json → List Json
 slices = filter is_slice
@@ -29,32 +29,32 @@ module _ (p : ProgramText) (m : MachineState) (t n w : ℕ) where
   none_taken None = refl
   none_taken (Some x) = first_by (x.joins == 0) x.parent
 
-none_forked : (made now n w : ℕ) → slices (forked made now n w) ≡ []
+none_forked : (made now n w : ℕ) → slices (fork_events made now n w) ≡ []
 none_forked made now n w = none_forked_by_cases (now == made)
   where
     none_forked_by_cases : (b : Bool) → slices (cond b [] (arrow_begins (codes "fork") made n w ∷ (arrow_begins (codes "fork") (made + 1) n w ∷ []))) ≡ []
     none_forked_by_cases true = refl
     none_forked_by_cases false = refl
 
-none_joined : (n w : ℕ) (q : Option ℕ) → slices (joined n w q) ≡ []
+none_joined : (n w : ℕ) (q : Option ℕ) → slices (join_events n w q) ≡ []
 none_joined n w None = refl
 none_joined n w (Some q) = refl
 
-none_by : (t n w : ℕ) (q : Option ℕ) (s : TaskStatus) → slices (ended_by t n w q s) ≡ []
+none_by : (t n w : ℕ) (q : Option ℕ) (s : TaskStatus) → slices (end_events t n w q s) ≡ []
 none_by t n w q Running = refl
 none_by t n w q Waiting = refl
 none_by t n w q (Ended k name) = refl
 none_by t n w q Joined = none_joined n w q
 
-none_ended : (t n w : ℕ) (o : Option Task) → slices (ended t n w o) ≡ []
+none_ended : (t n w : ℕ) (o : Option Task) → slices (task_end_events t n w o) ≡ []
 none_ended t n w None = refl
 none_ended t n w (Some x) = none_by t n w x.parent x.status
 
 none_told : (p : ProgramText) (made : ℕ) (m : MachineState) (n w : ℕ) (k : Kind) → slices (begins_and_ends p made m n w k) ≡ []
 none_told p made m n w (Took t) = none_taken p m t n w (slice_get m.tasks t)
 none_told p made m n w (Ran t k) =
-    filter-append is_slice (forked made (length m.tasks) n w) (ended t n w (slice_get m.tasks t))
-    ∙ both (slices (forked made (length m.tasks) n w)) (slices (ended t n w (slice_get m.tasks t))) (none_forked made (length m.tasks) n w) (none_ended t n w (slice_get m.tasks t))
+    filter-append is_slice (fork_events made (length m.tasks) n w) (task_end_events t n w (slice_get m.tasks t))
+    ∙ both (slices (fork_events made (length m.tasks) n w)) (slices (task_end_events t n w (slice_get m.tasks t))) (none_forked made (length m.tasks) n w) (none_ended t n w (slice_get m.tasks t))
 none_told p made m n w (Chunk t) = refl
 none_told p made m n w (Begin t) = refl
 none_told p made m n w (End t taken given left) = refl
@@ -64,7 +64,7 @@ none_told p made m n w (More t k) = refl
 none_told p made m n w (Sweep t given) = refl
 none_told p made m n w Fuel = refl
 
-none_counted : (name unit : List ℕ) (before now n : ℕ) → slices (counted name unit before now n) ≡ []
+none_counted : (name unit : List ℕ) (before now n : ℕ) → slices (counter_events name unit before now n) ≡ []
 none_counted name unit before now n = none_counted_by_cases (now == before)
   where
     none_counted_by_cases : (b : Bool) → slices (cond b [] (counter name unit now n ∷ [])) ≡ []

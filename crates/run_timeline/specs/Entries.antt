@@ -37,13 +37,13 @@ numbers_of (Sweep t given) = of_task t (one_number (codes "given") given)
 numbers_of Fuel = NoMember
 
 -- the function that a task is in, and the line of its next step
-abbrev pub place_of : ProgramText → Option Task → List ℕ
-place_of p None = []
-place_of p (Some x) = 32 ∷ (function_name p x.top.function ++ 58 ∷ decimal (next_line p (Some x)))
+abbrev pub task_place : ProgramText → Option Task → List ℕ
+task_place p None = []
+task_place p (Some x) = 32 ∷ (function_name p x.top.function ++ 58 ∷ decimal (next_line p (Some x)))
 
 -- steps begin where their task stands in front of them
 abbrev pub begins_at : ProgramText → MachineState → Kind → List ℕ
-begins_at p m (Ran t k) = place_of p (slice_get m.tasks t)
+begins_at p m (Ran t k) = task_place p (slice_get m.tasks t)
 begins_at p m _ = []
 
 -- the name of an entry in front of which the machine is this: its kind, and where its steps begin
@@ -83,22 +83,22 @@ taken p m t n w None = []
 taken p m t n w (Some x) = if x.joins == 0 then first_taken p m t n w x.parent else arrow_ends (codes "join") t n w ∷ []
 
 -- where there are more tasks than were made before, two are forked
-abbrev pub forked : ℕ → ℕ → ℕ → ℕ → List Json
-forked made now n w = if now == made then [] else arrow_begins (codes "fork") made n w ∷ (arrow_begins (codes "fork") (made + 1) n w ∷ [])
+abbrev pub fork_events : ℕ → ℕ → ℕ → ℕ → List Json
+fork_events made now n w = if now == made then [] else arrow_begins (codes "fork") made n w ∷ (arrow_begins (codes "fork") (made + 1) n w ∷ [])
 
-abbrev pub joined : ℕ → ℕ → Option ℕ → List Json
-joined n w None = []
-joined n w (Some q) = arrow_begins (codes "join") q n w ∷ []
+abbrev pub join_events : ℕ → ℕ → Option ℕ → List Json
+join_events n w None = []
+join_events n w (Some q) = arrow_begins (codes "join") q n w ∷ []
 
 -- a task ends, alone or as the later one of two that join
-abbrev pub ended_by : ℕ → ℕ → ℕ → Option ℕ → TaskStatus → List Json
-ended_by t n w parent (Ended k name) = task_ends t n w ∷ []
-ended_by t n w parent Joined = task_ends t n w ∷ joined n w parent
-ended_by t n w parent _ = []
+abbrev pub end_events : ℕ → ℕ → ℕ → Option ℕ → TaskStatus → List Json
+end_events t n w parent (Ended k name) = task_ends t n w ∷ []
+end_events t n w parent Joined = task_ends t n w ∷ join_events n w parent
+end_events t n w parent _ = []
 
-abbrev pub ended : ℕ → ℕ → ℕ → Option Task → List Json
-ended t n w None = []
-ended t n w (Some x) = ended_by t n w x.parent x.status
+abbrev pub task_end_events : ℕ → ℕ → ℕ → Option Task → List Json
+task_end_events t n w None = []
+task_end_events t n w (Some x) = end_events t n w x.parent x.status
 
 -- COLLECTIONS
 
@@ -111,7 +111,7 @@ marking phase t n w = span phase (codes "marking") (codes "inner") t n w NoMembe
 -- what begins and ends with an entry, in front of which so many tasks were made, and behind which the machine is this
 abbrev pub begins_and_ends : ProgramText → ℕ → MachineState → ℕ → ℕ → Kind → List Json
 begins_and_ends p made m n w (Took t) = taken p m t n w (slice_get m.tasks t)
-begins_and_ends p made m n w (Ran t k) = forked made (length m.tasks) n w ++ ended t n w (slice_get m.tasks t)
+begins_and_ends p made m n w (Ran t k) = fork_events made (length m.tasks) n w ++ task_end_events t n w (slice_get m.tasks t)
 begins_and_ends p made m n w (Begin t) = collection (codes "b") t n w ∷ []
 begins_and_ends p made m n w (End t taken given left) = collection (codes "e") t n w ∷ []
 begins_and_ends p made m n w (Mark t) = marking (codes "b") t n w ∷ []
@@ -125,14 +125,14 @@ abbrev pub counter : List ℕ → List ℕ → ℕ → ℕ → Json
 counter name unit now n = event name (codes "pool") (codes "C") (end_time n) 0 (arguments (one_number unit now))
 
 -- it is told where it became another
-abbrev pub counted : List ℕ → List ℕ → ℕ → ℕ → ℕ → List Json
-counted name unit before now n = if now == before then [] else counter name unit now n ∷ []
+abbrev pub counter_events : List ℕ → List ℕ → ℕ → ℕ → ℕ → List Json
+counter_events name unit before now n = if now == before then [] else counter name unit now n ∷ []
 
 abbrev pub chunks_counted : ℕ → ℕ → ℕ → List Json
-chunks_counted = counted (codes "chunks in use") (codes "chunks")
+chunks_counted = counter_events (codes "chunks in use") (codes "chunks")
 
 abbrev pub words_counted : ℕ → ℕ → ℕ → List Json
-words_counted = counted (codes "words held") (codes "words")
+words_counted = counter_events (codes "words held") (codes "words")
 
 -- THE END
 

@@ -2,7 +2,7 @@
 
 ghost use Rattle.std.specs.Prelude.{◌≡◌, ◌++◌, OnOk, IfOk, option_copied};
 ghost use Rattle.json_text.specs.Json.{first_members, further, Number, Member, NoMember};
-ghost use Rattle.run_timeline.specs.Entries.{place_of, begins_at, slice_name, numbers_of, of_task, slice};
+ghost use Rattle.run_timeline.specs.Entries.{task_place, begins_at, slice_name, numbers_of, of_task, slice};
 
 use crate::events::{add_comma, begin_arguments, begin_event, end_arguments};
 use crate::tasks::next_line;
@@ -18,7 +18,7 @@ fn add_place(
     program: &Program,
     task: Option<&Task>,
 ) -> Result<(), AllocError>
-    ensures { OnOk result (name.new.items ≡ name.old.items ++ place_of program.now (option_copied task.entry)) }
+    ensures { OnOk result (name.new.items ≡ name.old.items ++ task_place program.now (option_copied task.entry)) }
 {
     let line = next_line(program, task);
     let Some(task) = task else {

@@ -3,7 +3,7 @@
 ghost use Rattle.std.specs.Prelude.{◌≡◌, ◌<◌, ◌∷◌, ◌++◌, [], codes, OnOk};
 ghost use Rattle.json_text.specs.Json.{json, further, NoMember};
 ghost use Rattle.run_timeline.specs.Events.{span, arrow_begins, arrow_ends, process, lane};
-ghost use Rattle.run_timeline.specs.Pieces.{head, span_head};
+ghost use Rattle.run_timeline.specs.Pieces.{event_head, span_head};
 
 use json_text::{first_word, more_number, more_word};
 use std::alloc::{AllocError, Global};
@@ -18,7 +18,7 @@ pub(crate) fn begin_event(
     time: u64,
     lane: u32,
 ) -> Result<(), AllocError>
-    ensures { OnOk result (text.new.items ≡ text.old.items ++ head name.now category.now phase.now time lane) }
+    ensures { OnOk result (text.new.items ≡ text.old.items ++ event_head name.now category.now phase.now time lane) }
 {
     text.push(b'{')?;
     first_word(text, b"name", name)?;

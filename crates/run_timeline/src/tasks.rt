@@ -5,7 +5,7 @@ ghost use Rattle.std.specs.List.{flat_map};
 ghost use Rattle.json_text.specs.Json.{further, more_members};
 ghost use Rattle.run_timeline.specs.Events.{arguments, two_numbers};
 ghost use Rattle.json_text.specs.below.quoted_text.{task_name};
-ghost use Rattle.run_timeline.specs.Entries.{task_ends, number_of, fork_line, next_line, first_taken, taken, forked, joined, ended, collection, marking, begins_and_ends, counter, counted, end_members, run_end, run_ended};
+ghost use Rattle.run_timeline.specs.Entries.{task_ends, number_of, fork_line, next_line, first_taken, taken, fork_events, join_events, task_end_events, collection, marking, begins_and_ends, counter, counter_events, end_members, run_end, run_ended};
 
 use crate::events::{
     add_comma, add_span, begin_arguments, begin_arrow, begin_event, begin_span, end_arguments,
@@ -141,7 +141,7 @@ fn add_forked(
 ) -> Result<(), AllocError>
     requires few { made + 1 < 2 ^ 64 }
     requires first { 0 < number }
-    ensures { OnOk result (text.new.items ≡ text.old.items ++ flat_map further (forked made now number worker)) }
+    ensures { OnOk result (text.new.items ≡ text.old.items ++ flat_map further (fork_events made now number worker)) }
 {
     if now == made {
         return Ok(());
@@ -159,7 +159,7 @@ fn add_joined(
     parent: Option<u32>,
 ) -> Result<(), AllocError>
     requires { 0 < number }
-    ensures { OnOk result (text.new.items ≡ text.old.items ++ flat_map further (joined number worker parent)) }
+    ensures { OnOk result (text.new.items ≡ text.old.items ++ flat_map further (join_events number worker parent)) }
 {
     match parent {
         None => Ok(()),
@@ -200,7 +200,7 @@ fn add_ended(
     at: Option<&Task>,
 ) -> Result<(), AllocError>
     requires { 0 < number }
-    ensures { OnOk result (text.new.items ≡ text.old.items ++ flat_map further (ended task number worker (option_copied at.entry))) }
+    ensures { OnOk result (text.new.items ≡ text.old.items ++ flat_map further (task_end_events task number worker (option_copied at.entry))) }
 {
     let Some(at) = at else {
         return Ok(());
@@ -227,7 +227,7 @@ fn add_ran(
 ) -> Result<(), AllocError>
     requires few { made + 1 < 2 ^ 64 }
     requires first { 0 < number }
-    ensures { OnOk result (text.new.items ≡ text.old.items ++ flat_map further (forked made (length state.now.tasks) number worker ++ ended task number worker (slice_get state.now.tasks task))) }
+    ensures { OnOk result (text.new.items ≡ text.old.items ++ flat_map further (fork_events made (length state.now.tasks) number worker ++ task_end_events task number worker (slice_get state.now.tasks task))) }
 {
     add_forked(alloc, text, made, state.tasks.len() as u64, number, worker)?;
     add_ended(
@@ -340,7 +340,7 @@ pub(crate) fn add_counted(
     now: u64,
     number: u32,
 ) -> Result<(), AllocError>
-    ensures { OnOk result (text.new.items ≡ text.old.items ++ flat_map further (counted name.now unit.now before now number)) }
+    ensures { OnOk result (text.new.items ≡ text.old.items ++ flat_map further (counter_events name.now unit.now before now number)) }
 {
     if now == before {
         return Ok(());

@@ -9,7 +9,7 @@ ghost use Rattle.run_journal.specs.Replay.{ReplayFails};
 ghost use Rattle.run_timeline.specs.Words.{counts_of, words_held};
 ghost use Rattle.run_timeline.specs.Entries.{slice_name, entry_events};
 ghost use Rattle.run_timeline.specs.Timeline.{events_of, lanes, timeline};
-ghost use Rattle.run_timeline.specs.Pieces.{beginning, ending};
+ghost use Rattle.run_timeline.specs.Pieces.{beginning, event_ending};
 
 use crate::entry::{add_slice, slice_name};
 use crate::events::{add_lane, add_process};
@@ -204,7 +204,7 @@ fn begin(alloc: Global, workers: u32) -> Result<Vec<u8>, AllocError>
 
 // Ends the text.
 fn end(text: &mut Vec<u8>) -> Result<(), AllocError>
-    ensures { OnOk result (text.new.items ≡ text.old.items ++ ending) }
+    ensures { OnOk result (text.new.items ≡ text.old.items ++ event_ending) }
 {
     text.extend_from_slice(b"],\"displayTimeUnit\":\"ms\"}\n")
 }

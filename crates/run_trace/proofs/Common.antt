@@ -2,7 +2,7 @@
 pub use Rattle.hh_lang.proofs.Tests.{numeral_passes, passed_numeral}
 pub use Rattle.hh_lang.specs.Number.{is_numeral}
 pub use Rattle.run_trace.specs.Entry.{EntryValue, IsEntry, IsKind}
-pub use Rattle.run_trace.specs.Line.{unsigned_number, said_by, spaced, entry_line, numbers_in, kind_of, kind_by, entry_by, said_by_words, kind_name, kind_words}
+pub use Rattle.run_trace.specs.Line.{unsigned_number, trace_line, spaced, entry_line, numbers_in, kind_of_words, kind_by, entry_by, said_by_words, kind_name, kind_words}
 pub use Rattle.run_trace.specs.Settings.{version_number}
 pub use Rattle.run_trace.specs.Trace.{version_of, version_of_words, first_bad, entries_in, fault_in, trace_fault, AreTraceLines, IsTraceText, trace_text, version_line}
 pub use Rattle.run_trace.specs.TraceLaw.{TextsAreReadAgain}

@@ -1,5 +1,5 @@
 -- A trace text, read again, gives the journal for which it was written.
-use Rattle.run_trace.proofs.Common.{◌≡◌, ◌<◌, ◌^◌, ◌+◌, ℕ, List, [], ◌∷◌, arith, refl, ap, sym, subst, ◌∙◌, Some, None, codes, All, flat_map, decimal, decimal_digit, is_utf8-from_IsUtf8, IsUtf8-nil, All-head, All-tail, lines_of, Version, One, Two, Nothing, Trace, EntryValue, IsEntry, version_number, said_by, spaced, entry_line, version_of, version_of_words, first_bad, entries_in, fault_in, trace_fault, AreTraceLines, IsTraceText, trace_text, TextsAreReadAgain}
+use Rattle.run_trace.proofs.Common.{◌≡◌, ◌<◌, ◌^◌, ◌+◌, ℕ, List, [], ◌∷◌, arith, refl, ap, sym, subst, ◌∙◌, Some, None, codes, All, flat_map, decimal, decimal_digit, is_utf8-from_IsUtf8, IsUtf8-nil, All-head, All-tail, lines_of, Version, One, Two, Nothing, Trace, EntryValue, IsEntry, version_number, trace_line, spaced, entry_line, version_of, version_of_words, first_bad, entries_in, fault_in, trace_fault, AreTraceLines, IsTraceText, trace_text, TextsAreReadAgain}
 use Rattle.run_trace.proofs.Words.{AreProper, words_spaced, line_first, decimal_is_proper}
 use Rattle.run_trace.proofs.TraceLine.{entry_words, entry_is_proper, entry_again, spaced_utf8}
 
@@ -17,7 +17,7 @@ lines_are (e ∷ es) h =
     ∙ ap (λ ls. spaced (entry_words e) ∷ ls) (lines_are es (All-tail IsEntry e es h))
 
 -- an empty line has no entry
-empty_says : said_by [] ≡ Nothing
+empty_says : trace_line [] ≡ Nothing
 empty_says = rw (is_utf8-from_IsUtf8 [] IsUtf8-nil) refl
 
 no_bad : (n : ℕ) (es : List EntryValue) → All IsEntry es → first_bad n (lines_for es) ≡ None

@@ -1,5 +1,5 @@
 -- An entry's line, read again, gives that entry.
-use Rattle.run_trace.proofs.Common.{◌≡◌, ◌<◌, ◌≤◌, ◌^◌, ℕ, true, List, [], ◌∷◌, arith, refl, ap, sym, ◌∙◌, Some, codes, nat_le, nat_lt, ◌&&◌, decimal, is_utf8, All, AllByRecursion, decimal_is_IsNumeral, All-nil, All-from_recursion, All-append, is_utf8-from_IsUtf8, IsUtf8-from_ascii, IsAscii-from_all, Kind, Took, Ran, Chunk, Begin, End, PutOff, Mark, More, Sweep, Fuel, Says, EntryValue, IsEntry, IsKind, unsigned_number, numbers_in, kind_of, kind_by, entry_by, said_by_words, said_by, kind_name, kind_words, spaced}
+use Rattle.run_trace.proofs.Common.{◌≡◌, ◌<◌, ◌≤◌, ◌^◌, ℕ, true, List, [], ◌∷◌, arith, refl, ap, sym, ◌∙◌, Some, codes, nat_le, nat_lt, ◌&&◌, decimal, is_utf8, All, AllByRecursion, decimal_is_IsNumeral, All-nil, All-from_recursion, All-append, is_utf8-from_IsUtf8, IsUtf8-from_ascii, IsAscii-from_all, Kind, Took, Ran, Chunk, Begin, End, PutOff, Mark, More, Sweep, Fuel, Says, EntryValue, IsEntry, IsKind, unsigned_number, numbers_in, kind_of_words, kind_by, entry_by, said_by_words, trace_line, kind_name, kind_words, spaced}
 use Rattle.run_trace.proofs.Numbers.{as_option}
 use Rattle.run_trace.proofs.Words.{ArePlain, AreProper, decimal_is_proper, words_spaced}
 
@@ -93,10 +93,10 @@ kind_words_are (More t n) = refl
 kind_words_are (Sweep t given) = refl
 kind_words_are Fuel = refl
 
-steps_within : (t k : ℕ) → 1 ≤ k → k ≤ 257 → kind_of (codes "ran") (t ∷ k ∷ []) ≡ Some (Ran t k)
+steps_within : (t k : ℕ) → 1 ≤ k → k ≤ 257 → kind_of_words (codes "ran") (t ∷ k ∷ []) ≡ Some (Ran t k)
 steps_within t k low high = let e : (nat_le 1 k && nat_le k 257) ≡ true = grind (arith, low, high) in rw e refl
 
-marks_within : (t n : ℕ) → 1 ≤ n → n ≤ 1024 → kind_of (codes "some") (t ∷ n ∷ []) ≡ Some (More t n)
+marks_within : (t n : ℕ) → 1 ≤ n → n ≤ 1024 → kind_of_words (codes "some") (t ∷ n ∷ []) ≡ Some (More t n)
 marks_within t n low high = let e : (nat_le 1 n && nat_le n 1024) ≡ true = grind (arith, low, high) in rw e refl
 
 kind_again : (kind : Kind) → IsKind kind → kind_by (kind_name kind) (numbers_in (operands_of kind)) ≡ Some kind
@@ -120,7 +120,7 @@ words_again e h =
     rw (number_again e.worker (worker_word e.worker h.0), kind_again e.kind h.1)
     (worker_within e.worker e.kind h.0)
 
-pub entry_again : (e : EntryValue) → IsEntry e → said_by (spaced (entry_words e)) ≡ Says e
+pub entry_again : (e : EntryValue) → IsEntry e → trace_line (spaced (entry_words e)) ≡ Says e
 entry_again e h =
     rw (spaced_utf8 (entry_words e) (entry_is_proper e h))
     (ap said_by_words (words_spaced (entry_words e) (entry_is_proper e h)) ∙ words_again e h)

@@ -47,16 +47,16 @@ kind_of_count verb t n =
     else where_said verb (codes "sweep") (Sweep t n) None
 
 -- the entry of a word and the numbers after it
-abbrev pub kind_of : List ℕ → List ℕ → Option Kind
-kind_of verb [] = where_said verb (codes "fuel") Fuel None
-kind_of verb (t ∷ []) = kind_of_task verb t
-kind_of verb (t ∷ n ∷ []) = kind_of_count verb t n
-kind_of verb (t ∷ taken ∷ given ∷ left ∷ []) = where_said verb (codes "end") (End t taken given left) None
-kind_of verb _ = None
+abbrev pub kind_of_words : List ℕ → List ℕ → Option Kind
+kind_of_words verb [] = where_said verb (codes "fuel") Fuel None
+kind_of_words verb (t ∷ []) = kind_of_task verb t
+kind_of_words verb (t ∷ n ∷ []) = kind_of_count verb t n
+kind_of_words verb (t ∷ taken ∷ given ∷ left ∷ []) = where_said verb (codes "end") (End t taken given left) None
+kind_of_words verb _ = None
 
 abbrev pub kind_by : List ℕ → Option (List ℕ) → Option Kind
 kind_by verb None = None
-kind_by verb (Some ns) = kind_of verb ns
+kind_by verb (Some ns) = kind_of_words verb ns
 
 abbrev pub entry_by : Option ℕ → Option Kind → TraceLine
 entry_by (Some w) (Some kind) = if nat_lt w worker_limit then Says (record { worker = w; kind = kind }) else Wrong
@@ -69,8 +69,8 @@ said_by_words (w ∷ []) = Wrong
 said_by_words (w ∷ verb ∷ ws) = entry_by (unsigned_number w) (kind_by verb (numbers_in ws))
 
 -- the meaning of a line
-abbrev pub said_by : List ℕ → TraceLine
-said_by l = if is_utf8 l then said_by_words (words_of l) else Wrong
+abbrev pub trace_line : List ℕ → TraceLine
+trace_line l = if is_utf8 l then said_by_words (words_of l) else Wrong
 
 -- WRITING
 

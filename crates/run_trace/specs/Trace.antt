@@ -13,7 +13,7 @@ use Rattle.run_trace.specs.declared.trace.TraceError.{TraceError}
 use Rattle.run_trace.specs.declared.trace.TraceError.TheVariants.{BadLine, NoMemory}
 use Rattle.run_trace.specs.Entry.{EntryValue}
 use Rattle.run_trace.specs.Settings.{version_number}
-use Rattle.run_trace.specs.Line.{said_by, entry_line, line as line_with}
+use Rattle.run_trace.specs.Line.{trace_line, entry_line, line as line_with}
 
 -- READING
 
@@ -37,7 +37,7 @@ or_bad n (Says e) later = later
 -- the number of the first line that is no entry, if the first line has the number n
 abbrev pub first_bad : ℕ → List (List ℕ) → Option ℕ
 first_bad n [] = None
-first_bad n (line ∷ lines) = or_bad n (said_by line) (first_bad (n + 1) lines)
+first_bad n (line ∷ lines) = or_bad n (trace_line line) (first_bad (n + 1) lines)
 
 abbrev pub onto_entries : TraceLine → List EntryValue → List EntryValue
 onto_entries (Says e) rest = e ∷ rest
@@ -47,15 +47,15 @@ onto_entries Wrong rest = rest
 -- the entries of lines
 abbrev pub entries_in : List (List ℕ) → List EntryValue
 entries_in [] = []
-entries_in (line ∷ lines) = onto_entries (said_by line) (entries_in lines)
+entries_in (line ∷ lines) = onto_entries (trace_line line) (entries_in lines)
 
-abbrev pub fault_by : ℕ → Option Version → List (List ℕ) → Option ℕ
-fault_by n None lines = Some n
-fault_by n (Some v) lines = first_bad (n + 1) lines
+abbrev pub first_faulty_line : ℕ → Option Version → List (List ℕ) → Option ℕ
+first_faulty_line n None lines = Some n
+first_faulty_line n (Some v) lines = first_bad (n + 1) lines
 
 abbrev pub fault_in : ℕ → List (List ℕ) → Option ℕ
 fault_in n [] = Some n
-fault_in n (line ∷ lines) = fault_by n (version_of line) lines
+fault_in n (line ∷ lines) = first_faulty_line n (version_of line) lines
 
 -- the first malformed line, if the text begins on line n
 abbrev pub trace_fault : ℕ → List ℕ → Option ℕ

@@ -2,7 +2,7 @@
 
 ghost use Rattle.std.specs.Prelude.{◌≡◌, ◌++◌, [], OnOk, IfSome};
 ghost use Rattle.run_trace.specs.Entry.{IsKind};
-ghost use Rattle.run_trace.specs.Line.{unsigned_number, numbers_in, kind_of, kind_of_task, kind_of_count, kind_by, entry_by, said_by_words, said_by, spaced, kind_words, entry_line};
+ghost use Rattle.run_trace.specs.Line.{unsigned_number, numbers_in, kind_of_words, kind_of_task, kind_of_count, kind_by, entry_by, said_by_words, trace_line, spaced, kind_words, entry_line};
 ghost use Rattle.text_lines.specs.Lines.{words_of};
 
 use crate::entry::{Entry, Kind, MARK_LIMIT, PRIVATE_LIMIT};
@@ -31,7 +31,7 @@ fn read_number(word: &[u8]) -> Option<u32>
 
 // An entry that names nothing.
 fn read_alone(verb: &[u8]) -> Option<Kind>
-    ensures { result ≡ kind_of verb.now [] }
+    ensures { result ≡ kind_of_words verb.now [] }
 {
     if verb == b"fuel".as_slice() {
         Some(Kind::Fuel)
@@ -134,7 +134,7 @@ fn read_words(line: &[u8]) -> TraceLine
 
 /// The meaning of a line.
 pub(crate) fn read_line(line: &[u8]) -> TraceLine
-    ensures { result ≡ said_by line.now }
+    ensures { result ≡ trace_line line.now }
 {
     match str::from_utf8(line) {
         Ok(_) => read_words(line),

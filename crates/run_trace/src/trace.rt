@@ -1,7 +1,7 @@
 // Trace texts.
 
 ghost use Rattle.std.specs.Prelude.{◌≡◌, ◌≤◌, ◌+◌, length, IfOk, IfErr, None};
-ghost use Rattle.run_trace.specs.Line.{said_by};
+ghost use Rattle.run_trace.specs.Line.{trace_line};
 ghost use Rattle.run_trace.specs.Trace.{version_by, version_of_words, version_of, first_bad, entries_in, trace_fault, IsTraceText, TraceFails, NotesLine};
 ghost use Rattle.run_trace.specs.Trace.{trace_text as text_of};
 ghost use Rattle.text_lines.specs.Lines.{lines_of, words_of, most_bytes};
@@ -85,7 +85,7 @@ pub fn read_version(line: &[u8]) -> Option<Version>
 
 // Appends the entry of a line, if it has one; false if the line is malformed.
 fn note(entries: &mut Listed<Entry>, line: &[u8]) -> Result<bool, AllocError>
-    ensures { IfOk result (NotesLine entries.old entries.new (said_by line.now)) }
+    ensures { IfOk result (NotesLine entries.old entries.new (trace_line line.now)) }
 {
     match read_line(line) {
         TraceLine::Nothing => Ok(true),

@@ -1,5 +1,5 @@
 -- Which field an access is of: one that the instruction reaches.
-use Rattle.schedule_laws.proofs.Common.{◌≡◌, ℕ, pos, Bool, true, false, cond, Option, Some, None, length, slice_get, slice_set, unwrap_or, refl, ap, sym, ◌∙◌, option_flatten, false≢true, same_Some, Instr, Getr, Geti, Putr, Puti, Cas, Line, ProgramText, Name, Object, Frame, Task, Trap, Frozen, Nil, Range, MachineState, Effect, Goes, Prints, Calls, Forks, Returns, Traps, Stops, StepContext, effect, int_in, object_at, onward, or_trap, place_in, put_object, read_effect, ref_in, same_name, unless_frozen, with_int, with_object, precedes, setting, strand_of, NamesAreStoredIn, Field, FieldAccess, access, access_by, access_of, field_at, line_access, refs_in, swap_access, task_access, unless_trap, value_of, field_found, index_of, Reach, Reaches, Writes, fields_of}
+use Rattle.schedule_laws.proofs.Common.{◌≡◌, ℕ, pos, Bool, true, false, cond, Option, Some, None, length, slice_get, slice_set, unwrap_or, refl, ap, sym, ◌∙◌, option_flatten, false≢true, same_Some, Instr, Getr, Geti, Putr, Puti, Cas, Line, ProgramText, Name, Object, Frame, Task, Trap, Frozen, Nil, Range, MachineState, Effect, Goes, Prints, Calls, Forks, Returns, Traps, Stops, StepContext, effect, int_in, object_at, onward, or_trap, place_in, put_object, read_effect, ref_in, same_name, unless_frozen, with_int, with_object, precedes, setting, strand_of, NamesAreStoredIn, Field, FieldAccess, access, access_by, next_access, field_at, line_access, object_references, swap_access, task_access, unless_trap, value_of, field_found, index_of, Reach, Reaches, Writes, fields_of}
 use Rattle.schedule_laws.proofs.StoreSteps.{Acting, in_field}
 
 abbrev pub field_of : Bool → Name → ℕ → Field
@@ -16,7 +16,7 @@ module _ (p : ProgramText) (m : MachineState) (N : NamesAreStoredIn m) (u : ℕ)
   abbrev pub made_by : Instr → Option FieldAccess
   made_by i = unless_trap (effect s f m.store i) (access_by (strand_of u y) line.number f m.store i)
 
-  pub access_is : access_of p m u ≡ made_by line.instr
+  pub access_is : next_access p m u ≡ made_by line.instr
   access_is = ap (λ b. cond b (task_access p m u (slice_get m.tasks u)) None) A.can ∙ (ap (task_access p m u) A.is ∙ ap (line_access m u y) A.next)
 
   -- A FIELD THAT IS REACHED IS ACCESSED
@@ -94,13 +94,13 @@ module _ (p : ProgramText) (m : MachineState) (N : NamesAreStoredIn m) (u : ℕ)
       (cond (same_name (option_flatten (slice_get r.object.refs at)) (ref_in f e)) (Goes (onward (with_int f d (pos 1))) (put_object m.store n (record r.object { refs = slice_set r.object.refs at (ref_in f v) }))) (Goes (onward (with_int f d (pos 0))) m.store))
       (same_name (value_of m.store (field_of b n at)) (ref_in f e)) true (simp (name, is, place, mutable) refl) (swaps_to (same_name (option_flatten (slice_get r.object.refs at)) (ref_in f e)) (Goes (onward (with_int f d (pos 1))) (put_object m.store n (record r.object { refs = slice_set r.object.refs at (ref_in f v) }))) (Goes (onward (with_int f d (pos 0))) m.store) (record { strand = strand_of u y; line = line.number; field = field_of b n at; writes = same_name (value_of m.store (field_of b n at)) (ref_in f e); swaps = true }) refl refl)
       (ap (swap_access (strand_of u y) line.number m.store (ref_in f e)) (named b o k false true n at r))
-      (λ w. ap (λ q. same_name (option_flatten (slice_get (refs_in q) at)) (ref_in f e)) w.0.is ∙ w.1)
+      (λ w. ap (λ q. same_name (option_flatten (slice_get (object_references q) at)) (ref_in f e)) w.0.is ∙ w.1)
   reached _ b n at r = absurd r
 
-  pub reached_at : (b : Bool) (n : Name) (at : ℕ) → Reaches s f m.store line.instr b n at → (a : FieldAccess) × (access_of p m u ≡ Some a) × (a.field ≡ field_of b n at) × (a.strand ≡ strand_of u y)
+  pub reached_at : (b : Bool) (n : Name) (at : ℕ) → Reaches s f m.store line.instr b n at → (a : FieldAccess) × (next_access p m u ≡ Some a) × (a.field ≡ field_of b n at) × (a.strand ≡ strand_of u y)
   reached_at b n at r = let h = reached line.instr b n at r in (h.access, access_is ∙ h.is, h.field, h.strand)
 
-  pub written_at : (b : Bool) (n : Name) (at : ℕ) → Writes s f m.store line.instr b n at → (a : FieldAccess) × (access_of p m u ≡ Some a) × (a.field ≡ field_of b n at) × (a.writes ≡ true)
+  pub written_at : (b : Bool) (n : Name) (at : ℕ) → Writes s f m.store line.instr b n at → (a : FieldAccess) × (next_access p m u ≡ Some a) × (a.field ≡ field_of b n at) × (a.writes ≡ true)
   written_at b n at w = let h = reached line.instr b n at (reach_of line.instr w) in (h.access, access_is ∙ h.is, h.field, h.writes w)
     where
       reach_of : (i : Instr) → Writes s f m.store i b n at → Reaches s f m.store i b n at
@@ -216,5 +216,5 @@ module _ (p : ProgramText) (m : MachineState) (N : NamesAreStoredIn m) (u : ℕ)
       }
   found_by i a h = absurd (unmade (effect s f m.store i) a h)
 
-  pub found_at : (a : FieldAccess) → access_of p m u ≡ Some a → Found line.instr a
+  pub found_at : (a : FieldAccess) → next_access p m u ≡ Some a → Found line.instr a
   found_at a e = found_by line.instr a (sym access_is ∙ e)

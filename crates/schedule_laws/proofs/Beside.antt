@@ -1,6 +1,6 @@
 -- The next step of a concurrent task sees the same after another task's step, except for the field that the other step
 -- writes.
-use Rattle.schedule_laws.proofs.Common.{◌≡◌, ℕ, suc, Bool, true, false, Some, None, List, [], ◌∷◌, length, slice_get, inl, inr, refl, ap, sym, subst, ◌∙◌, eq-eqb, ne_eqb, length-set, both_ways, cases_eq, eqb-true, In, got_other, Instr, Freeze, ProgramText, Name, Strand, Object, Task, MachineState, Disentangled, StepContext, effect, object_at, row_of, LeavesOwner, precedes, is_on_path, is_running, joined, owner_of, parents, setting, step, strand_of, NamesAreStoredIn, IsForkJoinState, joins_in, waiting, step_limit, leaves_owner, runs_tell, in_registers, names_run, runs_is, not_above, owner_here, FieldAccess, access_of, begun_running, run_keeps, Edit, Edits, Freezes, FreezesBy, Reaches, SetNumber, SetRef, edited, EffectAs, IsSame, SeesSame, effect_as}
+use Rattle.schedule_laws.proofs.Common.{◌≡◌, ℕ, suc, Bool, true, false, Some, None, List, [], ◌∷◌, length, slice_get, inl, inr, refl, ap, sym, subst, ◌∙◌, eq-eqb, ne_eqb, length-set, both_ways, cases_eq, eqb-true, In, got_other, Instr, Freeze, ProgramText, Name, Strand, Object, Task, MachineState, Disentangled, StepContext, effect, object_at, row_of, LeavesOwner, precedes, is_on_path, is_running, joined, owner_of, parents, setting, step, strand_of, NamesAreStoredIn, IsForkJoinState, joins_in, waiting, step_limit, leaves_owner, runs_tell, in_registers, names_run, runs_is, not_above, owner_here, FieldAccess, next_access, begun_running, run_keeps, Edit, Edits, Freezes, FreezesBy, Reaches, SetNumber, SetRef, edited, EffectAs, IsSame, SeesSame, effect_as}
 use Rattle.schedule_laws.proofs.Accessed.{field_of, written_at}
 use Rattle.schedule_laws.proofs.StoreSteps.{GoesBy, held, in_field, object_after}
 
@@ -17,7 +17,7 @@ edit_strand Freezes o = refl
 
 -- the next step of t doesn't write this field
 abbrev pub Leaves : ProgramText → MachineState → ℕ → Bool → Name → ℕ → Type 0
-Leaves p m t b n k = (a : FieldAccess) → access_of p m t ≡ Some a → a.field ≡ field_of b n k → a.writes ≡ true → ⊥
+Leaves p m t b n k = (a : FieldAccess) → next_access p m t ≡ Some a → a.field ≡ field_of b n k → a.writes ≡ true → ⊥
 
 module _ (p : ProgramText) (m : MachineState) (K : IsForkJoinState m) (D : Disentangled m.tasks m.store) (N : NamesAreStoredIn m) (t u : ℕ) (two : t ≡ u → ⊥) (y : Task) (iu : slice_get m.tasks u ≡ Some y) (run_u : is_running (Some y) ≡ true) where
   abbrev m1 : MachineState

@@ -1,5 +1,5 @@
 -- A run that hasn't ended can continue.
-use Rattle.schedule_laws.proofs.Common.{◌≡◌, ℕ, ◌+◌, ◌≤◌, Bool, true, false, cond, Option, Some, None, List, [], ◌∷◌, ◌++◌, slice_get, ◌⊎◌, inl, inr, refl, ap, sym, subst, ◌∙◌, arith, option_map, cases_Bool, In, in_append_left, ProgramText, Edge, End, Done, MachineState, Precedes, can_step, run, run_from, start, step, run_on, run_push, run_is_fork_join_state, step_idle, can_task, FieldAccess, access_of, accesses_from, task_access, with_some, Begun, begun_running, run_keeps, end_to, fork_join_here, EveryRunGoesOn, turns_from}
+use Rattle.schedule_laws.proofs.Common.{◌≡◌, ℕ, ◌+◌, ◌≤◌, Bool, true, false, cond, Option, Some, None, List, [], ◌∷◌, ◌++◌, slice_get, ◌⊎◌, inl, inr, refl, ap, sym, subst, ◌∙◌, arith, option_map, cases_Bool, In, in_append_left, ProgramText, Edge, End, Done, MachineState, Precedes, can_step, run, run_from, start, step, run_on, run_push, run_is_fork_join_state, step_idle, can_task, FieldAccess, next_access, accesses_from, task_access, with_some, Begun, begun_running, run_keeps, end_to, fork_join_here, EveryRunGoesOn, turns_from}
 use Rattle.schedule_laws.proofs.Fronts.{access_strand}
 use Rattle.schedule_laws.proofs.Schedules.{comes, whole}
 use Rattle.schedule_laws.proofs.Splits.{InOrder, from_order, in_some}
@@ -12,7 +12,7 @@ module _ (p : ProgramText) where
   accesses_append : (m : MachineState) (us more : List ℕ) → accesses_from p m (us ++ more) ≡ accesses_from p m us ++ accesses_from p (run_from p m us) more
   accesses_append m [] more = refl
   accesses_append m (u ∷ us) more =
-      ap (with_some (access_of p m u)) (accesses_append (step p m u) us more) ∙ some_append (access_of p m u) (accesses_from p (step p m u) us) (accesses_from p (run_from p (step p m u) us) more)
+      ap (with_some (next_access p m u)) (accesses_append (step p m u) us more) ∙ some_append (next_access p m u) (accesses_from p (step p m u) us) (accesses_from p (run_from p (step p m u) us) more)
 
   turns_append : (m : MachineState) (us more : List ℕ) → turns_from p m (us ++ more) ≡ turns_from p m us + turns_from p (run_from p m us) more
   turns_append m [] more = omega arith
@@ -55,14 +55,14 @@ module _ (p : ProgramText) (limit : ℕ) where
   -- the strand of an access has begun
   begun : (us hs : List ℕ) (b : FieldAccess) → In (accesses_from p (run p limit hs) us) b → Begun (run_from p (run p limit hs) us) b.strand
   begun [] hs b i = absurd i
-  begun (u ∷ us) hs b i = elim (in_some (access_of p (run p limit hs) u) (accesses_from p (step p (run p limit hs) u) us) b i) [
+  begun (u ∷ us) hs b i = elim (in_some (next_access p (run p limit hs) u) (accesses_from p (step p (run p limit hs) u) us) b i) [
     | inr j ↦
         let push : run p limit (hs ++ u ∷ []) ≡ step p (run p limit hs) u = run_push p (start p limit) hs u in
         subst (λ (w : MachineState). Begun (run_from p w us) b.strand) push (begun us (hs ++ u ∷ []) b (subst (λ (w : MachineState). In (accesses_from p w us) b) (sym push) j))
     | inl e ↦ (run_keeps p (run p limit hs) (u ∷ us) (fork_join_here p limit hs)).begun b.strand (first hs u b e (cases_Bool (can_step (run p limit hs) u)))
   ]
     where
-      first : (hs : List ℕ) (u : ℕ) (b : FieldAccess) → access_of p (run p limit hs) u ≡ Some b → (can_step (run p limit hs) u ≡ true) ⊎ (can_step (run p limit hs) u ≡ false) → Begun (run p limit hs) b.strand
+      first : (hs : List ℕ) (u : ℕ) (b : FieldAccess) → next_access p (run p limit hs) u ≡ Some b → (can_step (run p limit hs) u ≡ true) ⊎ (can_step (run p limit hs) u ≡ false) → Begun (run p limit hs) b.strand
       first hs u b e (inl can) =
           let y = can_task (run p limit hs) u can in
           subst (Begun (run p limit hs)) (sym (access_strand p limit hs u can b e)) (begun_running (run p limit hs) u y.0 (record { is = y.1; running = y.2 }))

@@ -1,5 +1,5 @@
 -- Accesses, prints and turns under a renaming.
-use Rattle.schedule_laws.proofs.Common.{◌≡◌, ℕ, ℤ, suc, pos, negsuc, ◌+◌, ◌≤◌, Bool, true, false, cond, Option, Some, None, List, [], ◌∷◌, length, map, slice_get, refl, ap, ap₂, ◌∙◌, arith, option_flatten, option_map, slice_get-map, Instr, Getr, Geti, Putr, Puti, Cas, Line, ProgramText, Name, Strand, Object, Frame, Task, MachineState, Counted, Effect, Goes, Prints, Calls, Forks, Returns, Traps, Stops, effect, int_in, object_at, ref_in, same_name, can_step, fetched, setting, step, strand_of, IsForkJoinState, counted_step, step_is_fork_join_state, Field, FieldAccess, access, access_by, access_of, accesses_from, field_at, line_access, refs_in, swap_access, task_access, unless_trap, value_of, with_some, IsRenaming, frame_to, object_to, ref_to, strand_to, task_to, AreAlike, flat_to, ref_carried, same_carried, can_to, object_there, step_grows, Acts, acts, step_to, access_to, field_to, Print, line_print, print_by, print_of, prints_from, task_print, turns_from}
+use Rattle.schedule_laws.proofs.Common.{◌≡◌, ℕ, ℤ, suc, pos, negsuc, ◌+◌, ◌≤◌, Bool, true, false, cond, Option, Some, None, List, [], ◌∷◌, length, map, slice_get, refl, ap, ap₂, ◌∙◌, arith, option_flatten, option_map, slice_get-map, Instr, Getr, Geti, Putr, Puti, Cas, Line, ProgramText, Name, Strand, Object, Frame, Task, MachineState, Counted, Effect, Goes, Prints, Calls, Forks, Returns, Traps, Stops, effect, int_in, object_at, ref_in, same_name, can_step, fetched, setting, step, strand_of, IsForkJoinState, counted_step, step_is_fork_join_state, Field, FieldAccess, access, access_by, next_access, accesses_from, field_at, line_access, object_references, swap_access, task_access, unless_trap, value_of, with_some, IsRenaming, frame_to, object_to, ref_to, strand_to, task_to, AreAlike, flat_to, ref_carried, same_carried, can_to, object_there, step_grows, Acts, acts, step_to, access_to, field_to, Print, line_print, print_by, print_of, prints_from, task_print, turns_from}
 
 abbrev pub print_to : (ℕ → ℕ) → Print → Print
 print_to f a = record a { strand = strand_to f a.strand }
@@ -17,9 +17,9 @@ module _ (p : ProgramText) (n : ℕ) (f g : ℕ → ℕ) (R : IsRenaming n f g) 
   module _ (m m' : MachineState) (K : IsForkJoinState m) (K' : IsForkJoinState m') (rows : length m.store ≡ length m.tasks) (rows' : length m'.store ≡ length m'.tasks) (made : n ≤ length m.tasks) (A : AreAlike f m m') (t : ℕ) where
     value_there : (field : Field) → value_of m'.store (field_to f field) ≡ ref_to f (value_of m.store field)
     value_there field =
-        ap (λ o. option_flatten (slice_get (refs_in o) field.index)) (object_there n f g R m m' A field.name) ∙ value_there_by_cases (object_at m.store field.name)
+        ap (λ o. option_flatten (slice_get (object_references o) field.index)) (object_there n f g R m m' A field.name) ∙ value_there_by_cases (object_at m.store field.name)
       where
-        value_there_by_cases : (o : Option Object) → option_flatten (slice_get (refs_in (option_map (object_to f) o)) field.index) ≡ ref_to f (option_flatten (slice_get (refs_in o) field.index))
+        value_there_by_cases : (o : Option Object) → option_flatten (slice_get (object_references (option_map (object_to f) o)) field.index) ≡ ref_to f (option_flatten (slice_get (object_references o) field.index))
         value_there_by_cases None = refl
         value_there_by_cases (Some o) = ap option_flatten (slice_get-map (ref_to f) o.refs field.index) ∙ flat_to f g R.back (slice_get o.refs field.index)
 
@@ -78,7 +78,7 @@ module _ (p : ProgramText) (n : ℕ) (f g : ℕ → ℕ) (R : IsRenaming n f g) 
     cond_there h true o o' e = e
     cond_there h false o o' e = refl
 
-    pub access_to_there : access_of p m' (f t) ≡ option_map (access_to f) (access_of p m t)
+    pub access_to_there : next_access p m' (f t) ≡ option_map (access_to f) (next_access p m t)
     access_to_there =
         ap (λ b. cond b (task_access p m' (f t) (slice_get m'.tasks (f t))) None) (can_to n f g R m m' A t)
         ∙ cond_there (access_to f) (can_step m t) (task_access p m t (slice_get m.tasks t)) (task_access p m' (f t) (slice_get m'.tasks (f t))) (ap (task_access p m' (f t)) (A.tasks t) ∙ access_to_there_by_cases (slice_get m.tasks t) refl)
@@ -113,7 +113,7 @@ module _ (p : ProgramText) (n : ℕ) (f g : ℕ → ℕ) (R : IsRenaming n f g) 
       let rest = carried ts (step p m t) (step p m' (f t)) (suc k) (suc k') (step_is_fork_join_state p m t K) (step_is_fork_join_state p m' (f t) K') (counted_step p m t K k I) (counted_step p m' (f t) K' k' I') (omega arith)
       (step_to p n f g R m m' K K' I.rows I'.rows made A t) in
       record {
-        accesses = ap₂ with_some (access_to_there m m' K K' I.rows I'.rows made A t) rest.accesses ∙ some_map (access_to f) (access_of p m t) (accesses_from p (step p m t) ts);
+        accesses = ap₂ with_some (access_to_there m m' K K' I.rows I'.rows made A t) rest.accesses ∙ some_map (access_to f) (next_access p m t) (accesses_from p (step p m t) ts);
         prints = ap₂ with_some (print_to_there m m' K K' I.rows I'.rows made A t) rest.prints ∙ some_map (print_to f) (print_of p m t) (prints_from p (step p m t) ts);
         turns = ap₂ (λ b w. cond b (w + 1) w) (can_to n f g R m m' A t) rest.turns;
       }

@@ -49,7 +49,7 @@ pub use Rattle.plain_vec.proofs.Members.{got_cases, got_front, got_other, got_wi
 pub use Rattle.plain_vec.proofs.Places.{got_none, in_got, in_map}
 pub use Rattle.race_report.proofs.LabelSteps.{begun_running, run_keeps, Begun}
 pub use Rattle.race_report.proofs.Written.{field_found, index_of}
-pub use Rattle.race_report.specs.Accesses.{access, access_by, access_of, field_at, line_access, refs_in, swap_access, task_access, unless_trap, value_of, accesses_from, with_some, accesses, ref_field}
+pub use Rattle.race_report.specs.Accesses.{access, access_by, next_access, field_at, line_access, object_references, swap_access, task_access, unless_trap, value_of, accesses_from, with_some, accesses, ref_field}
 pub use Rattle.race_report.specs.LabelLaw.{Runs}
 pub use Rattle.race_report.specs.StopLaw.{HasNoRace}
 pub use Rattle.race_report.specs.declared.data.Field.{Field}

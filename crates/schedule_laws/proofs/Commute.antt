@@ -1,5 +1,5 @@
 -- Steps of two concurrent tasks commute.
-use Rattle.schedule_laws.proofs.Common.{◌≡◌, ℕ, Bool, true, false, Option, Some, None, List, slice_get, ◌⊎◌, inl, inr, refl, ap, sym, subst, ◌∙◌, set_comm, In, Line, ProgramText, Name, Object, Task, MachineState, effect, can_step, fetched, follow, is_running, run, setting, step, runs_is, can_runs, step_none, step_taken, can_task, FieldAccess, access_of, Change, ChangesBy, Edit, Edits, EditsBy, Freezes, Grows, Same, SetNumber, SetRef, Writes, edited, counted_here, Clash, AreBeside, StepsCommute}
+use Rattle.schedule_laws.proofs.Common.{◌≡◌, ℕ, Bool, true, false, Option, Some, None, List, slice_get, ◌⊎◌, inl, inr, refl, ap, sym, subst, ◌∙◌, set_comm, In, Line, ProgramText, Name, Object, Task, MachineState, effect, can_step, fetched, follow, is_running, run, setting, step, runs_is, can_runs, step_none, step_taken, can_task, FieldAccess, next_access, Change, ChangesBy, Edit, Edits, EditsBy, Freezes, Grows, Same, SetNumber, SetRef, Writes, edited, counted_here, Clash, AreBeside, StepsCommute}
 use Rattle.schedule_laws.proofs.Accessed.{field_of, written_at}
 use Rattle.schedule_laws.proofs.Beside.{Leaves}
 use Rattle.schedule_laws.proofs.Commuting.{Even}
@@ -24,7 +24,7 @@ module _ (p : ProgramText) (limit : ℕ) (ts : List ℕ) where
   m = run p limit ts
 
   abbrev Free : ℕ → ℕ → Type 0
-  Free t u = (a b : FieldAccess) → access_of p m t ≡ Some a → access_of p m u ≡ Some b → Clash a b → ⊥
+  Free t u = (a b : FieldAccess) → next_access p m t ≡ Some a → next_access p m u ≡ Some b → Clash a b → ⊥
 
   module _ (t u : ℕ) (two : t ≡ u → ⊥) (can_t : can_step m t ≡ true) (can_u : can_step m u ≡ true) (going1 : (step p m t).end ≡ None) (going2 : (step p m u).end ≡ None) (free : Free t u) where
     -- u's step, before and after t's

@@ -1,5 +1,5 @@
 -- A step that can be taken now moves to the front of a run in order, with the same result.
-use Rattle.schedule_laws.proofs.Common.{◌≡◌, ℕ, suc, ◌+◌, ◌<◌, ◌≤◌, Bool, true, false, cond, Option, Some, None, List, [], ◌∷◌, ◌++◌, length, map, slice_get, ◌⊎◌, inl, inr, refl, ap, sym, subst, ◌∙◌, arith, option_map, cases_Bool, cases_eq, same_Some, In, got_within, in_append_right, Instr, Getr, Geti, Putr, Puti, Cas, Line, ProgramText, Name, Strand, Edge, Object, Task, End, Done, Trapped, Entangled, MachineState, Counted, Effect, Goes, Prints, Calls, Forks, Returns, Traps, Stops, effect, object_at, Precedes, can_step, fetched, is_running, owner_of, run, run_from, setting, start, step, strand_of, IsForkJoinState, counted_step, run_push, ended_stays, step_is_fork_join_state, runs_have_one_root, step_cases, names_are_stored, can_made, can_runs, step_idle, can_task, can_going, Field, FieldAccess, access_of, accesses_from, line_access, task_access, with_some, IsRenaming, end_to, AreAlike, Reaches, counted_here, fork_join_here, run_grows, run_to, step_grows, itself, access_to, Clash, Print, line_print, print_by, print_of, prints_from, task_print, turns_from, AreBeside, Commutes, EndAlike, LeavesStep}
+use Rattle.schedule_laws.proofs.Common.{◌≡◌, ℕ, suc, ◌+◌, ◌<◌, ◌≤◌, Bool, true, false, cond, Option, Some, None, List, [], ◌∷◌, ◌++◌, length, map, slice_get, ◌⊎◌, inl, inr, refl, ap, sym, subst, ◌∙◌, arith, option_map, cases_Bool, cases_eq, same_Some, In, got_within, in_append_right, Instr, Getr, Geti, Putr, Puti, Cas, Line, ProgramText, Name, Strand, Edge, Object, Task, End, Done, Trapped, Entangled, MachineState, Counted, Effect, Goes, Prints, Calls, Forks, Returns, Traps, Stops, effect, object_at, Precedes, can_step, fetched, is_running, owner_of, run, run_from, setting, start, step, strand_of, IsForkJoinState, counted_step, run_push, ended_stays, step_is_fork_join_state, runs_have_one_root, step_cases, names_are_stored, can_made, can_runs, step_idle, can_task, can_going, Field, FieldAccess, next_access, accesses_from, line_access, task_access, with_some, IsRenaming, end_to, AreAlike, Reaches, counted_here, fork_join_here, run_grows, run_to, step_grows, itself, access_to, Clash, Print, line_print, print_by, print_of, prints_from, task_print, turns_from, AreBeside, Commutes, EndAlike, LeavesStep}
 use Rattle.schedule_laws.proofs.Accessed.{found_at}
 use Rattle.schedule_laws.proofs.Carrying.{Carried, carried, print_to}
 use Rattle.schedule_laws.proofs.Commute.{even_same, steps_commute}
@@ -22,7 +22,7 @@ pub record Fronted (p : ProgramText) (m : MachineState) (u : ℕ) (end : Machine
   pub renaming : IsRenaming (length end.tasks) f g
   pub old : (v : ℕ) → v < length m.tasks → f v ≡ v
   pub alike : AreAlike f end (run_from p (step p m u) rest)
-  pub accesses : Split access_to Clash f all (access_of p m u) (accesses_from p (step p m u) rest)
+  pub accesses : Split access_to Clash f all (next_access p m u) (accesses_from p (step p m u) rest)
   pub prints : Split print_to (Near end.edges) f said (print_of p m u) (prints_from p (step p m u) rest)
   pub turned : turns ≡ turns_from p (step p m u) rest + 1
 
@@ -67,7 +67,7 @@ module _ (p : ProgramText) (limit : ℕ) (hs : List ℕ) where
       two (zero_t ∙ sym zero_u)
 
   -- an access names tasks that exist
-  pub access_low : (f : ℕ → ℕ) → ((v : ℕ) → v < length m.tasks → f v ≡ v) → (t : ℕ) → can_step m t ≡ true → (a : FieldAccess) → access_of p m t ≡ Some a → access_to f a ≡ a
+  pub access_low : (f : ℕ → ℕ) → ((v : ℕ) → v < length m.tasks → f v ≡ v) → (t : ℕ) → can_step m t ≡ true → (a : FieldAccess) → next_access p m t ≡ Some a → access_to f a ≡ a
   access_low f old t can a ia =
       let x = can_task m t can in
       let N = names_are_stored p limit hs in
@@ -97,7 +97,7 @@ module _ (p : ProgramText) (limit : ℕ) (hs : List ℕ) where
           reach_object _ b n at r = absurd r
 
   -- the strand of a task's step
-  pub access_strand : (t : ℕ) (can : can_step m t ≡ true) (a : FieldAccess) → access_of p m t ≡ Some a → a.strand ≡ strand_of t (can_task m t can).0
+  pub access_strand : (t : ℕ) (can : can_step m t ≡ true) (a : FieldAccess) → next_access p m t ≡ Some a → a.strand ≡ strand_of t (can_task m t can).0
   access_strand t can a ia = access_strand_by_cases (fetched p x.0.top) refl
     where
       x : (y : Task) × (slice_get m.tasks t ≡ Some y) × (is_running (Some y) ≡ true)
@@ -177,7 +177,7 @@ module _ (p : ProgramText) (limit : ℕ) (hs ts : List ℕ) (t u : ℕ) (two : t
   ]
 
   module _ (F : Fronted p n1 u (run_from p n1 ts) (accesses_from p n1 ts) (prints_from p n1 ts) (turns_from p n1 ts)) where
-    free : (a b : FieldAccess) → access_of p n0 t ≡ Some a → access_of p n0 u ≡ Some b → Clash a b → ⊥
+    free : (a b : FieldAccess) → next_access p n0 t ≡ Some a → next_access p n0 u ≡ Some b → Clash a b → ⊥
     free a b ia ib C =
         let c = clashes_stay p limit hs t u a b two can_t can_u going_first ia ib C in
         let within : In (accesses_from p n1 ts) c.0 =
@@ -259,8 +259,8 @@ module _ (p : ProgramText) (limit : ℕ) (hs ts : List ℕ) (t u : ℕ) (two : t
           old = stays;
           alike = alike_then F.f f0 (run_from p n1 ts) (run_from p n12 F.rest) (run_from p n21 (map f0 F.rest)) F.alike over;
           accesses =
-              subst (λ o. Split access_to Clash j (accesses_from p n0 (t ∷ ts)) (access_of p n0 u) (with_some o (accesses_from p n21 (map f0 F.rest)))) (sym Lt.access)
-              (split_next access_to Clash F.f f0 j (λ a. refl) (accesses_from p n1 ts) (accesses_from p n12 F.rest) (access_of p n0 u) (access_of p n1 u) (access_of p n0 t) (accesses_from p n21 (map f0 F.rest)) F.accesses Lu.access made.accesses
+              subst (λ o. Split access_to Clash j (accesses_from p n0 (t ∷ ts)) (next_access p n0 u) (with_some o (accesses_from p n21 (map f0 F.rest)))) (sym Lt.access)
+              (split_next access_to Clash F.f f0 j (λ a. refl) (accesses_from p n1 ts) (accesses_from p n12 F.rest) (next_access p n0 u) (next_access p n1 u) (next_access p n0 t) (accesses_from p n21 (map f0 F.rest)) F.accesses Lu.access made.accesses
               (access_low p limit hs j stays t can_t) free);
           prints =
               subst (λ o. Split print_to (Near (run_from p n0 (t ∷ ts)).edges) j (prints_from p n0 (t ∷ ts)) (print_of p n0 u) (with_some o (prints_from p n21 (map f0 F.rest)))) (sym Lt.print)
@@ -326,7 +326,7 @@ module _ (p : ProgramText) (limit : ℕ) where
           let push : run p limit (hs ++ t ∷ []) ≡ step p (run p limit hs) t = run_push p (start p limit) hs t in
           let going1 = going_first p limit hs ts t u two can_t can done order in
           let can1 : can_step (step p (run p limit hs) t) u ≡ true = can_beside p limit hs t u two can_t can going1 in
-          let tail = tail_order (run_from p (run p limit hs) (t ∷ ts)).edges (access_of p (run p limit hs) t) (accesses_from p (step p (run p limit hs) t) ts) order in
+          let tail = tail_order (run_from p (run p limit hs) (t ∷ ts)).edges (next_access p (run p limit hs) t) (accesses_from p (step p (run p limit hs) t) ts) order in
           exchanged p limit hs ts t u two can_t can done order
           (subst (λ (w : MachineState). Fronted p w u (run_from p w ts) (accesses_from p w ts) (prints_from p w ts) (turns_from p w ts)) push
           (all (hs ++ t ∷ []) u (subst (λ (w : MachineState). can_step w u ≡ true) (sym push) can1) (subst (λ (w : MachineState). (run_from p w ts).end ≡ Some Done) (sym push) done)

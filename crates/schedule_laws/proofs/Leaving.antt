@@ -1,6 +1,6 @@
 -- A step leaves a concurrent task's next step as it is unless their accesses clash; and accesses that clash still clash
 -- after it.
-use Rattle.schedule_laws.proofs.Common.{◌≡◌, ℕ, ℤ, ◌+◌, ◌-◌, ◌++◌, Bool, true, false, cond, Option, Some, None, List, [], ◌∷◌, length, nat_lt, slice_get, ◌⊎◌, inl, inr, refl, ap, sym, subst, ◌∙◌, option_flatten, cases_Bool, false≢true, same_Some, In, Instr, Getr, Geti, Putr, Puti, Cas, Line, ProgramText, Name, Strand, Object, Frame, Task, Depth, End, Trapped, MachineState, Disentangled, Effect, Goes, Prints, Calls, Forks, Returns, Traps, Stops, effect, int_in, place_in, ref_in, same_name, can_step, child_ended_by, depth_limit, ended_by, fetched, follow, frame_limit, goes_on, is_left, is_running, join_of, result_at, last_of, last_return, or_same, owner_of, result_of, returned_to, run, setting, sibling, start, step, strand_of, NamesAreStoredIn, IsForkJoinState, at_in, run_push, run_disentangled, run_is_fork_join_state, start_is_fork_join_state, names_are_stored, step_none, step_taken, can_task, Field, FieldAccess, access_by, access_of, line_access, ref_field, refs_in, swap_access, task_access, unless_trap, value_of, Reach, Reaches, fields_of, EffectAs, IsSame, line_print, print_by, print_of, task_print, Clash, ClashesStay, EndAlike, LeavesStep, StepsLeaveSteps}
+use Rattle.schedule_laws.proofs.Common.{◌≡◌, ℕ, ℤ, ◌+◌, ◌-◌, ◌++◌, Bool, true, false, cond, Option, Some, None, List, [], ◌∷◌, length, nat_lt, slice_get, ◌⊎◌, inl, inr, refl, ap, sym, subst, ◌∙◌, option_flatten, cases_Bool, false≢true, same_Some, In, Instr, Getr, Geti, Putr, Puti, Cas, Line, ProgramText, Name, Strand, Object, Frame, Task, Depth, End, Trapped, MachineState, Disentangled, Effect, Goes, Prints, Calls, Forks, Returns, Traps, Stops, effect, int_in, place_in, ref_in, same_name, can_step, child_ended_by, depth_limit, ended_by, fetched, follow, frame_limit, goes_on, is_left, is_running, join_of, result_at, last_of, last_return, or_same, owner_of, result_of, returned_to, run, setting, sibling, start, step, strand_of, NamesAreStoredIn, IsForkJoinState, at_in, run_push, run_disentangled, run_is_fork_join_state, start_is_fork_join_state, names_are_stored, step_none, step_taken, can_task, Field, FieldAccess, access_by, next_access, line_access, ref_field, object_references, swap_access, task_access, unless_trap, value_of, Reach, Reaches, fields_of, EffectAs, IsSame, line_print, print_by, print_of, task_print, Clash, ClashesStay, EndAlike, LeavesStep, StepsLeaveSteps}
 use Rattle.schedule_laws.proofs.Accessed.{access_is, field_of, found_at, found_by, reached_at}
 use Rattle.schedule_laws.proofs.Beside.{Leaves, same_effect, sees, task_there}
 use Rattle.schedule_laws.proofs.StoreSteps.{Acting}
@@ -147,7 +147,7 @@ module _ (p : ProgramText) (limit : ℕ) (ts : List ℕ) (t u : ℕ) (two : t �
       value_same : (n : Name) (at : ℕ) → In y.top.refs (Some n) → Leaves p m t false n at → value_of m1.store (field_of false n at) ≡ value_of m.store (field_of false n at)
       value_same n at i may =
           let o = (sees p m K D N t u two y iu run_u).objects n i in
-          ap (λ w. option_flatten (slice_get (refs_in w) at)) o.3 ∙ (ap option_flatten (o.4.ref_at at may) ∙ sym (ap (λ w. option_flatten (slice_get (refs_in w) at)) o.2))
+          ap (λ w. option_flatten (slice_get (object_references w) at)) o.3 ∙ (ap option_flatten (o.4.ref_at at may) ∙ sym (ap (λ w. option_flatten (slice_get (object_references w) at)) o.2))
 
       abbrev swap_acc : List (List Object) → ℕ → Field → FieldAccess
       swap_acc store w field = record { strand = strand_of u y; line = line.number; field = field; writes = same_name (value_of store field) (ref_in y.top w); swaps = true }
@@ -181,7 +181,7 @@ module _ (p : ProgramText) (limit : ℕ) (ts : List ℕ) (t u : ℕ) (two : t �
       by_instr (Cas d o k w v) is may = swap_same d o k w v is may (ref_field y.top o k) refl
       by_instr i is may = same_trap m m1 u y going going1 (Leaves p m t) line.instr e e1 (access_by (strand_of u y) line.number y.top m.store i) (left_effect may)
 
-      pub same_access : May → access_of p m1 u ≡ access_of p m u
+      pub same_access : May → next_access p m1 u ≡ next_access p m u
       same_access may = access_is p m1 N1 u y line there_acting ∙ (by_instr line.instr refl may ∙ sym (access_is p m N u y line here_acting))
 
       prints_here : print_of p m u ≡ print_by (strand_of u y) e
@@ -227,13 +227,13 @@ module _ (p : ProgramText) (limit : ℕ) (ts : List ℕ) (t u : ℕ) (two : t �
       reaches_there (Cas d o k w v) b n at r = reach_there false true o k b n at r
       reaches_there _ b n at r = absurd r
 
-      pub clash_there : (a b : FieldAccess) → access_of p m t ≡ Some a → access_of p m u ≡ Some b → Clash a b → (c : FieldAccess) × (access_of p m1 u ≡ Some c) × Clash a c × (c.strand ≡ b.strand)
+      pub clash_there : (a b : FieldAccess) → next_access p m t ≡ Some a → next_access p m u ≡ Some b → Clash a b → (c : FieldAccess) × (next_access p m1 u ≡ Some c) × Clash a c × (c.strand ≡ b.strand)
       clash_there a b ia ib C =
           let F = found_at p m N u y line here_acting b ib in
           let h = reached_at p m1 N1 u y line there_acting F.number F.name F.at (reaches_there line.instr F.number F.name F.at F.reach) in
           (h.0, h.1, record { field = C.field ∙ (F.field ∙ sym h.2); writes = clash_there_by_cases h.0 h.1 (cases_Bool a.writes) C.writes }, h.3 ∙ sym F.strand)
         where
-          clash_there_by_cases : (c : FieldAccess) → access_of p m1 u ≡ Some c → (a.writes ≡ true) ⊎ (a.writes ≡ false) → (a.writes ≡ true) ⊎ (b.writes ≡ true) → (a.writes ≡ true) ⊎ (c.writes ≡ true)
+          clash_there_by_cases : (c : FieldAccess) → next_access p m1 u ≡ Some c → (a.writes ≡ true) ⊎ (a.writes ≡ false) → (a.writes ≡ true) ⊎ (b.writes ≡ true) → (a.writes ≡ true) ⊎ (c.writes ≡ true)
           clash_there_by_cases c ic (inl w) h = inl w
           clash_there_by_cases c ic (inr nw) (inl w) = inl w
           clash_there_by_cases c ic (inr nw) (inr w) =
@@ -241,7 +241,7 @@ module _ (p : ProgramText) (limit : ℕ) (ts : List ℕ) (t u : ℕ) (two : t �
               let same : b ≡ c = same_Some b c (sym ib ∙ (sym (same_access may) ∙ ic)) in
               inr (ap (λ (z : FieldAccess). z.writes) (sym same) ∙ w)
 
-      pub free_may : ((a b : FieldAccess) → access_of p m t ≡ Some a → access_of p m u ≡ Some b → Clash a b → ⊥) → May
+      pub free_may : ((a b : FieldAccess) → next_access p m t ≡ Some a → next_access p m u ≡ Some b → Clash a b → ⊥) → May
       free_may free b n at r a ia fa wa =
           let h = reached_at p m N u y line here_acting b n at r in
           free a h.0 ia h.1 (record { field = fa ∙ sym h.2; writes = inl wa })
@@ -255,13 +255,13 @@ module _ (p : ProgramText) (limit : ℕ) (ts : List ℕ) (t u : ℕ) (two : t �
       ends = none_alike (step p m u).end (step p m1 u).end (ap (λ (w : MachineState). w.end) (step_none p m u y can_u iu next) ∙ going) (ap (λ (w : MachineState). w.end) (step_none p m1 u y can_there task_is_left next) ∙ going1);
     }
       where
-        access_none : (w : MachineState) → can_step w u ≡ true → slice_get w.tasks u ≡ Some y → access_of p w u ≡ None
+        access_none : (w : MachineState) → can_step w u ≡ true → slice_get w.tasks u ≡ Some y → next_access p w u ≡ None
         access_none w can is = ap (λ b. cond b (task_access p w u (slice_get w.tasks u)) None) can ∙ (ap (task_access p w u) is ∙ ap (line_access w u y) next)
 
         print_none : (w : MachineState) → can_step w u ≡ true → slice_get w.tasks u ≡ Some y → print_of p w u ≡ None
         print_none w can is = ap (λ b. cond b (task_print p w u (slice_get w.tasks u)) None) can ∙ (ap (task_print p w u) is ∙ ap (line_print w u y) next)
 
-    pub access_line : (o : Option Line) → fetched p y.top ≡ o → (b : FieldAccess) → access_of p m u ≡ Some b → (line : Line) × (fetched p y.top ≡ Some line)
+    pub access_line : (o : Option Line) → fetched p y.top ≡ o → (b : FieldAccess) → next_access p m u ≡ Some b → (line : Line) × (fetched p y.top ≡ Some line)
     access_line (Some line) e b ib = (line, e)
     access_line None e b ib =
         absurd (let h : None ≡ Some b = sym (ap (λ q. cond q (task_access p m u (slice_get m.tasks u)) None) can_u ∙ (ap (task_access p m u) iu ∙ ap (line_access m u y) e)) ∙ ib in cc)

@@ -1,5 +1,5 @@
 -- One whole run in order determines all schedules.
-use Rattle.schedule_laws.proofs.Common.{◌≡◌, ℕ, ◌+◌, ◌<◌, Bool, true, false, cond, Option, Some, None, List, [], ◌∷◌, ◌++◌, length, map, slice_get, inl, inr, refl, ap, sym, subst, ◌∙◌, arith, option_map, same_Some, In, contains_from_in, in_append_cases, in_append_left, in_append_right, in_from_contains, in_map, ProgramText, Strand, Edge, End, Done, MachineState, Precedes, same_strand, can_step, goes_on, is_running, run, run_from, start, step, run_push, step_idle, FieldAccess, access_of, accesses_from, task_access, with_some, IsRenaming, end_to, strand_to, AreAlike, from_map, fork_join_here, step_grows, itself, walks, SameResult, access_to, field_to, Clash, EveryEndAgrees, OneRunSpeaksForAll, SpeaksUp, Print, print_of, printed_by, prints_from, task_print, turns_from}
+use Rattle.schedule_laws.proofs.Common.{◌≡◌, ℕ, ◌+◌, ◌<◌, Bool, true, false, cond, Option, Some, None, List, [], ◌∷◌, ◌++◌, length, map, slice_get, inl, inr, refl, ap, sym, subst, ◌∙◌, arith, option_map, same_Some, In, contains_from_in, in_append_cases, in_append_left, in_append_right, in_from_contains, in_map, ProgramText, Strand, Edge, End, Done, MachineState, Precedes, same_strand, can_step, goes_on, is_running, run, run_from, start, step, run_push, step_idle, FieldAccess, next_access, accesses_from, task_access, with_some, IsRenaming, end_to, strand_to, AreAlike, from_map, fork_join_here, step_grows, itself, walks, SameResult, access_to, field_to, Clash, EveryEndAgrees, OneRunSpeaksForAll, SpeaksUp, Print, print_of, printed_by, prints_from, task_print, turns_from}
 use Rattle.schedule_laws.proofs.Carrying.{print_to}
 use Rattle.schedule_laws.proofs.Commute.{even_same}
 use Rattle.schedule_laws.proofs.Commuting.{even_alike}
@@ -99,7 +99,7 @@ module _ (p : ProgramText) where
     E = (run_from p m ts).edges
 
     abbrev o : Option FieldAccess
-    o = access_of p m u
+    o = next_access p m u
 
     abbrev both : List FieldAccess
     both = F.accesses.front ++ F.accesses.back

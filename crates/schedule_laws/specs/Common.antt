@@ -14,7 +14,7 @@ pub use Rattle.hh_model.specs.declared.data.Name.{Name}
 pub use Rattle.hh_model.specs.declared.data.Object.{Object}
 pub use Rattle.hh_model.specs.declared.data.Strand.{Strand}
 pub use Rattle.hh_model.specs.declared.data.Task.{Task}
-pub use Rattle.race_report.specs.Accesses.{accesses, with_some, access_of}
+pub use Rattle.race_report.specs.Accesses.{accesses, with_some, next_access}
 pub use Rattle.race_report.specs.LabelLaw.{Runs}
 pub use Rattle.race_report.specs.Report.{IsReport}
 pub use Rattle.race_report.specs.StopLaw.{HasNoRace}

@@ -1,6 +1,6 @@
 -- Steps of two concurrent tasks: what one leaves of the other's, and that they commute.
 use Rattle.std.specs.Prelude.{◌≡◌, ◌⊎◌, ◌<◌, ℕ, true, false, Option, Some, None, List, length, slice_get}
-use Rattle.schedule_laws.specs.Common.{Freeze, Line, ProgramText, Name, Object, Task, End, Done, Trapped, Entangled, MachineState, object_at, ref_in, Precedes, can_step, owner_of, run, run_from, step, strand_of, IsNext, Field, FieldAccess, access_of, Runs, IsRenaming, AreAlike}
+use Rattle.schedule_laws.specs.Common.{Freeze, Line, ProgramText, Name, Object, Task, End, Done, Trapped, Entangled, MachineState, object_at, ref_in, Precedes, can_step, owner_of, run, run_from, step, strand_of, IsNext, Field, FieldAccess, next_access, Runs, IsRenaming, AreAlike}
 use Rattle.schedule_laws.specs.Prints.{print_of}
 use Rattle.schedule_laws.specs.Clashes.{Clash}
 
@@ -16,7 +16,7 @@ RunningTasksAreApart =
 
 -- the next step of t makes a write access to this field
 abbrev pub WritesField : ProgramText → MachineState → ℕ → Field → Type 0
-WritesField p m t field = (a : FieldAccess) × (access_of p m t ≡ Some a) × (a.field ≡ field) × (a.writes ≡ true)
+WritesField p m t field = (a : FieldAccess) × (next_access p m t ≡ Some a) × (a.field ≡ field) × (a.writes ≡ true)
 
 -- the next step of t freezes the object, which t owns
 abbrev pub FreezesNext : ProgramText → MachineState → ℕ → Name → Type 0
@@ -44,7 +44,7 @@ pub record AreBeside (p : ProgramText) (m : MachineState) (t u : ℕ) : Type 0 w
   pub two : t ≡ u → ⊥
   pub first : can_step m t ≡ true
   pub second : can_step m u ≡ true
-  pub free : (a b : FieldAccess) → access_of p m t ≡ Some a → access_of p m u ≡ Some b → Clash a b → ⊥
+  pub free : (a b : FieldAccess) → next_access p m t ≡ Some a → next_access p m u ≡ Some b → Clash a b → ⊥
 
 -- no end, or the same end, except that the owner named by a stop may have joined
 abbrev pub EndAlike : Option End → Option End → Type 0
@@ -57,7 +57,7 @@ EndAlike _ _ = ⊥
 -- u's step is unchanged by t's
 pub record LeavesStep (p : ProgramText) (m : MachineState) (t u : ℕ) : Type 0 where
   pub can : can_step (step p m t) u ≡ true
-  pub access : access_of p (step p m t) u ≡ access_of p m u
+  pub access : next_access p (step p m t) u ≡ next_access p m u
   pub print : print_of p (step p m t) u ≡ print_of p m u
   pub ends : EndAlike (step p m u).end (step p (step p m t) u).end
 
@@ -73,8 +73,8 @@ abbrev pub ClashesStay : Type 0
 ClashesStay =
     (p : ProgramText) (limit : ℕ) (ts : List ℕ) (t u : ℕ) (a b : FieldAccess)
     → let m = run p limit ts in (t ≡ u → ⊥) → can_step m t ≡ true → can_step m u ≡ true → (step p m t).end ≡ None
-    → access_of p m t ≡ Some a → access_of p m u ≡ Some b → Clash a b
-    → (c : FieldAccess) × (access_of p (step p m t) u ≡ Some c) × Clash a c × (c.strand ≡ b.strand)
+    → next_access p m t ≡ Some a → next_access p m u ≡ Some b → Clash a b
+    → (c : FieldAccess) × (next_access p (step p m t) u ≡ Some c) × Clash a c × (c.strand ≡ b.strand)
 
 -- in either order they have the same result, except for the numbers of tasks that both made
 pub record Commutes (p : ProgramText) (m : MachineState) (t u : ℕ) : Type 0 where

@@ -1,5 +1,5 @@
 -- The objects of heaps at rest: their positions, and where their references lead.
-use Rattle.shared_image.proofs.Common.{◌≡◌, ◌⊎◌, ℕ, ◌+◌, ◌*◌, ◌<◌, ◌≤◌, arith, false, Option, Some, None, List, length, map, option_map, slice_get, inl, inr, refl, ap, sym, subst, ◌∙◌, cases_Bool, length-map, same_Some, slice_get-map, got_some, in_got, map_in, read_in, got_in, Name, Object, Task, object_at, joined, waiting_stops, Addr, IsRef, word_of_ref, Located, Slot, slot_at, state_of, RefField, Rests, own, words, IsModelObject, BelongingsStand, IsSource, Place, Chunk as ChunkOf, In, Memory, object_name, objects, sources, name_at, IsSharedValue, SharedValue, value_of, refs_long, is_state_running, field_of, in_words, ImageRemembered, offset, Picked, ImageData, PickedDontOverlap, IsAbove, IsFit, IsOwned, IsPlaced, IsRunning, KeepsToPath, LeadsSomewhere, end_of, AreHeldInWords, IsHandedBack, IsPictureOf, drawn_field, drawn_object}
+use Rattle.shared_image.proofs.Common.{◌≡◌, ◌⊎◌, ℕ, ◌+◌, ◌*◌, ◌<◌, ◌≤◌, arith, false, Option, Some, None, List, length, map, option_map, slice_get, inl, inr, refl, ap, sym, subst, ◌∙◌, cases_Bool, length-map, same_Some, slice_get-map, got_some, in_got, map_in, read_in, got_in, Name, Object, Task, object_at, joined, waiting_stops, Addr, IsRef, word_of_ref, Located, Slot, slot_at, state_of, RefField, Rests, own, words, IsModelObject, BelongingsStand, IsSource, Place, Chunk as ChunkOf, In, Memory, object_name, objects, sources, name_at, IsSharedValue, SharedValue, value_of, refs_long, is_state_running, field_of, in_words, ImageRemembered, offset, Picked, ImageData, PickedDontOverlap, IsAbove, IsFit, IsOwned, IsPlaced, IsRunning, KeepsToPath, LeadsSomewhere, picked_end, AreHeldInWords, IsHandedBack, IsPictureOf, drawn_field, drawn_object}
 use Rattle.shared_image.proofs.Resting.{R as Known_R, H as Known_H, content as Known_content, own_is as Known_own_is, live as Known_live, chunk as Known_chunk, owner as Known_owner, near as Known_near, measured as Known_measured, S, made}
 use Rattle.shared_image.proofs.Known.{T, k, owners, rests, runs, task_live}
 use Rattle.shared_image.proofs.Links.{chunk_in, not_running, on_path, owned_at, owner_is, running}
@@ -47,7 +47,7 @@ module _ (w : SharedValue) (I : IsSharedValue w) (F : AreHeldInWords w) (p : Ima
     pub object_is_drawn : In p.objects q
     object_is_drawn = (P.objects.each q).1 (t, o, idle, i, refl)
 
-    pub end_is : end_of q ≡ o.at.offset + words o
+    pub end_is : picked_end q ≡ o.at.offset + words o
     end_is =
         let a : offset q.address ≡ o.at.offset = offset_of_word o.at near in
         let b : length q.references ≡ length o.refs = length-map o.refs word_of_ref in
@@ -60,7 +60,7 @@ module _ (w : SharedValue) (I : IsSharedValue w) (F : AreHeldInWords w) (p : Ima
         let units : c.1.units ≡ chunk.0.units = ap (λ (h : Slot). h.units) (same_Some c.1 (record { owner = t; units = chunk.0.units }) (sym c.3 ∙ held)) in
         let within : o.at.offset + words o ≤ 1024 * chunk.0.units = H.laid.within chunk.0 o chunk.1 chunk.2 in
         let size : c.0.words ≡ 1024 * c.1.units = c.6 in
-        let last : end_of q ≡ o.at.offset + words o = end_is in
+        let last : picked_end q ≡ o.at.offset + words o = end_is in
         record {
           chunk = c.0;
           lies = (c.2, word_some o.at, chunk_of_word o.at near ∙ sym c.4);
@@ -153,7 +153,7 @@ module _ (w : SharedValue) (I : IsSharedValue w) (F : AreHeldInWords w) (p : Ima
         let chunks : o.at.chunk ≡ s.at.chunk = sym (chunk_of_word o.at (near t idle o i)) ∙ (e ∙ chunk_of_word s.at (near u still s j)) in
         let same : t ≡ u = same_Some t u (sym (owner t idle o i) ∙ (ap v.owner chunks ∙ owner u still s j)) in
         let first : o.at.offset < s.at.offset = before_offset o.at s.at chunks lt in
-        let a : end_of (drawn_object (in_words o)) ≡ o.at.offset + words o = end_is t idle o i in
+        let a : picked_end (drawn_object (in_words o)) ≡ o.at.offset + words o = end_is t idle o i in
         let b : offset (word_of_ref (Some s.at)) ≡ s.at.offset = offset_of_word s.at (near u still s j) in
         elim ((H t idle o i).laid.apart o s i (subst (λ z. In (objects v z) s) (sym same) j)) [
           | inl one ↦ absurd (let c : o.at.offset ≡ s.at.offset = ap (λ (z : Located). z.at.offset) one in omega (arith, c, first))

@@ -1,5 +1,5 @@
 -- The objects of heaps at rest: their owners and places.
-use Rattle.shared_image.proofs.Common.{◌≡◌, ℕ, ◌<◌, true, false, Option, Some, None, List, length, is_some, slice_get, refl, ap, subst, ◌∙◌, false≢true, slice_get_within, map_in, Object, Task, object_at, joined, heap_of, Located, slot_at, Rests, own, IsModelObject, BelongingsStand, Place, Stands, Chunk as ChunkOf, In, Memory, object_name, objects, objects_in, in_chunk, object_held, ParkedTask, IsFree, chunk_of, IsSharedValue, SharedValue, belongings_in, rest_at, value_of, belongings_chunks, IsHandedBack}
+use Rattle.shared_image.proofs.Common.{◌≡◌, ℕ, ◌<◌, true, false, Option, Some, None, List, length, is_some, slice_get, refl, ap, subst, ◌∙◌, false≢true, slice_get_within, map_in, Object, Task, object_at, joined, heap_of, Located, slot_at, Rests, own, IsModelObject, BelongingsStand, Place, Stands, Chunk as ChunkOf, In, Memory, object_name, objects, objects_of_chunks, in_chunk, object_held, ParkedTask, IsFree, chunk_of, IsSharedValue, SharedValue, belongings_in, rest_at, value_of, belongings_chunks, IsHandedBack}
 use Rattle.shared_image.proofs.Known.{T, k, owned, owners, rests}
 
 pub some_within : {A : Type 0} (xs : List A) (t : ℕ) → is_some (slice_get xs t) ≡ true → t < length xs
@@ -22,9 +22,9 @@ module _ (w : SharedValue) (I : IsSharedValue w) where
   pub made : (n t : ℕ) → v.owner n ≡ Some t → t < length TT
   made n t e = some_within TT t (S.made n t e)
 
-  near_by : (t : ℕ) (r : Option ParkedTask) → rest_at w.rests t ≡ r → (o : Located) → In (objects_in (belongings_in r).chunks) o → o.at.offset < 1024
+  near_by : (t : ℕ) (r : Option ParkedTask) → rest_at w.rests t ≡ r → (o : Located) → In (objects_of_chunks (belongings_in r).chunks) o → o.at.offset < 1024
   near_by t None e o i = absurd i
-  near_by t (Some r) e o i = (I.heaps t r e).near o (subst (λ ks. In (objects_in ks) o) (belongings_chunks r) i)
+  near_by t (Some r) e o i = (I.heaps t r e).near o (subst (λ ks. In (objects_of_chunks ks) o) (belongings_chunks r) i)
 
   measured_by : (t : ℕ) → IsFree w.tasks_out t → (r : Option ParkedTask) → rest_at w.rests t ≡ r → (c : ChunkOf) → In (belongings_in r).chunks c → slot_at w.pool c.number ≡ Some (record { owner = t; units = c.units })
   measured_by t un None e c i = absurd i

@@ -11,7 +11,7 @@ pub use Rattle.fork_join_commit.proofs.JoinTakes.{left_by}
 pub use Rattle.fork_join_commit.proofs.JoinValue.{Put, Taken, both_made, can_join}
 pub use Rattle.fork_join_commit.proofs.NextStepForks.{AsksFork, asks_fork, few_tasks, on, tree_out, fork_shared, forks_to, is_par_line, par_is, deep_traps}
 pub use Rattle.fork_join_commit.proofs.below.step_commit.{runs_on, fits_machine, machine_same, alone_answer, alone_small, slot_there, next_small, set_there, AsksAlone, asks_alone, halt_world, halts_alone, printed_goes, printed_world, some_line, is_safe, tells, child_beyond, other_beyond, trap_is, finishes_alone, finished_world, node_there}
-pub use Rattle.fork_join_commit.specs.ChildEnds.{IsAtEnd, is_last, is_last_by, is_last_line, EndsChild}
+pub use Rattle.fork_join_commit.specs.ChildEnds.{IsAtEnd, is_last_return, is_last_by, is_last_line, EndsChild}
 pub use Rattle.fork_join_commit.specs.Forks.{ForkAnswered, IsAtFork, is_fork, is_fork_by, is_par, ForksOn, ForksTo, RestsFork, SetsFork, begun_rest, part_child, waiting_rest}
 pub use Rattle.fork_join_commit.specs.Joins.{IsUnchanged, SameButPlaces, CanJoin, HasPlaces, parent_side, chunk_count, sources_at}
 pub use Rattle.fork_join_commit.specs.NoTask.{HoldsNone, GivesTaskUp}
@@ -38,7 +38,7 @@ pub use Rattle.leaf_collections.proofs.WhyNoEnd.{end_answer}
 pub use Rattle.leaf_collections.proofs.below.core_invariant.{same_length, worker_there, found_first, nothing_first, end_now, journal_by, four_changed, entry_on, steps_small, ran_world, ran_part, ran_others, fuel_all, fuel_world, at_work, calls, calls_of, has_node, some_calls, took_world, took_part, took_others, halted_fit, used_now, second_gives_first, first_by, outputs_now, enough_is, ran_answer, room_fit, room_world, steps_now, tree_long, took_answer}
 pub use Rattle.leaf_collections.proofs.below.plain_vec.{or_false, got_set, if_none, all_from, got_other}
 pub use Rattle.leaf_collections.proofs.below.task_machine.{same_line}
-pub use Rattle.leaf_collections.specs.LeafEnd.{FitsCopied, end_entry, ended}
+pub use Rattle.leaf_collections.specs.LeafEnd.{FitsCopied, end_entry, without_collection}
 pub use Rattle.leaf_collections.specs.below.chunk_pool.{PoolValue, slot_at, NotTaken, Full, units_in_use}
 pub use Rattle.leaf_collections.specs.below.copying_gc.{Moved, ToChunks}
 pub use Rattle.leaf_collections.specs.below.core_invariant.{NotEntered, NoMemory, SharedValue, accounts, rest_at, value_of, IsSharedValue, AllFit, Fits, EntersOrRefuses, IsCaused, refused, Refuses, above_of, is_beyond, is_beyond_by, is_beyond_line, is_joint, next_line, first_cause, or_else, chunk_cause, part_asks, OthersFit, take_by, HasBegun, roots_of, Enters, heaps_of, sources_of, Prints, marks_at, taken_part, due_cause, FitsFirst, Ending, IsOutPart, Beyond, Returns, NotRan, RanAnswers, is_state_ready, took_cause}
@@ -46,7 +46,7 @@ pub use Rattle.leaf_collections.specs.below.fork_join.{Child, EndedChild, joined
 pub use Rattle.leaf_collections.specs.below.heap_tree.{TaskNode, depth_of, forked, Ended, parent_of, state_of, with_state, sibling, Out, TaskState, Ready}
 pub use Rattle.leaf_collections.specs.below.hh_lang.{Instr, Par, Ret, Line, line_at}
 pub use Rattle.leaf_collections.specs.below.hh_model.{MachineState, Task, fetched, ended_by, step, Trapped, Done, Depth}
-pub use Rattle.leaf_collections.specs.below.leaf_heap.{counted, with_places, LeafHeapValue, IsFresh, added}
+pub use Rattle.leaf_collections.specs.below.leaf_heap.{saturating_words, with_places, LeafHeapValue, IsFresh, added}
 pub use Rattle.leaf_collections.specs.below.mark_sweep_gc.{MarkingValue, AreGiven, IsAllMarked, IsMarking, IsOf, Fork, IsSince}
 pub use Rattle.leaf_collections.specs.below.object_layout.{small_words, ChunkValue, number_of, Addr, HasObjectAt, with_ref, cell_of, object_of}
 pub use Rattle.leaf_collections.specs.below.plain_vec.{ReservedVecValue}
@@ -56,7 +56,7 @@ pub use Rattle.leaf_collections.specs.below.run_ledger.{Ledger, owns, task_steps
 pub use Rattle.leaf_collections.specs.below.run_trace.{EntryValue, Chunk, Begin, Mark, PutOff, More, Ran, Sweep, Fuel, Took, field_limit}
 pub use Rattle.leaf_collections.specs.below.task_frames.{FramesValue, with_int, with_next, with_reference}
 pub use Rattle.leaf_collections.specs.below.task_machine.{Private, FitsNow, Places}
-pub use Rattle.leaf_collections.specs.below.task_slots.{Heaps, ParkedTask, TaskSlotsValue, TaskSlot, Resting, refs_in, with_ref_in, with_resting, kept_of, keeping}
+pub use Rattle.leaf_collections.specs.below.task_slots.{Heaps, ParkedTask, TaskSlotsValue, TaskSlot, Resting, resting_references, with_ref_in, with_resting, kept_of, keeping}
 pub use Rattle.leaf_collections.specs.below.write_barrier.{SetOf, content_of, content_after, content_at, bare}
 pub use Rattle.remote_access.proofs.OtherEntries.{number_goes, number_world, reference_goes, reference_world}
 pub use Rattle.remote_access.proofs.SetRooms.{roomier_same, roomier_world}

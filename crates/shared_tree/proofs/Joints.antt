@@ -1,6 +1,6 @@
 -- How a part's next step involves other tasks, by the next line; what remains if an allocation fails.
 use Rattle.std.specs.Result.{OnErr}
-use Rattle.shared_tree.proofs.Common.{IfErr, ◌≡◌, ℕ, Result, Ok, Err, ◌||◌, not, true, Option, Some, None, List, length, slice_get, slice_set, option_map, is_some, refl, ap, sym, subst, ◌∙◌, option_flatten, or_false, got_set, Instr, Par, Ret, Line, MachineState, Task, fetched, Ledger, owns, task_steps, touched, Refused, SetOf, content_of, Private, FitsNow as FitsMachine, Places, same_line, SharedValue, accounts, rest_at, value_of, IsSharedValue, AllFit, Fits, EntersOrRefuses, IsCaused, refused, NotEntered, NoMemory, Refuses, above_of, is_beyond, is_beyond_by, is_beyond_line, is_joint, next_line, same_length, worker_there, IsShared, alone_entry, machine_after, runs_on, fits_machine, machine_same, IsAtEnd, is_last, is_last_by, is_last_line, ForkAnswered, IsAtFork, is_fork, is_fork_by, is_par, HoldsNone, GivesTaskUp, IsUnchanged, SameButPlaces, Forking, Forked, Over, same_itself, same_world, IsOther, SameButRoom, is_other, is_other_by, is_other_line, RanTo, IsJoint}
+use Rattle.shared_tree.proofs.Common.{IfErr, ◌≡◌, ℕ, Result, Ok, Err, ◌||◌, not, true, Option, Some, None, List, length, slice_get, slice_set, option_map, is_some, refl, ap, sym, subst, ◌∙◌, option_flatten, or_false, got_set, Instr, Par, Ret, Line, MachineState, Task, fetched, Ledger, owns, task_steps, touched, Refused, SetOf, content_of, Private, FitsNow as FitsMachine, Places, same_line, SharedValue, accounts, rest_at, value_of, IsSharedValue, AllFit, Fits, EntersOrRefuses, IsCaused, refused, NotEntered, NoMemory, Refuses, above_of, is_beyond, is_beyond_by, is_beyond_line, is_joint, next_line, same_length, worker_there, IsShared, alone_entry, machine_after, runs_on, fits_machine, machine_same, IsAtEnd, is_last_return, is_last_by, is_last_line, ForkAnswered, IsAtFork, is_fork, is_fork_by, is_par, HoldsNone, GivesTaskUp, IsUnchanged, SameButPlaces, Forking, Forked, Over, same_itself, same_world, IsOther, SameButRoom, is_other, is_other_by, is_other_line, RanTo, IsJoint}
 use Rattle.entry_calls.specs.declared.answers.Ran.{Ran}
 use Rattle.entry_calls.specs.declared.answers.Ran.TheVariants.{Forked as RanForked, Over as RanOver}
 
@@ -47,7 +47,7 @@ module _ (w : SharedValue) (k : ℕ) (p : Private) (I : IsSharedValue w) (F : Fi
         ap (λ (m : MachineState). is_last_by w.program (slice_get m.tasks t)) machine_is
         ∙ (ap (is_last_by w.program) G.is
         ∙ (ap (is_last_line G.task) line_is_fetched
-        ∙ (ap (is_last G.task) by ∙ or_false _ (ap (λ i. is_joint G.task i || not (owns M.machine.tasks t (touched G.task.top i))) (sym by) ∙ joint_line))));
+        ∙ (ap (is_last_return G.task) by ∙ or_false _ (ap (λ i. is_joint G.task i || not (owns M.machine.tasks t (touched G.task.top i))) (sym by) ∙ joint_line))));
     few = shared.few;
   }
 

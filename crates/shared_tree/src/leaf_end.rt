@@ -2,7 +2,7 @@
 
 ghost use Rattle.std.specs.Prelude.{◌≡◌, ◌<◌, None};
 ghost use Rattle.leaf_collections.specs.below.core_invariant.{refused, Enters, Fits, OthersFit};
-ghost use Rattle.leaf_collections.specs.LeafEnd.{end_entry, ended, FitsCopied};
+ghost use Rattle.leaf_collections.specs.LeafEnd.{end_entry, without_collection, FitsCopied};
 ghost use Rattle.entry_calls.specs.Calls.{EndsLeaf};
 
 use crate::shared::Shared;
@@ -15,7 +15,7 @@ impl Shared {
         requires room { 0 < self.old.journal.room }
         requires fits { FitsCopied self.old worker part.old moved }
         requires free { refused self.old (end_entry worker part.old moved) ≡ None }
-        ensures part { part.new ≡ ended part.old }
+        ensures part { part.new ≡ without_collection part.old }
         ensures enters { Enters self.old self.new (end_entry worker part.old moved) }
         ensures fits { Fits self.new worker part.new }
         ensures others { OthersFit self.old self.new worker }

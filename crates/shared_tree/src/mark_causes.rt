@@ -2,7 +2,7 @@
 
 ghost use Rattle.std.specs.Prelude.{◌≡◌, ◌==◌, None};
 ghost use Rattle.leaf_collections.specs.below.run_ledger.{heap_of, left_in, words_in};
-ghost use Rattle.leaf_collections.specs.below.leaf_heap.{counted};
+ghost use Rattle.leaf_collections.specs.below.leaf_heap.{saturating_words};
 ghost use Rattle.leaf_collections.specs.below.core_invariant.{accounts};
 ghost use Rattle.heap_marking.specs.MarkCauses.{marking_cause, waiting_cause};
 
@@ -13,7 +13,7 @@ impl Shared {
     pub fn words_at(&self, t: u32) -> u64
         requires goes { (accounts self.now).end ≡ None }
         requires waits { waiting_cause self.now t ≡ None }
-        ensures { result ≡ counted (words_in (accounts self.now).machine (heap_of (accounts self.now) t)) }
+        ensures { result ≡ saturating_words (words_in (accounts self.now).machine (heap_of (accounts self.now) t)) }
     {
         match self.heaps.task_slots.rest(t) {
             Some(rest) => rest.heap.words(),

@@ -1,7 +1,7 @@
 // The heap of a waiting task is swept.
 
 ghost use Rattle.std.specs.Prelude.{◌≡◌, ◌==◌, ◌<◌, None};
-ghost use Rattle.leaf_collections.specs.below.run_ledger.{counted, refused_unless, heap_of, left_in, marked_in, sweep_number};
+ghost use Rattle.leaf_collections.specs.below.run_ledger.{unless_wrong_number, refused_unless, heap_of, left_in, marked_in, sweep_number};
 ghost use Rattle.leaf_collections.specs.below.core_invariant.{refused, Enters, AllFit, accounts};
 ghost use Rattle.heap_marking.specs.MarkCauses.{marking_cause};
 ghost use Rattle.entry_calls.specs.Calls.{SweepsHeap};
@@ -15,7 +15,7 @@ impl Shared {
     fn given_cause(&self, t: u32, given: u32) -> Option<Refused>
         requires goes { (accounts self.now).end ≡ None }
         requires marking { marking_cause self.now t ≡ None }
-        ensures { result ≡ refused_unless (left_in (heap_of (accounts self.now) t) == 0) (Refused.Left (marked_in (heap_of (accounts self.now) t))) (counted given (sweep_number (accounts self.now).machine (heap_of (accounts self.now) t)) None) }
+        ensures { result ≡ refused_unless (left_in (heap_of (accounts self.now) t) == 0) (Refused.Left (marked_in (heap_of (accounts self.now) t))) (unless_wrong_number given (sweep_number (accounts self.now).machine (heap_of (accounts self.now) t)) None) }
     {
         if !self.is_marked(t) {
             return match self.heaps.task_slots.marking(t) {

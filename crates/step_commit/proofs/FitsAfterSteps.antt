@@ -1,6 +1,5 @@
 -- A part that fits the shared value fits it again after private steps.
-use Rattle.step_commit.proofs.Common.{arith, ◌≡◌, ℕ, ◌+◌, ◌-◌, ◌*◌, ◌/◌, ◌≤◌, ◌^◌, not, Some, None, min, ne_eqb, inr, refl, ap, sym, subst, ◌∙◌, All-from_get_or, All-get_or, in_map, Name, Ledger, heap_of, task_steps, Addr, ChunkValue, chunk_at, no_chunk, words_in, IsObject, chunk_there, Slot, slot_at, AreTidy, AreWithin, IsTidy, are_near, Rests, own, rested, rested_worker, Belongings, In, Lies, Memory, objects, objects_in, StepsInBelongings, PartFits, with_belongings, BelongingsStand, Place, Stands, BegunBy, in_chunk, stepped, at_belongings, off_belongings, aside_is, Private, HeapMatchesAccount, KeepsAccounts, FitsNow as FitsMachine, Places, KeepsRest, Ran, KeepsPlaces, chunk_of, SharedValue, accounts, value_of, IsMeasured, HeapForm, IsSharedValue, Fits, belongings_of_part, part_of, above_of, object_seen, seen_object, Formed, formed_tidy, steady, place_there, run_keeps_places}
-use Rattle.core_invariant.specs.below.task_machine.{Runs}
+use Rattle.step_commit.proofs.Common.{arith, ◌≡◌, ℕ, ◌+◌, ◌-◌, ◌*◌, ◌/◌, ◌≤◌, ◌^◌, not, Some, None, min, ne_eqb, inr, refl, ap, sym, subst, ◌∙◌, All-from_get_or, All-get_or, in_map, Name, Ledger, heap_of, task_steps, Addr, ChunkValue, chunk_at, no_chunk, words_in, IsObject, chunk_there, Slot, slot_at, AreTidy, AreWithin, IsTidy, are_near, Rests, own, rested, rested_worker, Belongings, In, Lies, Memory, objects, objects_of_chunks, StepsInBelongings, PartFits, with_belongings, BelongingsStand, Place, Stands, BegunBy, in_chunk, stepped, at_belongings, off_belongings, aside_is, Private, HeapMatchesAccount, KeepsAccounts, FitsNow as FitsMachine, Places, KeepsRest, Ran, KeepsPlaces, chunk_of, SharedValue, accounts, value_of, IsMeasured, HeapForm, IsSharedValue, Fits, belongings_of_part, part_of, above_of, object_seen, seen_object, Formed, formed_tidy, steady, place_there, run_keeps_places, Runs}
 use Rattle.core_invariant.proofs.PartFitsMachine as link
 use Rattle.step_commit.proofs.StepsCounted as run
 use Rattle.step_commit.proofs.FormByOutline.{run_formed}
@@ -102,7 +101,7 @@ module _ (w : SharedValue) (k : ℕ) (p q : Private) (n : ℕ) (I : IsSharedValu
   -- ---- THE VALUE WITH IT: each object keeps its address
   stays : (m : Name) (a : Addr) → Lies (before.belongings t).chunks m a → Lies (after.belongings t).chunks m a
   stays m a y =
-      let z = seen_object p.heap.chunks y.0 F.form.shaped.apart (subst (λ (h : Belongings). In (objects_in h.chunks) y.0) was y.1) in
+      let z = seen_object p.heap.chunks y.0 F.form.shaped.apart (subst (λ (h : Belongings). In (objects_of_chunks h.chunks) y.0) was y.1) in
       let i = object_seen q.heap.chunks y.0.at y.0.birth (keeps.stays y.0.at y.0.birth z.mark) in
       subst (λ (h : Belongings). Lies h.chunks m a) (sym own_belongings) (_, i, record { name = y.2.name; at = y.2.at })
 
@@ -127,7 +126,7 @@ module _ (w : SharedValue) (k : ℕ) (p q : Private) (n : ℕ) (I : IsSharedValu
       let same : own L' m ≡ u = run.owner_then w k p q n I F on idle R C m in
       let r : Rests L u = link.rests_then w k p I F on u x.0 x.1 in
       let H : BelongingsStand before L u = (link.W w k p I F on).belongings u r in
-      let i : In (objects before u) f.object = subst (λ (h : Belongings). In (objects_in h.chunks) f.object) (sym (off_belongings v t (belongings_of_part p) u x.0)) f.there in
+      let i : In (objects before u) f.object = subst (λ (h : Belongings). In (objects_of_chunks h.chunks) f.object) (sym (off_belongings v t (belongings_of_part p) u x.0)) f.there in
       let c = in_chunk (before.belongings u).chunks f.object i in
       let owner : v.owner a.chunk ≡ Some u = ap (λ (z : Addr). v.owner z.chunk) (sym f.at) ∙ (ap v.owner (H.inside c.0 f.object c.1 c.2) ∙ H.owned c.0 c.1) in
       record {

@@ -1,5 +1,5 @@
 -- What is known of a heap's chunks follows from its outline, so it stays known when private steps are taken.
-use Rattle.step_commit.proofs.Common.{◌≡◌, ℕ, zero, suc, pos, ◌+◌, ◌-◌, ◌*◌, ◌<◌, ◌≤◌, arith, false, Option, Some, None, List, [], ◌∷◌, length, map, replicate, slice_get, All, inl, inr, refl, ap, sym, subst, ◌∙◌, length-map, length-replicate, All-cons, All-head, All-map, All-nil, All-tail, All-weaker, ProgramText, MachineState, row_of, asked, Born, Cell, Hole, Mark, Moved, moved_to, size_of, chunk_at, ChunkValue, Located, located_by, objects_from, LeafHeapValue, IsTidy, place_for, placed, units, HoldsLarge, words, Private, IsShaped, blank, outline_after, outline_by, outline_of, outline_of_cell, outline_of_chunk, steps, Places, Ran, outline_at, outline_size, outline_words, outline_apart, outline_current, outline_kept, words_by, chunk_of, Formed, IsFormed, formed_placed, asked_at_line}
+use Rattle.step_commit.proofs.Common.{◌≡◌, ℕ, zero, suc, pos, ◌+◌, ◌-◌, ◌*◌, ◌<◌, ◌≤◌, arith, false, Option, Some, None, List, [], ◌∷◌, length, map, replicate, slice_get, All, inl, inr, refl, ap, sym, subst, ◌∙◌, length-map, length-replicate, All-cons, All-head, All-map, All-nil, All-tail, All-weaker, ProgramText, MachineState, row_of, asked, Born, Cell, Hole, Mark, Moved, moved_to, size_of, chunk_at, ChunkValue, Located, located_by, objects_from, LeafHeapValue, IsTidy, place_for, with_object_placed, units, HoldsLarge, words, Private, IsShaped, blank, outline_after, outline_by, outline_of, outline_of_cell, outline_of_chunk, steps, Places, Ran, outline_at, outline_size, outline_words, outline_apart, outline_current, outline_kept, words_by, chunk_of, Formed, IsFormed, formed_placed, asked_at_line}
 
 -- ---- OBJECTS
 
@@ -136,7 +136,7 @@ formed_by m t h (Some w) two F = formed_by_cases (place_for h w) refl
     size : size_of (next_blank m t w) ≡ w
     size = let e : length (replicate (w - 2) (pos 0)) ≡ w - 2 = length-replicate (w - 2) (pos 0) in let le = two w refl in omega (arith, e, le)
 
-    formed_by_cases : (q : Option ℕ) → place_for h w ≡ q → Formed (placed h q (next_blank m t w))
+    formed_by_cases : (q : Option ℕ) → place_for h w ≡ q → Formed (with_object_placed h q (next_blank m t w))
     formed_by_cases None e = F
     formed_by_cases (Some i) e = formed_placed h F i (next_blank m t w) (record { task = t; count = length (row_of (slice_get m.store t)) }) refl (ap (place_for h) size ∙ e)
 

@@ -1,7 +1,6 @@
 -- A part after private steps, of which some may be fresh already: it fits again, and its next step is described in
 -- terms of the machine.
-use Rattle.step_commit.proofs.Common.{◌≡◌, ℕ, ◌+◌, ◌≤◌, None, refl, ap, sym, subst, ◌∙◌, ProgramText, MachineState, Private, Paused, KeepsAccounts, unended, steps, KeepsRest, Pauses, PausesBy, Ran, steps_more, SharedValue, accounts, value_of, IsSharedValue, Fits, FitsFirst, above_of, beyond_machine, machine_after}
-use Rattle.core_invariant.specs.below.task_machine.{Runs}
+use Rattle.step_commit.proofs.Common.{◌≡◌, ℕ, ◌+◌, ◌≤◌, None, refl, ap, sym, subst, ◌∙◌, ProgramText, MachineState, Private, Paused, KeepsAccounts, unended, steps, KeepsRest, Pauses, PausesBy, Ran, steps_more, SharedValue, accounts, value_of, IsSharedValue, Fits, FitsFirst, above_of, beyond_machine, machine_after, Runs}
 use Rattle.step_commit.proofs.FitsAfterSteps.{parts_fit_again}
 
 module _ (w : SharedValue) (text : ProgramText) (same : w.program ≡ text) (k : ℕ) (I : IsSharedValue w) (old new : Private) (fits : Fits w k old) (on : (accounts w).end ≡ None) (F : FitsFirst w old) (idle : old.begun ≡ None) (n : ℕ) (runs : Runs text old n new)

@@ -1,6 +1,5 @@
 -- A part's next private steps, in the accounts: they are private there, neither due nor in need, and the heap follows.
-use Rattle.step_commit.proofs.Common.{◌≡◌, ℕ, zero, suc, ◌+◌, ◌<◌, ◌≤◌, ◌^◌, arith, true, false, Some, None, slice_get, nat_le, refl, ap, ap₂, sym, subst, ◌∙◌, ProgramText, Running, Task, MachineState, asked, step, SettingsValue, Heap, Ledger, heap_of, or_fresh, lacks_room, is_due, is_in_need, is_private, on_asked, task_step, task_steps, task_step_machine, steps_last, ArePrivate, Private, HeapMatchesAccount, KeepsAccounts, RanBy, account_after, account_by, FitsNow as FitsMachine, steps, Places, Ran, allocated_account, After, after_none, after_both, after_one, step_is}
-use Rattle.core_invariant.specs.below.task_machine.{Runs}
+use Rattle.step_commit.proofs.Common.{◌≡◌, ℕ, zero, suc, ◌+◌, ◌<◌, ◌≤◌, ◌^◌, arith, true, false, Some, None, slice_get, nat_le, refl, ap, ap₂, sym, subst, ◌∙◌, ProgramText, Running, Task, MachineState, asked, step, SettingsValue, Heap, Ledger, heap_of, or_fresh, lacks_room, is_due, is_in_need, is_private, on_asked, task_step, task_steps, task_step_machine, steps_last, ArePrivate, Private, HeapMatchesAccount, KeepsAccounts, RanBy, account_after, account_by, FitsNow as FitsMachine, steps, Places, Ran, allocated_account, After, after_none, after_both, after_one, step_is, Runs}
 
 module _ (p : ProgramText) (s : SettingsValue) (t : ℕ) where
   pub private_more : (n k : ℕ) (l : Ledger) → ArePrivate p s l t n → ArePrivate p s (task_steps p l t n) t k → ArePrivate p s l t (n + k)

@@ -1,6 +1,5 @@
 -- An output is committed.
-use Rattle.step_commit.proofs.Common.{◌≡◌, ℕ, ℤ, ◌+◌, ◌++◌, true, Some, None, [], ◌∷◌, slice_get, slice_set, refl, ap, sym, ◌∙◌, got_same, ReservedVecValue, Instr, Out, MachineState, Task, effect, int_in, onward, follow, runs, setting, EntryValue, with_next, Printing, RunsPrivateSteps, StepsTo, numbers_go, Private, Prints as PrintsOf, SharedValue, IsSharedValue, belongings_of_part, same_form, MakesSteps, steps_world, all_kept, GoesAlone, Tells, alone_entry}
-use Rattle.core_invariant.specs.below.ledger_step_laws.{LastStepPrints}
+use Rattle.step_commit.proofs.Common.{◌≡◌, ℕ, ℤ, ◌+◌, ◌++◌, true, Some, None, [], ◌∷◌, slice_get, slice_set, refl, ap, sym, ◌∙◌, got_same, ReservedVecValue, Instr, Out, MachineState, Task, effect, int_in, onward, follow, runs, setting, EntryValue, with_next, Printing, RunsPrivateSteps, StepsTo, numbers_go, Private, Prints as PrintsOf, SharedValue, IsSharedValue, belongings_of_part, same_form, MakesSteps, steps_world, all_kept, GoesAlone, Tells, alone_entry, LastStepPrints}
 use Rattle.step_commit.proofs.LastKinds.{prints}
 use Rattle.step_commit.proofs.LastStepEntry as last
 use Rattle.step_commit.proofs.LastStepEntry.{AsksLast, goes_alone, last_enters, last_steps}

@@ -1,6 +1,6 @@
 -- The belongings of a part that fits the machine, and whose heap is as its account says, are read by their addresses in
 -- a value.
-use Rattle.step_commit.proofs.Common.{◌≡◌, ℕ, ◌-◌, ◌<◌, ◌^◌, arith, Option, Some, None, List, [], ◌∷◌, min, slice_get, inl, inr, refl, ap, ap₂, sym, subst, ◌∙◌, cases_eq, same_Some, ProgramText, Frame as ModelFrame, Name, Object, Task, object_at, runs_is, Heap, Ledger, heap_of, Addr, Born, cell_of, ChunkValue, Located, located, LiesThere, CallFrame, own, Chunk, Belongings, In, Lies, Memory, object_name, objects, objects_in, BelongingsAreRead, AreLaidOut, AllRead, FrameIsRead, FramesAreRead, HoldsRead, IsModelObject, TaskIsRead, HasNames, BelongingsStand, Place, in_chunk, Private, HeapMatchesAccount, FitsNow as FitsMachine, AreAt, FrameStands, FramesStand, Places, birth_of, chunks_of, belongings_of_part, object_seen, seen_object, large_are, small_names, Formed, content_of, inside_from, laid_from}
+use Rattle.step_commit.proofs.Common.{◌≡◌, ℕ, ◌-◌, ◌<◌, ◌^◌, arith, Option, Some, None, List, [], ◌∷◌, min, slice_get, inl, inr, refl, ap, ap₂, sym, subst, ◌∙◌, cases_eq, same_Some, ProgramText, Frame as ModelFrame, Name, Object, Task, object_at, runs_is, Heap, Ledger, heap_of, Addr, Born, cell_of, ChunkValue, Located, located, LiesThere, CallFrame, own, Chunk, Belongings, In, Lies, Memory, object_name, objects, objects_of_chunks, BelongingsAreRead, AreLaidOut, AllRead, FrameIsRead, FramesAreRead, HoldsRead, IsModelObject, TaskIsRead, HasNames, BelongingsStand, Place, in_chunk, Private, HeapMatchesAccount, FitsNow as FitsMachine, AreAt, FrameStands, FramesStand, Places, birth_of, chunks_of, belongings_of_part, object_seen, seen_object, large_are, small_names, Formed, content_of, inside_from, laid_from}
 
 -- ---- REFERENCES
 
@@ -43,10 +43,10 @@ module _ (program : ProgramText) (q : Private) (L : Ledger) (above : Places) (G 
   belongings_chunks : (v.belongings t).chunks ≡ ks
   belongings_chunks = ap (λ (h : Belongings). h.chunks) here
 
-  in_part : (o : Located) → In (objects v t) o → In (objects_in ks) o
-  in_part o i = subst (λ cs. In (objects_in cs) o) belongings_chunks i
+  in_part : (o : Located) → In (objects v t) o → In (objects_of_chunks ks) o
+  in_part o i = subst (λ cs. In (objects_of_chunks cs) o) belongings_chunks i
 
-  lying : (o : Located) → In (objects_in ks) o → LiesThere cells o
+  lying : (o : Located) → In (objects_of_chunks ks) o → LiesThere cells o
   lying o i = seen_object cells o F.shaped.apart i
 
   owned_chunk : (k : Chunk) → In ks k → v.owner k.number ≡ Some t
@@ -55,11 +55,11 @@ module _ (program : ProgramText) (q : Private) (L : Ledger) (above : Places) (G 
   -- ---- NAMES
 
   -- the map has an object's name at its address
-  placed : (o : Located) → In (objects_in ks) o → G.place (object_name o) ≡ Some o.at
+  placed : (o : Located) → In (objects_of_chunks ks) o → G.place (object_name o) ≡ Some o.at
   placed o i = (G.heap.objects o.at o.birth (lying o i).mark).placed
 
   -- two objects at one address are equal
-  same_place : (o r : Located) → In (objects_in ks) o → In (objects_in ks) r → o.at ≡ r.at → o ≡ r
+  same_place : (o r : Located) → In (objects_of_chunks ks) o → In (objects_of_chunks ks) r → o.at ≡ r.at → o ≡ r
   same_place o r i j e =
       let y = lying o i in
       let z = lying r j in
@@ -67,7 +67,7 @@ module _ (program : ProgramText) (q : Private) (L : Ledger) (above : Places) (G 
       let births : o.birth ≡ r.birth = cc in
       y.is ∙ (ap₂ (λ (a : Addr) b. located a.chunk a.offset b (cell_of cells a)) e births ∙ sym z.is)
 
-  same_name : (o r : Located) → In (objects_in ks) o → In (objects_in ks) r → object_name o ≡ object_name r → o ≡ r
+  same_name : (o r : Located) → In (objects_of_chunks ks) o → In (objects_of_chunks ks) r → object_name o ≡ object_name r → o ≡ r
   same_name o r i j e = same_place o r i j (same_Some o.at r.at (sym (placed o i) ∙ (ap G.place e ∙ placed r j)))
 
   belongings_then : BelongingsStand v L t
@@ -87,7 +87,7 @@ module _ (program : ProgramText) (q : Private) (L : Ledger) (above : Places) (G 
 
   own_place : (n : Name) (a : Addr) → own L n ≡ t → G.place n ≡ Some a → Place v L n a
   own_place n a mine e =
-      let i : In (objects_in ks) (located a.chunk a.offset (birth_of n) (cell_of cells a)) = object_seen cells a (birth_of n) (G.heap.own n a mine e) in
+      let i : In (objects_of_chunks ks) (located a.chunk a.offset (birth_of n) (cell_of cells a)) = object_seen cells a (birth_of n) (G.heap.own n a mine e) in
       let c = in_chunk ks _ i in
       record {
         chunk = ap v.owner (inside_from cells c.0 _ c.1 c.2) ∙ (owned_chunk c.0 c.1 ∙ ap Some (sym mine));

@@ -31,10 +31,11 @@ pub use Rattle.hh_model.specs.declared.data.Object.{Object}
 pub use Rattle.hh_model.specs.declared.data.Task.{Task}
 pub use Rattle.hh_model.specs.declared.data.Trap.{Trap}
 pub use Rattle.hh_model.specs.declared.data.Trap.TheVariants.{Size, Depth, Range, Frozen, Div}
-pub use Rattle.leaf_heap.proofs.HeapLemmas.{at_last, IsCurrent-push, IsReserved-push, counted_more, part-set, none_there, place_in-set}
+pub use Rattle.leaf_heap.proofs.ChunkAdded.{at_last, IsCurrent-push, IsReserved-push, counted_more}
+pub use Rattle.leaf_heap.proofs.HeapLemmas.{part-set, none_there, place_in-set}
 pub use Rattle.leaf_heap.proofs.PlacedLaws.{apart_added, apart_set, cell_of-placed, cell_of-others}
 pub use Rattle.leaf_heap.proofs.Settled.{put_apart}
-pub use Rattle.leaf_heap.specs.LeafHeapValue.{HaveDistinctNumbers, LeafHeapValue, IsCurrent, IsReserved, place_for, placed_at, IsFresh, added, with_places, counted, large_place, room_at, small_place, units}
+pub use Rattle.leaf_heap.specs.LeafHeapValue.{HaveDistinctNumbers, LeafHeapValue, IsCurrent, IsReserved, place_for, placed_at, IsFresh, added, with_places, saturating_words, large_place, room_at, small_place, units, with_object_placed}
 pub use Rattle.object_layout.proofs.ChunkLaws.{chunk_of_object, object_is, same_addr, addr_cases, cell_of-push_other, cell_of-put_other, cell_of-put_same, length-put, mark_put, place_in-put}
 pub use Rattle.object_layout.proofs.PlaceLemmas.{words_in-push, map-put_cell}
 pub use Rattle.object_layout.specs.Cell.{Born, Cell, Mark, size_of, IsObject, IsPlace, Hole, Moved, frozen}
@@ -55,7 +56,7 @@ pub use Rattle.plain_vec.proofs.Places.{got_some}
 pub use Rattle.plain_vec.specs.Members.{In}
 pub use Rattle.run_ledger.proofs.RunOn.{steps_run_on}
 pub use Rattle.run_ledger.proofs.Steps.{goes_tells, steps_last}
-pub use Rattle.run_ledger.specs.Heaps.{lacks_room, placed, put_last, with_heap_at}
+pub use Rattle.run_ledger.specs.Heaps.{lacks_room, with_allocation, put_last, with_heap_at}
 pub use Rattle.run_ledger.specs.Steps.{on_asked, is_open, is_private, owns, touched, has_no_caller, is_frozen_above, is_private_by, is_private_line, is_read, works_alone, allocated_by, task_steps, is_frozen}
 pub use Rattle.run_ledger.specs.declared.data.Heap.{Heap}
 pub use Rattle.run_ledger.specs.declared.data.Ledger.{Ledger}
@@ -75,7 +76,7 @@ pub use Rattle.task_machine.specs.Calculations.{is_calculation, Leads, Calculate
 pub use Rattle.task_machine.specs.Fits.{IsShaped, FitsNow, IsRun, after_fresh, unended, Fits, HeapStands, ShowsAbove, StackStands, IsOwn, IsShownBy}
 pub use Rattle.task_machine.specs.Outline.{blank, outline_after, outline_by, outline_of, outline_of_cell, outline_of_chunk, steps, outline_step}
 pub use Rattle.task_machine.specs.Place.{Places, NamesAddress, birth_of, ObjectStands, name_of, FrameStands, FramesStand, AreAt}
-pub use Rattle.task_machine.specs.Plan.{planned, allocating, made_at, new_object, or_shared, packed_object, planned_other, taken, with_top, counts_ints, counts_refs, own_or_shown, reads_int, reads_ref, shown_of, own_in, moved, with_result_of, popped_to, spot_at, with_own, written, popped, with_seen}
+pub use Rattle.task_machine.specs.Plan.{planned, allocating, made_at, new_object, or_shared, packed_object, planned_other, taken, with_top, counts_ints, counts_refs, own_or_shown, reads_int, reads_ref, shown_of, own_in, moved, with_result_of, popped_to, spot_at, with_own, private_written, popped, with_seen}
 pub use Rattle.task_machine.specs.Ready.{FitsSome, IsSafe, IsWide, IsReady}
 pub use Rattle.task_machine.specs.Run.{Runs, RunsPrivately, StillFits, IsStepPlan, KeepsRest, next_plan, planned_line, IsCall, IsCallLine, IsCallPlan, StandsAtCall, PausesBy, Ran, Pauses, is_due_after, is_in_need_after, ComesOf}
 pub use Rattle.task_machine.specs.Steps.{lacks_place, Agrees, TakesStep, Stops, is_part_due, is_part_in_need}

@@ -1,11 +1,11 @@
 -- The steps of a task in the ledger: its machine and its account follow.
-use Rattle.task_machine.proofs.Common.{◌≡◌, ℕ, zero, suc, ◌≤◌, arith, true, Option, Some, None, length, slice_get, refl, ap, ◌∙◌, got_same, ProgramText, MachineState, row_of, asked, can_step, is_running, step, Heap, Ledger, placed, with_heap_at, allocated_by, task_steps, steps_run_on, goes_tells, steps_last, FollowsSteps, account_after, account_by, steps}
+use Rattle.task_machine.proofs.Common.{◌≡◌, ℕ, zero, suc, ◌≤◌, arith, true, Option, Some, None, length, slice_get, refl, ap, ◌∙◌, got_same, ProgramText, MachineState, row_of, asked, can_step, is_running, step, Heap, Ledger, with_allocation, with_heap_at, allocated_by, task_steps, steps_run_on, goes_tells, steps_last, FollowsSteps, account_after, account_by, steps}
 
 -- how an allocation changes the account
 pub allocated_account : (l : Ledger) (t : ℕ) (h : Heap) (o : Option ℕ) → slice_get l.heaps t ≡ Some h → slice_get (allocated_by l t o).heaps t ≡ Some (account_by l.machine t h o)
 allocated_account l t h None there = there
 allocated_account l t h (Some w) there =
-    let f : Heap → Heap = λ z. placed z (record { task = t; count = length (row_of (slice_get l.machine.store t)) }) w in
+    let f : Heap → Heap = λ z. with_allocation z (record { task = t; count = length (row_of (slice_get l.machine.store t)) }) w in
     ap (λ (q : Option Heap). slice_get (with_heap_at l t f q).heaps t) there ∙ got_same l.heaps t h (f h) there
 
 module _ (p : ProgramText) (l : Ledger) (t : ℕ) (h : Heap) (there : slice_get l.heaps t ≡ Some h) where

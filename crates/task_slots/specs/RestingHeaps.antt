@@ -21,8 +21,8 @@ abbrev pub refs_for : List (Option ParkedTask) → Option ℕ → Addr → List 
 refs_for rests None a = []
 refs_for rests (Some t) a = refs_of_rest (rest_at rests t) a
 
-abbrev pub refs_in : Resting → Addr → List (Option Addr)
-refs_in h a = refs_for h.rests (owner_of h.pool a.chunk) a
+abbrev pub resting_references : Resting → Addr → List (Option Addr)
+resting_references h a = refs_for h.rests (owner_of h.pool a.chunk) a
 
 -- one reference written
 abbrev pub with_ref_at : List (Option ParkedTask) → ℕ → Option ParkedTask → Addr → ℕ → Option Addr → List (Option ParkedTask)
@@ -54,14 +54,14 @@ off_at : (rests : List (Option ParkedTask)) (t u : ℕ) (a b : Addr) (k : ℕ) (
 off_at rests t u a b k r ne None = refl
 off_at rests t u a b k r ne (Some x) = ap (λ z. refs_of_rest (option_flatten z) b) (got_other rests t u (Some (record x { heap = with_ref_of x.heap a k r })) ne)
 
-pub refs_in_same : (h : Resting) (a : Addr) (k : ℕ) (r : Option Addr) → refs_in (with_ref_in h a k r) a ≡ slice_set (refs_in h a) k r
+pub refs_in_same : (h : Resting) (a : Addr) (k : ℕ) (r : Option Addr) → resting_references (with_ref_in h a k r) a ≡ slice_set (resting_references h a) k r
 refs_in_same h a k r = refs_in_same_by_cases (owner_of h.pool a.chunk)
   where
     refs_in_same_by_cases : (o : Option ℕ) → refs_for (with_ref_for h.rests o a k r) o a ≡ slice_set (refs_for h.rests o a) k r
     refs_in_same_by_cases None = refl
     refs_in_same_by_cases (Some t) = same_at h.rests t a k r (slice_get h.rests t) refl
 
-pub refs_in_other : (h : Resting) (a b : Addr) (k : ℕ) (r : Option Addr) → b ≢ a → refs_in (with_ref_in h a k r) b ≡ refs_in h b
+pub refs_in_other : (h : Resting) (a b : Addr) (k : ℕ) (r : Option Addr) → b ≢ a → resting_references (with_ref_in h a k r) b ≡ resting_references h b
 refs_in_other h a b k r ne = refs_in_other_by_cases (owner_of h.pool a.chunk) (owner_of h.pool b.chunk)
   where
     refs_in_other_by_cases : (o q : Option ℕ) → refs_for (with_ref_for h.rests o a k r) q b ≡ refs_for h.rests q b
@@ -83,7 +83,7 @@ abbrev pub with_resting : Heaps → Resting → Heaps
 with_resting h r = record h { task_slots = record h.task_slots { rests = r.rests } }
 
 abbrev pub heap_refs : Heaps → Addr → List (Option Addr)
-heap_refs h a = refs_in (resting h) a
+heap_refs h a = resting_references (resting h) a
 
 abbrev pub with_heap_ref : Heaps → Addr → ℕ → Option Addr → Heaps
 with_heap_ref h a k r = with_resting h (with_ref_in (resting h) a k r)

@@ -5,7 +5,7 @@ ghost use Rattle.chunk_pool.specs.PoolValue.{owner_of};
 ghost use Rattle.remembered_set.specs.Moved.{redirected, targets_of, AreFields, AreInOrder, ArePlaces};
 ghost use Rattle.remembered_set.specs.Sources.{StandOnce};
 ghost use Rattle.task_slots.specs.TaskSlotsValue.{sources_of};
-ghost use Rattle.task_slots.specs.RestingHeaps.{refs_in, resting, with_ref_in, with_resting};
+ghost use Rattle.task_slots.specs.RestingHeaps.{resting_references, resting, with_ref_in, with_resting};
 
 use crate::slots::TaskSlots;
 use chunk_pool::Pool;
@@ -46,8 +46,8 @@ impl Heaps {
         task: u32,
         chunks: &[Chunk],
     ) -> Result<Vec<Addr>, AllocError>
-        requires { AreFields refs_in (resting self.now) (sources_of (slice_get self.now.task_slots.sets task)) }
-        ensures { IfOk result (λ v. v.items ≡ targets_of refs_in (resting self.now) chunks.now (sources_of (slice_get self.now.task_slots.sets task))) }
+        requires { AreFields resting_references (resting self.now) (sources_of (slice_get self.now.task_slots.sets task)) }
+        ensures { IfOk result (λ v. v.items ≡ targets_of resting_references (resting self.now) chunks.now (sources_of (slice_get self.now.task_slots.sets task))) }
     {
         match self.task_slots.slot(task) {
             Some(slot) => slot.set.targets(alloc, self, chunks),
@@ -59,10 +59,10 @@ impl Heaps {
     /// the others unchanged. The relocation list is sorted by the old addresses.
     pub fn rewrite(&mut self, task: u32, moved: &[(Addr, Addr)])
         requires made { task < length self.old.task_slots.rests }
-        requires fields { AreFields refs_in (resting self.old) (sources_of (slice_get self.old.task_slots.sets task)) }
+        requires fields { AreFields resting_references (resting self.old) (sources_of (slice_get self.old.task_slots.sets task)) }
         requires order { AreInOrder moved.now }
         requires places { ArePlaces moved.now }
-        ensures led { self.new ≡ with_resting self.old (fold (redirected refs_in with_ref_in moved.now) (resting self.old) (sources_of (slice_get self.old.task_slots.sets task))) }
+        ensures led { self.new ≡ with_resting self.old (fold (redirected resting_references with_ref_in moved.now) (resting self.old) (sources_of (slice_get self.old.task_slots.sets task))) }
         ensures once { StandOnce (sources_of (slice_get self.old.task_slots.sets task)) }
     {
         if self.task_slots.has_block(task) {

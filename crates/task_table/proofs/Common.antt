@@ -13,5 +13,5 @@ pub use Rattle.std.proofs.lemmas.Result.{err_from_is_err_and}
 pub use Rattle.std.specs.Prelude.{slice_get, IfErr}
 pub use Rattle.task_table.specs.Lines.{words_onto}
 pub use Rattle.task_table.specs.Rows.{rows_with, rows_from}
-pub use Rattle.task_table.specs.Table.{line_at, lines_from, first_line, rows_of}
+pub use Rattle.task_table.specs.Table.{task_row_line, task_row_lines, first_line, rows_of}
 pub use Rattle.task_table.specs.declared.row.TaskRow.{TaskRow}

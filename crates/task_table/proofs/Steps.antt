@@ -1,5 +1,5 @@
 -- One entry more, and one line more, of a table.
-use Rattle.task_table.proofs.Common.{◌≡◌, ◌<◌, ◌+◌, ℕ, List, ◌++◌, length, drop, get_or, ap, sym, ◌∙◌, append_assoc, slice_get, drop_more, ProgramText, EntryValue, Ledger, after, BookValue, cut, TaskRow, rows_with, rows_from, line_at, lines_from}
+use Rattle.task_table.proofs.Common.{◌≡◌, ◌<◌, ◌+◌, ℕ, List, ◌++◌, length, drop, get_or, ap, sym, ◌∙◌, append_assoc, slice_get, drop_more, ProgramText, EntryValue, Ledger, after, BookValue, cut, TaskRow, rows_with, rows_from, task_row_line, task_row_lines}
 
 module _ (journal : List EntryValue) (b b' : BookValue) (i : ℕ) (e : EntryValue) (lt : i < length journal) (is : e ≡ get_or journal i e) (eb : b' ≡ record b { ledger = after b.program b.settings b.ledger e }) where
   -- the rows behind the rest of a journal, also behind the entry
@@ -14,9 +14,9 @@ module _ (journal : List EntryValue) (b b' : BookValue) (i : ℕ) (e : EntryValu
 
 -- the line of a row, and the lines behind it
 pub lines_on : (p : ProgramText) (l : Ledger) (rows : List TaskRow) (i t : ℕ) (r : TaskRow) (now later all : List ℕ) → i < length rows → r ≡ get_or rows i r
-    → now ++ lines_from p l t (drop i rows) ≡ all → later ≡ now ++ line_at p l t (slice_get l.machine.tasks t) r → later ++ lines_from p l (t + 1) (drop (i + 1) rows) ≡ all
+    → now ++ task_row_lines p l t (drop i rows) ≡ all → later ≡ now ++ task_row_line p l t (slice_get l.machine.tasks t) r → later ++ task_row_lines p l (t + 1) (drop (i + 1) rows) ≡ all
 lines_on p l rows i t r now later all lt is inv e =
-    ap (λ x. x ++ lines_from p l (t + 1) (drop (i + 1) rows)) (e ∙ ap (λ x. now ++ line_at p l t (slice_get l.machine.tasks t) x) is)
-    ∙ append_assoc now (line_at p l t (slice_get l.machine.tasks t) (get_or rows i r)) (lines_from p l (t + 1) (drop (i + 1) rows))
-    ∙ ap (λ x. now ++ lines_from p l t x) (sym (drop_more rows i r lt))
+    ap (λ x. x ++ task_row_lines p l (t + 1) (drop (i + 1) rows)) (e ∙ ap (λ x. now ++ task_row_line p l t (slice_get l.machine.tasks t) x) is)
+    ∙ append_assoc now (task_row_line p l t (slice_get l.machine.tasks t) (get_or rows i r)) (task_row_lines p l (t + 1) (drop (i + 1) rows))
+    ∙ ap (λ x. now ++ task_row_lines p l t x) (sym (drop_more rows i r lt))
     ∙ inv

@@ -37,9 +37,9 @@ fork_of p m t u = made_by p (fork_line p (slice_get m.tasks t)) (slice_get m.tas
 abbrev pub fresh_row : Option ForkOrigin → TaskRow
 fresh_row f = record { fork = f; worker = None; entries = 0; steps = 0; dropped = 0 }
 
-abbrev pub first_of : Option ℕ → ℕ → Option ℕ
-first_of None w = Some w
-first_of (Some v) w = Some v
+abbrev pub first_set : Option ℕ → ℕ → Option ℕ
+first_set None w = Some w
+first_set (Some v) w = Some v
 
 -- an entry more
 abbrev pub entered : TaskRow → TaskRow
@@ -47,7 +47,7 @@ entered r = record r { entries = raised_by r.entries 1 }
 
 -- what an entry of a worker, with which the heap lost so many words, tells of its task
 abbrev pub row_after : ℕ → ℕ → Kind → TaskRow → TaskRow
-row_after w lost (Took t) r = record (entered r) { worker = first_of r.worker w }
+row_after w lost (Took t) r = record (entered r) { worker = first_set r.worker w }
 row_after w lost (Ran t k) r = record (entered r) { steps = raised_by r.steps k }
 row_after w lost (End t taken given left) r = record (entered r) { dropped = raised_by r.dropped lost }
 row_after w lost (Sweep t given) r = record (entered r) { dropped = raised_by r.dropped lost }

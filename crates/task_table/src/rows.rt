@@ -1,7 +1,7 @@
 // What an entry tells of tasks.
 
 ghost use Rattle.std.specs.Prelude.{◌≡◌, ◌<◌, ◌+◌, ◌^◌, ◌++◌, OnOk, Some, length, option_copied, slice_get};
-ghost use Rattle.task_table.specs.Rows.{half_begin, last_byte, loop_number, made_by, fork_of, fresh_row, first_of, entered, row_after, task_in, rows_after, children, rows_by};
+ghost use Rattle.task_table.specs.Rows.{half_begin, last_byte, loop_number, made_by, fork_of, fresh_row, first_set, entered, row_after, task_in, rows_after, children, rows_by};
 
 use crate::row::{ForkOrigin, TaskRow};
 use run_journal::{Entry, Frame, IntReg, Kind, Listed, MachineState, Program, Task};
@@ -70,8 +70,8 @@ pub(crate) fn fresh_row(fork: Option<ForkOrigin>) -> TaskRow
     }
 }
 
-fn first_of(first: Option<u32>, worker: u32) -> Option<u32>
-    ensures { result ≡ first_of first worker }
+fn first_set(first: Option<u32>, worker: u32) -> Option<u32>
+    ensures { result ≡ first_set first worker }
 {
     match first {
         None => Some(worker),
@@ -94,7 +94,7 @@ fn row_after(worker: u32, lost: u64, kind: Kind, row: TaskRow) -> TaskRow
 {
     let mut more = entered(row);
     match kind {
-        Kind::Took(_) => more.worker = first_of(row.worker, worker),
+        Kind::Took(_) => more.worker = first_set(row.worker, worker),
         Kind::Ran(_, steps) => more.steps = raised_by(row.steps, steps as u64),
         Kind::End(_, _, _, _) => more.dropped = raised_by(row.dropped, lost),
         Kind::Sweep(_, _) => more.dropped = raised_by(row.dropped, lost),

@@ -6,7 +6,7 @@ ghost use Rattle.run_journal.specs.below.run_ledger.{refusal, after, opening, le
 ghost use Rattle.run_journal.specs.below.run_accounts.{FailsFor};
 ghost use Rattle.run_journal.specs.Replay.{ReplayFails};
 ghost use Rattle.task_table.specs.Rows.{fresh_row, rows_with, rows_from};
-ghost use Rattle.task_table.specs.Table.{first_line, line_at, lines_from, table};
+ghost use Rattle.task_table.specs.Table.{first_line, task_row_line, task_row_lines, table};
 
 use crate::lines::add_line;
 use crate::row::TaskRow;
@@ -79,7 +79,7 @@ fn add_row(
     number: u32,
     row: TaskRow,
 ) -> Result<(), AllocError>
-    ensures { OnOk result (text.new.items ≡ text.old.items ++ line_at program.now book.now.ledger number (slice_get book.now.ledger.machine.tasks number) row) }
+    ensures { OnOk result (text.new.items ≡ text.old.items ++ task_row_line program.now book.now.ledger number (slice_get book.now.ledger.machine.tasks number) row) }
 {
     match book.state().tasks.get(number as usize) {
         None => Ok(()),
@@ -104,7 +104,7 @@ fn add_rows(
     book: &Book,
     rows: &[TaskRow],
 ) -> Result<(), AllocError>
-    ensures { OnOk result (text.new.items ≡ text.old.items ++ lines_from program.now book.now.ledger 0 rows.now) }
+    ensures { OnOk result (text.new.items ≡ text.old.items ++ task_row_lines program.now book.now.ledger 0 rows.now) }
 {
     let mut number: u32 = 0;
     for row in rows {
@@ -124,7 +124,7 @@ fn text_of(
     book: &Book,
     rows: &[TaskRow],
 ) -> Result<Vec<u8>, AllocError>
-    ensures { IfOk result (λ text. text.items ≡ first_line ++ lines_from program.now book.now.ledger 0 rows.now) }
+    ensures { IfOk result (λ text. text.items ≡ first_line ++ task_row_lines program.now book.now.ledger 0 rows.now) }
 {
     let mut text = Vec::new(alloc);
     text.extend_from_slice(

@@ -4,7 +4,7 @@ pub use Rattle.hh_model.specs.Step.{owner_of, root, start}
 pub use Rattle.hh_model.specs.declared.data.MachineState.{MachineState}
 pub use Rattle.hh_model.specs.declared.data.Name.{Name}
 pub use Rattle.hh_model.specs.declared.data.Object.{Object}
-pub use Rattle.leaf_heap.proofs.HeapLemmas.{place_in-push}
+pub use Rattle.leaf_heap.proofs.ChunkAdded.{place_in-push}
 pub use Rattle.leaf_heap.specs.LeafHeapValue.{LeafHeapValue, IsFresh, added, with_places, HaveDistinctNumbers, IsCurrent, IsReserved}
 pub use Rattle.object_layout.specs.Cell.{Cell, Born, Hole}
 pub use Rattle.object_layout.specs.ChunkValue.{ChunkValue}

@@ -1,7 +1,6 @@
 -- The first cause on a line, for the reader and here.
-use Rattle.text_faults.proofs.Common.{◌≡◌, ◌+◌, ◌&&◌, ◌||◌, ℕ, Bool, true, false, cond, List, [], ◌∷◌, length, refl, ap, sym, ◌∙◌, true≢false, Option, Some, None, not, nat_le, codes, is_utf8, is_last, Cause, Head, Blank, Begin, End, Label, Order, Unknown, Verb, Outline, is_noted, head_of_words, operands_of, sense_of, head_of_line, operands_of_line, is_open_after, looped_name, LineContext, is_begin, is_misplaced, has_wrong_operand, is_second, names_no_function, names_no_label, lacks_main, is_too_many, function_limit, order_limit, first_cause, fault_by, fault_on, Wrong, NotUtf8, InsideFunction, OpenFunction, NoMain, ManyFunctions, ManyInstructions, LinesAbove, PlacedWord, placed_words, head_form, head_of, form_of, first_of, behind_first, Wronged, wrong_if, misplaced, first_wrong, operand_wrong, unreadable, nested, left_open, first_misnamed, main_missing, too_many, with_wronged, if_read, all_wronged, wrongs_by, wrongs_on, cause_of}
+use Rattle.text_faults.proofs.Common.{◌≡◌, ◌+◌, ◌&&◌, ◌||◌, ℕ, Bool, true, false, cond, List, [], ◌∷◌, length, refl, ap, sym, ◌∙◌, true≢false, Option, Some, None, not, nat_le, codes, is_utf8, is_last, Cause, Head, Blank, Begin, End, Label, Order, Unknown, Verb, Outline, is_noted, head_of_words, operands_of, sense_of, head_of_line, operands_of_line, is_open_after, looped_name, LineContext, is_begin, is_misplaced, has_wrong_operand, is_second, names_no_function, names_no_label, lacks_main, is_too_many, function_limit, order_limit, first_cause, line_cause, fault_on, Wrong, NotUtf8, InsideFunction, OpenFunction, NoMain, ManyFunctions, ManyInstructions, LinesAbove, PlacedWord, placed_words, head_form, head_of, form_of, first_placed_word, behind_first, Wronged, wrong_if, misplaced, first_wrong, operand_wrong, unreadable, nested, left_open, first_misnamed, main_missing, too_many, with_wronged, if_read, all_wronged, wrongs_by, wrongs_on, cause_of_wrong, word_place}
 use Rattle.program_reader.specs.declared.cause.Cause.TheVariants as reads
-use Rattle.text_faults.specs.WordFault.{place_of}
 use Rattle.text_faults.proofs.WordsOf.{texts, texts_of, texts_behind, head_is}
 use Rattle.text_faults.proofs.Senses.{Words, cause_in, cause_if, all_fit, wrong_unfit, senses_agree}
 use Rattle.text_faults.proofs.NamesAgree.{name_cause, KnowsNames, KnowsLoop, names_agree}
@@ -10,7 +9,7 @@ use Rattle.text_faults.proofs.NamesAgree.{name_cause, KnowsNames, KnowsLoop, nam
 
 abbrev pub first_in : List Wronged → Option Cause
 first_in [] = None
-first_in (f ∷ fs) = Some (cause_of f.wrong)
+first_in (f ∷ fs) = Some (cause_of_wrong f.wrong)
 
 or_next : Option Cause → Option Cause → Option Cause
 or_next (Some c) next = Some c
@@ -23,7 +22,7 @@ first_with None fs = refl
 
 none_found : (o : Option Wronged) → cause_in o ≡ None → o ≡ None
 none_found None e = refl
-none_found (Some f) e = absurd (some_is_none (cause_of f.wrong) e)
+none_found (Some f) e = absurd (some_is_none (cause_of_wrong f.wrong) e)
   where
     some_is_none : (c : Cause) → ◌≡◌ {A = Option Cause} (Some c) None → ⊥
     some_is_none c e = cc
@@ -85,7 +84,7 @@ by_tests u nest opened names main many false false n p second no_function no_lab
 
 -- ---- each test
 
-if_wrong : (b : Bool) (p : PlacedWord) (wrong : Wrong) → cause_in (wrong_if b p wrong) ≡ cause_if b (cause_of wrong)
+if_wrong : (b : Bool) (p : PlacedWord) (wrong : Wrong) → cause_in (wrong_if b p wrong) ≡ cause_if b (cause_of_wrong wrong)
 if_wrong true p wrong = refl
 if_wrong false p wrong = refl
 
@@ -143,7 +142,7 @@ module _ (o : Outline) (s : LineContext) (w : LinesAbove) (at : IsSpot o s w) (l
 
   wrong_operand : cause_in (operand_wrong None (placed_words line)) ≡ cause_if (has_wrong_operand (sense_of o s.labels (head_of_line line) (operands_of_line line))) reads.Operand
   wrong_operand =
-      wrong_unfit ((first_of (placed_words line)).column + length (first_of (placed_words line)).word) (form_of (placed_words line)) (behind_first (placed_words line))
+      wrong_unfit ((first_placed_word (placed_words line)).column + length (first_placed_word (placed_words line)).word) (form_of (placed_words line)) (behind_first (placed_words line))
       ∙ ap (λ b. cause_if (not b) reads.Operand) fits_are
       ∙ ap (λ b. cause_if b reads.Operand) (senses_agree o s.labels (head_of_line line) (operands_of_line line))
 
@@ -155,25 +154,25 @@ module _ (o : Outline) (s : LineContext) (w : LinesAbove) (at : IsSpot o s w) (l
 
   nested_is : cause_in (nested w (placed_words line)) ≡ cause_if (s.inside && is_begin (head_of_line line)) reads.NoEnd
   nested_is =
-      if_wrong (w.inside && is_begin (head_of (placed_words line))) (first_of (placed_words line)) InsideFunction
+      if_wrong (w.inside && is_begin (head_of (placed_words line))) (first_placed_word (placed_words line)) InsideFunction
       ∙ ap (λ b. cause_if (b && is_begin (head_of (placed_words line))) reads.NoEnd) at.inside
       ∙ ap (λ h. cause_if (s.inside && is_begin h) reads.NoEnd) same_head
 
   open_is_left : cause_in (left_open w s.last (placed_words line)) ≡ cause_if (s.last && is_open_after (head_of_line line) s.inside) reads.NoEnd
   open_is_left =
-      if_wrong (s.last && is_open_after (head_of (placed_words line)) w.inside) (place_of (first_of (placed_words line))) OpenFunction
+      if_wrong (s.last && is_open_after (head_of (placed_words line)) w.inside) (word_place (first_placed_word (placed_words line))) OpenFunction
       ∙ ap (λ b. cause_if (s.last && is_open_after (head_of (placed_words line)) b) reads.NoEnd) at.inside
       ∙ ap (λ h. cause_if (s.last && is_open_after h s.inside) reads.NoEnd) same_head
 
   main_is_missing : cause_in (main_missing w s.last (placed_words line)) ≡ cause_if (lacks_main o s) reads.NoMain
   main_is_missing =
-      if_wrong (s.last && not (is_noted w.outline.functions (codes "main"))) (place_of (first_of (placed_words line))) NoMain
+      if_wrong (s.last && not (is_noted w.outline.functions (codes "main"))) (word_place (first_placed_word (placed_words line))) NoMain
       ∙ ap (λ es. cause_if (s.last && not (is_noted es (codes "main"))) reads.NoMain) at.names.all
 
-  too_many_are : cause_in (too_many w (head_of (placed_words line)) (first_of (placed_words line))) ≡ cause_if (is_too_many s (head_of_line line)) reads.TooMany
+  too_many_are : cause_in (too_many w (head_of (placed_words line)) (first_placed_word (placed_words line))) ≡ cause_if (is_too_many s (head_of_line line)) reads.TooMany
   too_many_are =
-      ap (λ h. cause_in (too_many w h (first_of (placed_words line)))) same_head
-      ∙ too_many_is w s (head_of_line line) (first_of (placed_words line)) at.begun at.orders
+      ap (λ h. cause_in (too_many w h (first_placed_word (placed_words line)))) same_head
+      ∙ too_many_is w s (head_of_line line) (first_placed_word (placed_words line)) at.begun at.orders
 
   names_are : KnowsLoop o (head_of_line line) (operands_of_line line) → is_misplaced s.inside (head_of_line line) ≡ false → has_wrong_operand (sense_of o s.labels (head_of_line line) (operands_of_line line)) ≡ false
       → cause_in (first_misnamed w (form_of (placed_words line)) (behind_first (placed_words line))) ≡ name_cause (is_second s (head_of_line line) (operands_of_line line)) (names_no_function (sense_of o s.labels (head_of_line line) (operands_of_line line))) (names_no_label (sense_of o s.labels (head_of_line line) (operands_of_line line)))
@@ -188,11 +187,11 @@ module _ (o : Outline) (s : LineContext) (w : LinesAbove) (at : IsSpot o s w) (l
       ∙ ap (λ ws. name_cause (is_second s (head_of_line line) ws) (names_no_function (sense_of o s.labels (head_of_line line) ws)) (names_no_label (sense_of o s.labels (head_of_line line) ws))) words_are
 
   by_utf8 : KnowsLoop o (head_of_line line) (operands_of_line line) → (b : Bool)
-      → first_in (all_wronged (cond b (operand_wrong (misplaced w.inside (head_of (placed_words line))) (placed_words line)) (Some (record { column = 1; word = []; wrong = NotUtf8 }))) (nested w (placed_words line)) (left_open w s.last (placed_words line)) (first_misnamed w (form_of (placed_words line)) (behind_first (placed_words line))) (main_missing w s.last (placed_words line)) (too_many w (head_of (placed_words line)) (first_of (placed_words line))))
-      ≡ cond b (fault_by o s (head_of_line line) (operands_of_line line) (sense_of o s.labels (head_of_line line) (operands_of_line line))) (Some reads.NotUtf8)
+      → first_in (all_wronged (cond b (operand_wrong (misplaced w.inside (head_of (placed_words line))) (placed_words line)) (Some (record { column = 1; word = []; wrong = NotUtf8 }))) (nested w (placed_words line)) (left_open w s.last (placed_words line)) (first_misnamed w (form_of (placed_words line)) (behind_first (placed_words line))) (main_missing w s.last (placed_words line)) (too_many w (head_of (placed_words line)) (first_placed_word (placed_words line))))
+      ≡ cond b (line_cause o s (head_of_line line) (operands_of_line line) (sense_of o s.labels (head_of_line line) (operands_of_line line))) (Some reads.NotUtf8)
   by_utf8 loop false = refl
   by_utf8 loop true =
-      by_tests (operand_wrong (misplaced w.inside (head_of (placed_words line))) (placed_words line)) (nested w (placed_words line)) (left_open w s.last (placed_words line)) (first_misnamed w (form_of (placed_words line)) (behind_first (placed_words line))) (main_missing w s.last (placed_words line)) (too_many w (head_of (placed_words line)) (first_of (placed_words line)))
+      by_tests (operand_wrong (misplaced w.inside (head_of (placed_words line))) (placed_words line)) (nested w (placed_words line)) (left_open w s.last (placed_words line)) (first_misnamed w (form_of (placed_words line)) (behind_first (placed_words line))) (main_missing w s.last (placed_words line)) (too_many w (head_of (placed_words line)) (first_placed_word (placed_words line)))
       (is_misplaced s.inside (head_of_line line)) (has_wrong_operand (sense_of o s.labels (head_of_line line) (operands_of_line line))) (s.inside && is_begin (head_of_line line)) (s.last && is_open_after (head_of_line line) s.inside)
       (is_second s (head_of_line line) (operands_of_line line)) (names_no_function (sense_of o s.labels (head_of_line line) (operands_of_line line))) (names_no_label (sense_of o s.labels (head_of_line line) (operands_of_line line))) (lacks_main o s) (is_too_many s (head_of_line line))
       unreadable_is

@@ -1,5 +1,5 @@
 -- Which names on a line are wrong, for the reader and here.
-use Rattle.text_faults.proofs.Common.{◌≡◌, ◌+◌, ◌&&◌, ◌||◌, ◌++◌, ℕ, zero, suc, Bool, true, false, cond, List, [], ◌∷◌, length, refl, ap, sym, ◌∙◌, arith, nat_lt, true≢false, Option, Some, None, not, is_some, option_map, position, list_any, list_all, position_or_len, bytes_eq, Instr, Cause, Verb, Set, Mov, Movr, Nil, Calc, Same, Jmp, Jz, Newm, Pack, Getr, Geti, Putr, Puti, Cntr, Cnti, Freeze, Cas, Call, Par, Pfor, Ret, Out, Head, Blank, Begin, End, Label, Order, Unknown, Sense, WrongOperand, Outline, NotedName, is_name, is_noted, place_of, numbered_of, int_register, plain_one, plain_two, plain_three, plain_five, plain, at_label, jump_on_zero, calling, forking, looping, order_alone, order_one, order_two, order_of, only_name, named, sense_of, looped_name, LineContext, is_named_in, is_second, names_no_function, names_no_label, Operand, IntRegister, RefRegister, Number, FieldCount, Function, NewFunction, NewLabel, Wrong, UnknownFunction, UnknownLabel, SecondFunction, SecondLabel, LinesAbove, PlacedWord, Form, verb_form, head_form, Wronged, wrong_unless, name_wrong, wronged_or, first_misnamed, cause_of}
+use Rattle.text_faults.proofs.Common.{◌≡◌, ◌+◌, ◌&&◌, ◌||◌, ◌++◌, ℕ, zero, suc, Bool, true, false, cond, List, [], ◌∷◌, length, refl, ap, sym, ◌∙◌, arith, nat_lt, true≢false, Option, Some, None, not, is_some, option_map, position, list_any, list_all, position_or_len, bytes_eq, Instr, Cause, Verb, Set, Mov, Movr, Nil, Calc, Same, Jmp, Jz, Newm, Pack, Getr, Geti, Putr, Puti, Cntr, Cnti, Freeze, Cas, Call, Par, Pfor, Ret, Out, Head, Blank, Begin, End, Label, Order, Unknown, Sense, WrongOperand, Outline, NotedName, is_name, is_noted, name_index, numbered_of, int_register, plain_one, plain_two, plain_three, plain_five, plain, at_label, jump_on_zero, calling, forking, looping, order_alone, order_one, order_two, ordered_sense, only_name, sense_of_name, sense_of, looped_name, LineContext, is_named_in, is_second, names_no_function, names_no_label, Operand, IntRegister, RefRegister, Number, FieldCount, Function, NewFunction, NewLabel, Wrong, UnknownFunction, UnknownLabel, SecondFunction, SecondLabel, LinesAbove, PlacedWord, Form, verb_form, head_form, Wronged, wrong_unless, name_wrong, wronged_or, first_misnamed, cause_of_wrong}
 use Rattle.program_reader.specs.declared.cause.Cause.TheVariants as reads
 use Rattle.text_faults.specs.declared.fault.Operand.TheVariants.{Label as LabelName}
 use Rattle.text_faults.proofs.WordsOf.{texts}
@@ -30,7 +30,7 @@ any_below : {X : Type 0} (p : X → Bool) (xs : List X) → nat_lt (position_or_
 any_below p [] = refl
 any_below p (x ∷ xs) = any_more p xs (p x) (any_below p xs)
 
-pub place_is : (es : List NotedName) (name : List ℕ) → is_some (place_of es name) ≡ is_noted es name
+pub place_is : (es : List NotedName) (name : List ℕ) → is_some (name_index es name) ≡ is_noted es name
 place_is es name =
     let p : NotedName → Bool = λ e. bytes_eq name e.name in
     some_below (nat_lt (position_or_len p es) (length es)) (position_or_len p es) ∙ any_below p es
@@ -81,7 +81,7 @@ plain_none (Some i) = refl
 plain_none None = refl
 
 module _ (o : Outline) (labels : List NotedName) (v : Verb) where
-  nameless_order : (ws : Words) → sense_cause false (order_alone v) ≡ None → ((a : List ℕ) → order_one o labels v a ≡ plain (plain_one v a)) → ((a b : List ℕ) → order_two o labels v a b ≡ plain (plain_two v a b)) → sense_cause false (order_of o labels v ws) ≡ None
+  nameless_order : (ws : Words) → sense_cause false (order_alone v) ≡ None → ((a : List ℕ) → order_one o labels v a ≡ plain (plain_one v a)) → ((a b : List ℕ) → order_two o labels v a b ≡ plain (plain_two v a b)) → sense_cause false (ordered_sense o labels v ws) ≡ None
   nameless_order [] z s t = z
   nameless_order (a ∷ []) z s t = ap (sense_cause false) (s a) ∙ plain_none (plain_one v a)
   nameless_order (a ∷ b ∷ []) z s t = ap (sense_cause false) (t a b) ∙ plain_none (plain_two v a b)
@@ -137,8 +137,8 @@ fork_by p q true true false n None y fit d e = refl
 fork_by p q true false m n x y fit d e = never fit
 fork_by p q false c m n x y fit d e = never fit
 
-new_by : (p : PlacedWord) (b n : Bool) (es : List NotedName) (x : Option ℕ) (g : ℕ → Wrong) → ((k : ℕ) → cause_of (g k) ≡ reads.TwoNames) → (b && true) ≡ true → is_noted es p.word ≡ n → is_some x ≡ n
-    → cause_in (wronged_or p (option_map g x) None) ≡ sense_cause (is_named_in es (cond b (Some p.word) None)) (named (cond b (Some p.word) None))
+new_by : (p : PlacedWord) (b n : Bool) (es : List NotedName) (x : Option ℕ) (g : ℕ → Wrong) → ((k : ℕ) → cause_of_wrong (g k) ≡ reads.TwoNames) → (b && true) ≡ true → is_noted es p.word ≡ n → is_some x ≡ n
+    → cause_in (wronged_or p (option_map g x) None) ≡ sense_cause (is_named_in es (cond b (Some p.word) None)) (sense_of_name (cond b (Some p.word) None))
 new_by p true true es (Some k) g two fit d e = ap (λ c. Some c) (two k) ∙ sym (ap (λ t. cond t (Some reads.TwoNames) None) d)
 new_by p true true es None g two fit d e = never e
 new_by p true false es (Some k) g two fit d e = never (sym e)
@@ -158,7 +158,7 @@ abbrev pub KnowsLoop : Outline → Head → Words → Type 0
 KnowsLoop o h ws = (name : List ℕ) → looped_name h ws ≡ Some name → is_noted o.loops name ≡ true
 
 module _ (o : Outline) (s : LineContext) (w : LinesAbove) (known : KnowsNames o s w) where
-  in_functions : (name : List ℕ) → is_some (place_of o.functions name) ≡ is_noted w.outline.functions name
+  in_functions : (name : List ℕ) → is_some (name_index o.functions name) ≡ is_noted w.outline.functions name
   in_functions name = place_is o.functions name ∙ ap (λ es. is_noted es name) (sym known.all)
 
   in_labels : s.inside ≡ true → (name : List ℕ) → is_some (numbered_of s.labels name) ≡ is_noted w.labels.all.entries name
@@ -170,7 +170,7 @@ module _ (o : Outline) (s : LineContext) (w : LinesAbove) (known : KnowsNames o 
 
   calls : (ps : List PlacedWord) → NamesAgree (Order Call) ps
   calls [] fit = never fit
-  calls (p ∷ []) fit = call_by p (is_name p.word) (is_noted w.outline.functions p.word) (place_of o.functions p.word) fit (in_functions p.word)
+  calls (p ∷ []) fit = call_by p (is_name p.word) (is_noted w.outline.functions p.word) (name_index o.functions p.word) fit (in_functions p.word)
   calls (p ∷ q ∷ ps) fit = never1 (is_name p.word) fit
 
   named_loop : (name : List ℕ) (b : Bool) → is_name name ≡ b → (b && true) ≡ true → KnowsLoop o (Order Pfor) (name ∷ []) → is_noted o.loops name ≡ true
@@ -180,7 +180,7 @@ module _ (o : Outline) (s : LineContext) (w : LinesAbove) (known : KnowsNames o 
   loops : (ps : List PlacedWord) → KnowsLoop o (Order Pfor) (texts ps) → NamesAgree (Order Pfor) ps
   loops [] k fit = never fit
   loops (p ∷ []) k fit =
-      loop_by o p (is_name p.word) (is_noted w.outline.functions p.word) (place_of o.functions p.word) (place_of o.loops p.word) fit (in_functions p.word)
+      loop_by o p (is_name p.word) (is_noted w.outline.functions p.word) (name_index o.functions p.word) (name_index o.loops p.word) fit (in_functions p.word)
       (place_is o.loops p.word ∙ named_loop p.word (is_name p.word) refl fit k)
   loops (p ∷ q ∷ ps) k fit = never1 (is_name p.word) fit
 
@@ -199,7 +199,7 @@ module _ (o : Outline) (s : LineContext) (w : LinesAbove) (known : KnowsNames o 
   forks [] fit = never fit
   forks (p ∷ []) fit = never1 (is_name p.word) fit
   forks (p ∷ q ∷ []) fit =
-      fork_by p q (is_name p.word) (is_name q.word) (is_noted w.outline.functions p.word) (is_noted w.outline.functions q.word) (place_of o.functions p.word) (place_of o.functions q.word) fit
+      fork_by p q (is_name p.word) (is_name q.word) (is_noted w.outline.functions p.word) (is_noted w.outline.functions q.word) (name_index o.functions p.word) (name_index o.functions q.word) fit
       (in_functions p.word) (in_functions q.word)
   forks (p ∷ q ∷ r ∷ ps) fit = never2 (is_name p.word) (is_name q.word) fit
 

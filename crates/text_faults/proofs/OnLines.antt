@@ -1,5 +1,5 @@
 -- What is found on a line that is parsed.
-use Rattle.text_faults.proofs.Common.{◌≡◌, ◌<◌, ◌+◌, ◌++◌, arith, ℕ, Bool, true, false, cond, List, [], ◌∷◌, length, map, refl, ap, sym, ◌∙◌, append_assoc, Option, Some, None, is_utf8, Fault, Wrong, NotUtf8, Parsed, LinesAbove, PlacedWord, placed_of, placed_from, placed_words, Form, head_of, form_of, first_of, behind_first, IsParse, Wronged, wronged, misplaced, first_wrong, operand_wrong, unreadable, with_wronged, all_wronged, if_read, fault_of}
+use Rattle.text_faults.proofs.Common.{◌≡◌, ◌<◌, ◌+◌, ◌++◌, arith, ℕ, Bool, true, false, cond, List, [], ◌∷◌, length, map, refl, ap, sym, ◌∙◌, append_assoc, Option, Some, None, is_utf8, Fault, Wrong, NotUtf8, Parsed, LinesAbove, PlacedWord, placed_of, placed_from, placed_words, Form, head_of, form_of, first_placed_word, behind_first, IsParse, Wronged, wronged, misplaced, first_wrong, operand_wrong, unreadable, with_wronged, all_wronged, if_read, fault_of}
 
 pub no_form : (form : Form) → length form < 1 → form ≡ []
 no_form [] lt = refl
@@ -22,8 +22,8 @@ module _ (p : Parsed) (parsed : IsParse p) (inside : Bool) (utf8 : is_utf8 p.lin
   right_word r o is none found =
       found
       ∙ ap (λ (q : PlacedWord). first_wrong (q.column + length q.word) p.form.now (placed_from p.line.now p.rest)) parsed.first
-      ∙ ap (λ form. first_wrong ((first_of (placed_words p.line.now)).column + length (first_of (placed_words p.line.now)).word) form (placed_from p.line.now p.rest)) parsed.form
-      ∙ ap (first_wrong ((first_of (placed_words p.line.now)).column + length (first_of (placed_words p.line.now)).word) (form_of (placed_words p.line.now))) parsed.rest
+      ∙ ap (λ form. first_wrong ((first_placed_word (placed_words p.line.now)).column + length (first_placed_word (placed_words p.line.now)).word) form (placed_from p.line.now p.rest)) parsed.form
+      ∙ ap (first_wrong ((first_placed_word (placed_words p.line.now)).column + length (first_placed_word (placed_words p.line.now)).word) (form_of (placed_words p.line.now))) parsed.rest
       ∙ ap (λ o. operand_wrong o (placed_words p.line.now)) (sym none ∙ is ∙ ap (misplaced inside) parsed.head)
       ∙ is_text inside p.line.now (placed_words p.line.now) utf8
 

@@ -1,5 +1,5 @@
 -- What the reader makes of the operands of a line, and which of them are wrong.
-use Rattle.text_faults.proofs.Common.{◌≡◌, ◌+◌, ◌&&◌, ℕ, Bool, true, false, cond, List, [], ◌∷◌, length, refl, ap, sym, ◌∙◌, true≢false, Option, Some, None, not, is_some, option_map, signed_number, Instr, Cause, Verb, Set, Mov, Movr, Nil, Calc, Same, Jmp, Jz, Newm, Pack, Getr, Geti, Putr, Puti, Cntr, Cnti, Freeze, Cas, Call, Par, Pfor, Ret, Out, Head, Blank, Begin, End, Label, Order, Unknown, Sense, Fits, Does, WrongOperand, NoSuchFunction, NoSuchLabel, Outline, NotedName, is_name, place_of, numbered_of, int_register, ref_register, field_count, one, two, three, five, plain_one, plain_two, plain_three, plain_five, plain, at_label, jump, jump_on_zero, calling, call, forking, fork, looping, loop_over, order_alone, order_one, order_two, order_of, only_name, named, alone, sense_of, has_wrong_operand, Operand, IntRegister, RefRegister, Number, FieldCount, Function, NewFunction, NewLabel, NotOne, PlacedWord, is_operand, Form, verb_form, head_form, Wronged, wronged, first_wrong, cause_of}
+use Rattle.text_faults.proofs.Common.{◌≡◌, ◌+◌, ◌&&◌, ℕ, Bool, true, false, cond, List, [], ◌∷◌, length, refl, ap, sym, ◌∙◌, true≢false, Option, Some, None, not, is_some, option_map, signed_number, Instr, Cause, Verb, Set, Mov, Movr, Nil, Calc, Same, Jmp, Jz, Newm, Pack, Getr, Geti, Putr, Puti, Cntr, Cnti, Freeze, Cas, Call, Par, Pfor, Ret, Out, Head, Blank, Begin, End, Label, Order, Unknown, Sense, Fits, Does, WrongOperand, NoSuchFunction, NoSuchLabel, Outline, NotedName, is_name, name_index, numbered_of, int_register, ref_register, field_count, one, two, three, five, plain_one, plain_two, plain_three, plain_five, plain, at_label, jump, jump_on_zero, calling, call, forking, fork, looping, loop_over, order_alone, order_one, order_two, ordered_sense, only_name, sense_of_name, alone, sense_of, has_wrong_operand, Operand, IntRegister, RefRegister, Number, FieldCount, Function, NewFunction, NewLabel, NotOne, PlacedWord, is_operand, Form, verb_form, head_form, Wronged, wronged, first_wrong, cause_of_wrong}
 use Rattle.program_reader.specs.declared.cause.Cause.TheVariants as reads
 use Rattle.text_faults.specs.declared.fault.Operand.TheVariants.{Label as LabelName}
 use Rattle.text_faults.proofs.WordsOf.{texts}
@@ -9,7 +9,7 @@ Words = List (List ℕ)
 
 -- the cause of what is found
 abbrev pub cause_in : Option Wronged → Option Cause
-cause_in o = option_map (λ f. cause_of f.wrong) o
+cause_in o = option_map (λ f. cause_of_wrong f.wrong) o
 
 -- a cause, if a test holds
 abbrev pub cause_if : Bool → Cause → Option Cause
@@ -59,7 +59,7 @@ not5 false b c d e = refl
 
 -- the words fit if and only if the reader finds no wrong operand
 abbrev pub Agree : Outline → List NotedName → Verb → Form → Words → Type 0
-Agree o labels v form ws = not (all_fit form ws) ≡ has_wrong_operand (order_of o labels v ws)
+Agree o labels v form ws = not (all_fit form ws) ≡ has_wrong_operand (ordered_sense o labels v ws)
 
 -- what the reader makes of other numbers of operands than an instruction has
 record Alone (v : Verb) : Type 0 where
@@ -228,17 +228,17 @@ module _ (o : Outline) (labels : List NotedName) where
   verbs_agree Cnti = pairs Cnti IntRegister RefRegister refl (λ a. refl) (λ a b. by_two (int_register a) (ref_register b) _) (λ a b c. refl) (λ a b c d e. refl)
   verbs_agree Freeze = singles Freeze RefRegister refl (λ a. by_one (ref_register a) _) (λ a b. refl) (λ a b c. refl) (λ a b c d e. refl)
   verbs_agree Cas = swaps
-  verbs_agree Call = singles Call Function refl (λ a. by_call (is_name a) (place_of o.functions a)) (λ a b. refl) (λ a b c. refl) (λ a b c d e. refl)
-  verbs_agree Par = pairs Par Function Function refl (λ a. refl) (λ a b. by_fork (is_name a) (is_name b) (place_of o.functions a) (place_of o.functions b)) (λ a b c. refl) (λ a b c d e. refl)
-  verbs_agree Pfor = singles Pfor Function refl (λ a. by_loop o (is_name a) (place_of o.functions a) (place_of o.loops a)) (λ a b. refl) (λ a b c. refl) (λ a b c d e. refl)
+  verbs_agree Call = singles Call Function refl (λ a. by_call (is_name a) (name_index o.functions a)) (λ a b. refl) (λ a b c. refl) (λ a b c d e. refl)
+  verbs_agree Par = pairs Par Function Function refl (λ a. refl) (λ a b. by_fork (is_name a) (is_name b) (name_index o.functions a) (name_index o.functions b)) (λ a b c. refl) (λ a b c d e. refl)
+  verbs_agree Pfor = singles Pfor Function refl (λ a. by_loop o (is_name a) (name_index o.functions a) (name_index o.loops a)) (λ a b. refl) (λ a b c. refl) (λ a b c d e. refl)
   verbs_agree Ret = returns
   verbs_agree Out = singles Out IntRegister refl (λ a. by_one (int_register a) _) (λ a b. refl) (λ a b c. refl) (λ a b c d e. refl)
 
-  by_name : (b : Bool) (a : List ℕ) → not (b && true) ≡ has_wrong_operand (named (cond b (Some a) None))
+  by_name : (b : Bool) (a : List ℕ) → not (b && true) ≡ has_wrong_operand (sense_of_name (cond b (Some a) None))
   by_name true a = refl
   by_name false a = refl
 
-  name_agrees : (k : Operand) (ws : Words) → ((a : List ℕ) → is_operand k a ≡ is_name a) → not (all_fit (k ∷ []) ws) ≡ has_wrong_operand (named (only_name ws))
+  name_agrees : (k : Operand) (ws : Words) → ((a : List ℕ) → is_operand k a ≡ is_name a) → not (all_fit (k ∷ []) ws) ≡ has_wrong_operand (sense_of_name (only_name ws))
   name_agrees k [] h = refl
   name_agrees k (a ∷ []) h = ap (λ b. not (b && true)) (h a) ∙ by_name (is_name a) a
   name_agrees k (a ∷ b ∷ ws) h = not1 (is_operand k a)

@@ -1,5 +1,5 @@
 -- What the lines above say, for the reader and here.
-use Rattle.text_faults.proofs.Common.{◌≡◌, ◌+◌, ◌++◌, ◌||◌, ℕ, Bool, true, false, cond, List, [], ◌∷◌, length, refl, ap, sym, ◌∙◌, arith, true≢false, Option, Some, None, not, list_any, bytes_eq, bytes_eq-Decides, is_last, lines_of, Head, Blank, Begin, End, Label, Order, Unknown, Outline, Labels, NotedName, noted_name_of, is_noted, noted, head_of_words, operands_of, only_name, head_of_line, operands_of_line, is_open_after, is_inside, noted_if, begun_name, looped_name, outline_line, outline_above, outline_onto, outline_of, no_names, no_labels, label_line, labels_after, labels_above, labels_onto, ends_body, begins, begun_above, orders, orders_above, spot_of, LinesAbove, PlacedWord, placed_words, head_of, behind_first, lone_name, walked_by, walked, walk_of}
+use Rattle.text_faults.proofs.Common.{◌≡◌, ◌+◌, ◌++◌, ◌||◌, ℕ, Bool, true, false, cond, List, [], ◌∷◌, length, refl, ap, sym, ◌∙◌, arith, true≢false, Option, Some, None, not, list_any, bytes_eq, bytes_eq-Decides, is_last, lines_of, Head, Blank, Begin, End, Label, Order, Unknown, Outline, Labels, NotedName, noted_name_of, is_noted, with_name, head_of_words, operands_of, only_name, head_of_line, operands_of_line, is_open_after, is_inside, noted_if, begun_name, looped_name, outline_line, outline_above, outline_onto, outline_of, no_names, no_labels, label_line, labels_after, labels_above, labels_onto, ends_body, begins, begun_above, orders, orders_above, spot_of, LinesAbove, PlacedWord, placed_words, head_of, behind_first, lone_name, walked_by, walked, walk_of}
 use Rattle.text_faults.proofs.WordsOf.{texts, texts_of, texts_behind, head_is, lone_is_only}
 use Rattle.text_faults.proofs.Senses.{Words}
 use Rattle.text_faults.proofs.NamesAgree.{KnowsNames, KnowsLoop}

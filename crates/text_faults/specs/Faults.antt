@@ -17,22 +17,22 @@ use Rattle.text_faults.specs.WordFault.{Wronged, wrongs_on}
 use Rattle.text_faults.specs.Near.{meant}
 
 -- the cause that the reader of programs gives
-abbrev pub cause_of : Wrong → Cause
-cause_of NotUtf8 = reads.NotUtf8
-cause_of OutsideFunction = reads.Word
-cause_of UnknownWord = reads.Word
-cause_of (Missing k) = reads.Operand
-cause_of (NotOne k) = reads.Operand
-cause_of Extra = reads.Operand
-cause_of InsideFunction = reads.NoEnd
-cause_of OpenFunction = reads.NoEnd
-cause_of (SecondFunction n) = reads.TwoNames
-cause_of (SecondLabel n) = reads.TwoNames
-cause_of UnknownFunction = reads.NoName
-cause_of UnknownLabel = reads.NoLabel
-cause_of NoMain = reads.NoMain
-cause_of ManyFunctions = reads.TooMany
-cause_of ManyInstructions = reads.TooMany
+abbrev pub cause_of_wrong : Wrong → Cause
+cause_of_wrong NotUtf8 = reads.NotUtf8
+cause_of_wrong OutsideFunction = reads.Word
+cause_of_wrong UnknownWord = reads.Word
+cause_of_wrong (Missing k) = reads.Operand
+cause_of_wrong (NotOne k) = reads.Operand
+cause_of_wrong Extra = reads.Operand
+cause_of_wrong InsideFunction = reads.NoEnd
+cause_of_wrong OpenFunction = reads.NoEnd
+cause_of_wrong (SecondFunction n) = reads.TwoNames
+cause_of_wrong (SecondLabel n) = reads.TwoNames
+cause_of_wrong UnknownFunction = reads.NoName
+cause_of_wrong UnknownLabel = reads.NoLabel
+cause_of_wrong NoMain = reads.NoMain
+cause_of_wrong ManyFunctions = reads.TooMany
+cause_of_wrong ManyInstructions = reads.TooMany
 
 abbrev pub fault_of : LinesAbove → ℕ → Wronged → Fault
 fault_of w number f = record { line = number; column = f.column; word = f.word; wrong = f.wrong; near = meant w f.wrong f.word }

@@ -3,12 +3,12 @@ use Rattle.std.specs.Prelude.{◌≡◌, ◌↔◌, ℕ, Option, Some, None, Lis
 use Rattle.program_reader.specs.declared.cause.TextFault.{TextFault}
 use Rattle.program_reader.specs.Fault.{first_fault}
 use Rattle.text_faults.specs.declared.fault.Fault.{Fault}
-use Rattle.text_faults.specs.Faults.{cause_of, faults_of}
+use Rattle.text_faults.specs.Faults.{cause_of_wrong, faults_of}
 
 -- the line and the cause of the first of some faults
 abbrev pub first_of_faults : List Fault → Option TextFault
 first_of_faults [] = None
-first_of_faults (f ∷ fs) = Some (record { line = f.line; cause = cause_of f.wrong })
+first_of_faults (f ∷ fs) = Some (record { line = f.line; cause = cause_of_wrong f.wrong })
 
 -- THE FIRST FAULT of each text is the one that the reader of programs reports
 abbrev pub FirstIsTold : Type 0

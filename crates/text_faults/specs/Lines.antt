@@ -15,9 +15,9 @@ abbrev pub form_of : List PlacedWord → Form
 form_of ps = head_form (head_of ps)
 
 -- the first word; of an empty line nothing in its first column
-abbrev pub first_of : List PlacedWord → PlacedWord
-first_of [] = record { column = 1; word = [] }
-first_of (p ∷ ps) = p
+abbrev pub first_placed_word : List PlacedWord → PlacedWord
+first_placed_word [] = record { column = 1; word = [] }
+first_placed_word (p ∷ ps) = p
 
 abbrev pub behind_first : List PlacedWord → List PlacedWord
 behind_first [] = []

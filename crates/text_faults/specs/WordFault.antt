@@ -15,7 +15,7 @@ use Rattle.text_faults.specs.declared.walk.LinesAbove.{LinesAbove}
 use Rattle.text_faults.specs.Placed.{PlacedWord, placed_words}
 use Rattle.text_faults.specs.Operands.{is_operand}
 use Rattle.text_faults.specs.Forms.{Form}
-use Rattle.text_faults.specs.Lines.{head_of, form_of, first_of, behind_first}
+use Rattle.text_faults.specs.Lines.{head_of, form_of, first_placed_word, behind_first}
 
 -- a word with what is wrong about it
 pub record Wronged : Type 0 where
@@ -34,8 +34,8 @@ wrong_if true p wrong = Some (wronged p wrong)
 wrong_if false p wrong = None
 
 -- the place of a word alone
-abbrev pub place_of : PlacedWord → PlacedWord
-place_of p = record { column = p.column; word = [] }
+abbrev pub word_place : PlacedWord → PlacedWord
+word_place p = record { column = p.column; word = [] }
 
 -- THE LINE CAN'T BE READ: it isn't UTF-8, its first word may not stand here, or an operand is wrong
 
@@ -57,8 +57,8 @@ first_wrong behind (k ∷ ks) (p ∷ ps) =
     if is_operand k p.word then first_wrong (p.column + length p.word) ks ps else Some (wronged p (NotOne k))
 
 abbrev pub operand_wrong : Option Wrong → List PlacedWord → Option Wronged
-operand_wrong (Some wrong) ps = Some (wronged (first_of ps) wrong)
-operand_wrong None ps = first_wrong ((first_of ps).column + length (first_of ps).word) (form_of ps) (behind_first ps)
+operand_wrong (Some wrong) ps = Some (wronged (first_placed_word ps) wrong)
+operand_wrong None ps = first_wrong ((first_placed_word ps).column + length (first_placed_word ps).word) (form_of ps) (behind_first ps)
 
 abbrev pub unreadable : Bool → List ℕ → List PlacedWord → Option Wronged
 unreadable inside line ps =
@@ -68,10 +68,10 @@ unreadable inside line ps =
 -- A FUNCTION STAYS OPEN: another one begins in it, or no line follows
 
 abbrev pub nested : LinesAbove → List PlacedWord → Option Wronged
-nested w ps = wrong_if (w.inside && is_begin (head_of ps)) (first_of ps) InsideFunction
+nested w ps = wrong_if (w.inside && is_begin (head_of ps)) (first_placed_word ps) InsideFunction
 
 abbrev pub left_open : LinesAbove → Bool → List PlacedWord → Option Wronged
-left_open w last ps = wrong_if (last && is_open_after (head_of ps) w.inside) (place_of (first_of ps)) OpenFunction
+left_open w last ps = wrong_if (last && is_open_after (head_of ps) w.inside) (word_place (first_placed_word ps)) OpenFunction
 
 -- NAMES
 
@@ -100,7 +100,7 @@ first_misnamed w (k ∷ ks) (p ∷ ps) = wronged_or p (name_wrong w k p.word) (f
 -- THE TEXT: no line is `fn main`, and none follows; or there are too many functions or instructions
 
 abbrev pub main_missing : LinesAbove → Bool → List PlacedWord → Option Wronged
-main_missing w last ps = wrong_if (last && not (is_noted w.outline.functions (codes "main"))) (place_of (first_of ps)) NoMain
+main_missing w last ps = wrong_if (last && not (is_noted w.outline.functions (codes "main"))) (word_place (first_placed_word ps)) NoMain
 
 abbrev pub too_many : LinesAbove → Head → PlacedWord → Option Wronged
 too_many w Begin p = wrong_if (nat_le function_limit w.begun) p ManyFunctions
@@ -125,7 +125,7 @@ all_wronged unread nest opened names main many =
 abbrev pub wrongs_by : LinesAbove → Bool → List ℕ → List PlacedWord → List Wronged
 wrongs_by w last line ps =
     all_wronged (unreadable w.inside line ps) (nested w ps) (left_open w last ps)
-    (first_misnamed w (form_of ps) (behind_first ps)) (main_missing w last ps) (too_many w (head_of ps) (first_of ps))
+    (first_misnamed w (form_of ps) (behind_first ps)) (main_missing w last ps) (too_many w (head_of ps) (first_placed_word ps))
 
 abbrev pub wrongs_on : LinesAbove → Bool → List ℕ → List Wronged
 wrongs_on w last line = wrongs_by w last line (placed_words line)

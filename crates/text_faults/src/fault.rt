@@ -1,7 +1,7 @@
 // A fault, and what is wrong.
 
 ghost use Rattle.std.specs.Prelude.{◌≡◌};
-ghost use Rattle.text_faults.specs.Faults.{cause_of};
+ghost use Rattle.text_faults.specs.Faults.{cause_of_wrong};
 
 use plain_vec::Listed;
 use program_reader::Cause;
@@ -79,7 +79,7 @@ pub struct Fault {
 impl Wrong {
     /// The cause that the reader of programs gives.
     pub fn cause(self) -> Cause
-        ensures { result ≡ cause_of self }
+        ensures { result ≡ cause_of_wrong self }
     {
         match self {
             Wrong::NotUtf8 => Cause::NotUtf8,

@@ -3,7 +3,7 @@
 ghost use Rattle.std.specs.Prelude.{◌≡◌, ◌≤◌, ◌+◌, [], ℕ, length, option_map};
 ghost use Rattle.text_faults.specs.Placed.{placed_of, placed_from};
 ghost use Rattle.text_faults.specs.Parsed.{IsParse};
-ghost use Rattle.text_faults.specs.WordFault.{wronged, wronged_of, wrong_if, place_of, misplaced, first_wrong};
+ghost use Rattle.text_faults.specs.WordFault.{wronged, wronged_of, wrong_if, word_place, misplaced, first_wrong};
 
 use crate::fault::{Operand, Wrong};
 use crate::operand::is_operand;
@@ -42,8 +42,8 @@ pub(crate) fn wrong_if(test: bool, placed: Placed<'_>, wrong: Wrong) -> Option<W
 }
 
 /// The place of a word alone.
-pub(crate) fn place_of<'a>(placed: Placed<'a>) -> Placed<'a>
-    ensures { placed_of result ≡ place_of (placed_of placed.entry) }
+pub(crate) fn word_place<'a>(placed: Placed<'a>) -> Placed<'a>
+    ensures { placed_of result ≡ word_place (placed_of placed.entry) }
 {
     Placed {
         column: placed.column,

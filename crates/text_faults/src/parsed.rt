@@ -2,7 +2,7 @@
 
 ghost use Rattle.std.specs.Prelude.{◌≡◌, ◌≤◌, ◌+◌, [], length, option_map};
 ghost use Rattle.text_faults.specs.Placed.{placed_of};
-ghost use Rattle.text_faults.specs.Lines.{first_of};
+ghost use Rattle.text_faults.specs.Lines.{first_placed_word};
 ghost use Rattle.text_faults.specs.Parsed.{IsParse};
 
 use crate::fault::Operand;
@@ -24,7 +24,7 @@ pub(crate) struct Parsed<'a> {
 fn parse_empty(line: &[u8]) -> Parsed<'_>
     ensures line { result.line.now ≡ line.now }
     ensures head { result.head ≡ Head.Blank }
-    ensures first { placed_of result.first ≡ first_of [] }
+    ensures first { placed_of result.first ≡ first_placed_word [] }
     ensures form { result.form.now ≡ [] }
     ensures rest { result.rest ≡ length line.now }
 {

@@ -4,7 +4,7 @@ ghost use Rattle.std.specs.Prelude.{◌≡◌, [], option_map};
 ghost use Rattle.text_faults.specs.WordFault.{wronged_of, if_read};
 
 use crate::fault::{Fault, Operand, Wrong};
-use crate::found::{WordFault, first_wrong, misplaced, place_of, wrong_at, wrong_if};
+use crate::found::{WordFault, first_wrong, misplaced, word_place, wrong_at, wrong_if};
 use crate::near::{nearest_begin, nearest_line_word, nearest_name, own, own_if};
 use crate::parsed::Parsed;
 use crate::placed::next_placed;
@@ -79,7 +79,7 @@ impl<'a> LinesAbove<'a> {
     ghost use Rattle.std.specs.Prelude.{◌≡◌, ◌≤◌, ◌++◌, [], length, map, option_map, IfOk, OnOk};
     ghost use Rattle.text_lines.specs.Lines.{lines_of, most_bytes};
     ghost use Rattle.text_faults.specs.Placed.{placed_words};
-    ghost use Rattle.text_faults.specs.Lines.{head_of, form_of, first_of, behind_first};
+    ghost use Rattle.text_faults.specs.Lines.{head_of, form_of, first_placed_word, behind_first};
     ghost use Rattle.text_faults.specs.Parsed.{IsParse};
     ghost use Rattle.text_faults.specs.WordFault.{wronged_of, unreadable, nested, left_open, name_wrong, first_misnamed, main_missing, too_many, with_wronged};
     ghost use Rattle.text_faults.specs.Near.{meant};
@@ -115,7 +115,7 @@ impl<'a> LinesAbove<'a> {
         ensures { option_map wronged_of result ≡ left_open self.now last (placed_words parsed.now.line.now) }
     {
         let test = last && open_after(parsed.head, self.inside);
-        wrong_if(test, place_of(parsed.first), Wrong::OpenFunction)
+        wrong_if(test, word_place(parsed.first), Wrong::OpenFunction)
     }
 
     // Why an operand of this kind may not be this name.
@@ -158,13 +158,13 @@ impl<'a> LinesAbove<'a> {
         ensures { option_map wronged_of result ≡ main_missing self.now last (placed_words parsed.now.line.now) }
     {
         let test = last && !self.outline.functions.has(b"main");
-        wrong_if(test, place_of(parsed.first), Wrong::NoMain)
+        wrong_if(test, word_place(parsed.first), Wrong::NoMain)
     }
 
     // The line is one more than there may be.
     fn too_many<'b>(&self, parsed: &Parsed<'b>) -> Option<WordFault<'b>>
         requires { IsParse parsed.now }
-        ensures { option_map wronged_of result ≡ too_many self.now (head_of (placed_words parsed.now.line.now)) (first_of (placed_words parsed.now.line.now)) }
+        ensures { option_map wronged_of result ≡ too_many self.now (head_of (placed_words parsed.now.line.now)) (first_placed_word (placed_words parsed.now.line.now)) }
     {
         match parsed.head {
             Head::Begin => {

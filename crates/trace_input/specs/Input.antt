@@ -68,13 +68,13 @@ as_bad_line None = None
 as_bad_line (Some n) = Some (BadLine n)
 
 -- the program's faults come first, then those of the trace
-abbrev pub fault_by : Option TextFault → Option ℕ → Option InputFault
-fault_by (Some r) bad = Some (Source r)
-fault_by None bad = as_bad_line bad
+abbrev pub first_input_fault : Option TextFault → Option ℕ → Option InputFault
+first_input_fault (Some r) bad = Some (Source r)
+first_input_fault None bad = as_bad_line bad
 
 abbrev pub parts_fault : List ℕ → Option InputFault
 parts_fault input =
-    fault_by (first_fault (program_part input))
+    first_input_fault (first_fault (program_part input))
     (bad_line (length (lines_of input)) (trace_number input) (program_of (program_part input)) (trace_lines (lines_of input)))
 
 -- more bytes than the limit

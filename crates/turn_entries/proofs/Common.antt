@@ -12,12 +12,12 @@ pub use Rattle.entry_calls.specs.Owed.{owed_by, Pays}
 pub use Rattle.entry_calls.specs.Ran.{LeavesBy, LeavesPart, LentTo, RanTo}
 pub use Rattle.entry_calls.specs.below.chunk_pool.{units_in_use}
 pub use Rattle.entry_calls.specs.below.copying_gc.{Moved, ToChunks}
-pub use Rattle.entry_calls.specs.below.core_invariant.{first_cause, IsSharedValue, SharedValue, accounts, NotEntered, NoMemory, Refuses, need_cause, or_else, due_cause, IsCaused, refused, Fits, part_asks, FitsFirst, Enters, AllFit, OthersFit, HasBegun, cause_of}
+pub use Rattle.entry_calls.specs.below.core_invariant.{first_cause, IsSharedValue, SharedValue, accounts, NotEntered, NoMemory, Refuses, need_cause, or_else, due_cause, IsCaused, refused, Fits, part_asks, FitsFirst, Enters, AllFit, OthersFit, HasBegun, refusal_of_result}
 pub use Rattle.entry_calls.specs.below.fork_join_commit.{running_parent, HoldsNone, IsUnchanged, SameButPlaces, EndsChild, ForksOn}
 pub use Rattle.entry_calls.specs.below.heap_marking.{marking_cause}
 pub use Rattle.entry_calls.specs.below.hh_lang.{ProgramText}
 pub use Rattle.entry_calls.specs.below.hh_model.{asked, MachineState, Counted, row_of, IsForkJoinState}
-pub use Rattle.entry_calls.specs.below.leaf_collections.{FitsCopied, ended, end_entry}
+pub use Rattle.entry_calls.specs.below.leaf_collections.{FitsCopied, without_collection, end_entry}
 pub use Rattle.entry_calls.specs.below.leaf_heap.{place_for, room_of, LeafHeapValue}
 pub use Rattle.entry_calls.specs.below.run_ledger.{Refused, is_pool_enough, Collecting, NoWorker, NotDue, NotNeeded, NotSpent, Over, PoolEnough, PoolShort, RunEnd, CanBeGiven, kind_refusal, refused_if, refused_unless, heap_of, sweep_number, on_asked, Nothing, Left, left_in, marked_in, gives, Ledger, tasks_of}
 pub use Rattle.entry_calls.specs.below.run_trace.{Kind, Begin, Fuel, PutOff, Ran, Chunk, Mark, More, Sweep, SettingsValue, field_limit, private_limit, EntryValue, Took, End}

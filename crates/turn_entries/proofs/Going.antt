@@ -1,5 +1,5 @@
 -- Parts that may take steps.
-use Rattle.turn_entries.proofs.Common.{◌≡◌, ℕ, ◌<◌, None, ap, ◌∙◌, arith, LeafHeapValue, Moved, Private, Shared, Fits, SharedValue, IsShared, FitsCopied, ended, IsPaused, MayRun}
+use Rattle.turn_entries.proofs.Common.{◌≡◌, ℕ, ◌<◌, None, ap, ◌∙◌, arith, LeafHeapValue, Moved, Private, Shared, Fits, SharedValue, IsShared, FitsCopied, without_collection, IsPaused, MayRun}
 
 module _ (w : SharedValue) (k : ℕ) (part : Private) where
   -- without fresh steps
@@ -20,5 +20,5 @@ module _ (w : SharedValue) (k : ℕ) (old part : Private) where
   pub may_heap : (h : LeafHeapValue) → Fits w k part → old.begun ≡ None → old.fresh ≡ 0 → part ≡ record old { heap = h } → MayRun w k part
   may_heap h fits idle fresh e = may w k part fits (ap (λ (p : Private). p.fresh) e ∙ fresh) (ap (λ (p : Private). p.begun) e ∙ idle)
 
-  pub may_ended : (before : SharedValue) (moved : Moved) → Fits w k part → FitsCopied before k old moved → part ≡ ended old → MayRun w k part
+  pub may_ended : (before : SharedValue) (moved : Moved) → Fits w k part → FitsCopied before k old moved → part ≡ without_collection old → MayRun w k part
   may_ended before moved fits C e = may w k part fits (ap (λ (p : Private). p.fresh) e ∙ C.fresh) (ap (λ (p : Private). p.begun) e)

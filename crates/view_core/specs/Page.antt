@@ -15,8 +15,8 @@ abbrev pub most_entries : ℕ
 most_entries = 20000
 
 -- what is said of a trace that has more: how many, and what to do
-abbrev pub too_long : ℕ → List ℕ
-too_long n =
+abbrev pub trace_too_long : ℕ → List ℕ
+trace_too_long n =
     codes "end: page refused entries " ++ decimal n ++ codes "; a page has at most 20000: run a smaller input, or use hhview timeline or tasks\n"
 
 -- the page of a journal of this title, or its first refused entry, or that it is short
@@ -25,7 +25,7 @@ ShowsJournalPage title input p s journal = ShowsWhole (Says Done (page title inp
 
 -- of a journal that is too long, how long it is
 abbrev pub ShowsShortPage : Bool → List ℕ → List ℕ → ProgramText → SettingsValue → List EntryValue → Reply → Type 0
-ShowsShortPage true title input p s journal = Says Trace (too_long (length journal))
+ShowsShortPage true title input p s journal = Says Trace (trace_too_long (length journal))
 ShowsShortPage false title input p s journal = ShowsJournalPage title input p s journal
 
 abbrev pub ShowsPageOf : List ℕ → SettingsValue → List ℕ → TraceInput → Reply → Type 0

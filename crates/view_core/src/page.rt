@@ -2,7 +2,7 @@
 
 ghost use Rattle.std.specs.Prelude.{◌≡◌, IfOk, length, nat_lt};
 ghost use Rattle.refusal_replies.specs.below.whole_call.{Says};
-ghost use Rattle.view_core.specs.Page.{ShowsJournalPage, ShowsPage, ShowsPageOf, ShowsShortPage, most_entries, title_of, too_long};
+ghost use Rattle.view_core.specs.Page.{ShowsJournalPage, ShowsPage, ShowsPageOf, ShowsShortPage, most_entries, title_of, trace_too_long};
 
 use refusal_replies::{AnswerStatus, Refusal, Reply, refused};
 use run_page::{Entry, InputError, Program, Settings, TraceInput, page_of, read_trace_input};
@@ -26,7 +26,7 @@ fn title_of<'n>(title: &'n Option<PageTitle>, file: &'n Option<InputFile>) -> &'
 
 // The refusal of a trace of more entries than a page has.
 fn refused_as_long(alloc: Global, entries: usize) -> Result<Reply, AllocError>
-    ensures { IfOk result (Says AnswerStatus.Trace (too_long entries)) }
+    ensures { IfOk result (Says AnswerStatus.Trace (trace_too_long entries)) }
 {
     let text = format!(in alloc;
         "end: page refused entries {entries}; a page has at most 20000: run a smaller input, or use hhview timeline or tasks\n"

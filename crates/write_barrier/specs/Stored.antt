@@ -4,7 +4,7 @@ use Rattle.object_layout.specs.declared.word.Addr.{Addr}
 use Rattle.heap_tree.specs.TaskNode.{TaskNode, is_on_path}
 use Rattle.chunk_pool.specs.PoolValue.{PoolValue, slot_at, owner_of}
 use Rattle.remembered_set.specs.declared.remembered.RefField.{RefField}
-use Rattle.remembered_set.specs.Sources.{noted}
+use Rattle.remembered_set.specs.Sources.{with_noted_source}
 use Rattle.write_barrier.specs.declared.sets.SetOf.{SetOf}
 use Rattle.plain_vec.specs.Options.{option_is}
 
@@ -50,7 +50,7 @@ noted_in nodes pool object value =
 
 -- the set of task t after a down-pointer into a heap was noted: the source is in that heap's set, once
 abbrev pub with_source : Option ℕ → RefField → ℕ → Content → Content
-with_source into source t c = if option_is into t then record c { sources = noted c.sources source } else c
+with_source into source t c = if option_is into t then record c { sources = with_noted_source c.sources source } else c
 
 -- the set of task t after a reference into a heap was overwritten: it is kept if that heap keeps references
 abbrev pub with_kept : Option ℕ → Option Addr → ℕ → Content → Content

@@ -2,7 +2,7 @@
 
 ghost use Rattle.std.specs.Prelude.{◌≡◌, ◌<◌, ◌≤◌, ◌++◌, ◌∷◌, [], IfErr, IfNone, IfOk, None, OnErr, OnOk, false, fold};
 ghost use Rattle.remembered_set.specs.Moved.{redirected, targets_of, AreFields, AreInOrder, ArePlaces};
-ghost use Rattle.remembered_set.specs.Sources.{noted as noted_with, notes_in, StandOnce};
+ghost use Rattle.remembered_set.specs.Sources.{with_noted_source as noted_with, notes_in, StandOnce};
 ghost use Rattle.write_barrier.specs.Forms.{bare, in_full};
 ghost use Rattle.write_barrier.specs.Stored.{content_of};
 

@@ -1,7 +1,7 @@
 -- Re-exports from `copying_gc` for the crates above.
 pub use Rattle.copying_gc.specs.Collected.{AreSurvivors, back_of, collected, keeps, laid_of, large_of, laying_of, leaves, moves_of, redirection}
 pub use Rattle.copying_gc.specs.Exchanged.{emptied, last_place, reserved_of, reserved_place, unreserved}
-pub use Rattle.copying_gc.specs.Laid.{AreNew, ObjectFits, HaveRoom, Laying, before, is_small, laid_all, laid_at, laid_one, next_place, open_next, opened, placed, relocations, room_in, small_words, smalls}
+pub use Rattle.copying_gc.specs.Laid.{AreNew, ObjectFits, HaveRoom, Laying, nothing_laid, is_moved, laid_all, laid_at, laid_one, next_place, open_next, opened, placed_behind, relocations, room_in, small_words, smalls}
 pub use Rattle.copying_gc.specs.Laws.{CanTake}
 pub use Rattle.copying_gc.specs.Lists.{AreReserved, IsCollected}
 pub use Rattle.copying_gc.specs.Redirected.{led_cell, led_chunk, new_address}

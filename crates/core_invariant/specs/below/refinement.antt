@@ -1,7 +1,7 @@
 -- Re-exports from `refinement` for the crates above.
 pub use Rattle.refinement.specs.LeafCollectionBegins.{AreRoots, HoldsAt, IsReachedAt, IsRoot, LeadsAt, StartsAt}
-pub use Rattle.refinement.specs.Changes.{BelongingsAreRead, EndsBelongings, ForksBelongings, HasResult, IsLifted, JoinsBelongings, KeepsJust, SameObjects, StepsInBelongings, StoresAt, StoresNumberAt, WritesAt, advanced, child_belongings, gone_on, top_with_results, with_field, with_number}
-pub use Rattle.refinement.specs.Copies.{CopyFits, EndsAt, IsCopy, PartFits, before}
+pub use Rattle.refinement.specs.Changes.{BelongingsAreRead, EndsBelongings, ForksBelongings, HasResult, IsLifted, JoinsBelongings, KeepsJust, SameObjects, StepsInBelongings, StoresAt, StoresNumberAt, WritesAt, advanced, child_belongings, gone_on, top_with_results, with_field, with_int_field}
+pub use Rattle.refinement.specs.Copies.{CopyFits, EndsAt, IsCopy, PartFits, part_before}
 pub use Rattle.refinement.specs.Counts.{AsksUnits, CountsGo, IsMarked, IsQuiet}
 pub use Rattle.refinement.specs.Fits.{Part, ahead, part_for, with_belongings}
 pub use Rattle.refinement.specs.Frames.{NotOf, all_ahead, with_all_belongings}
@@ -9,7 +9,7 @@ pub use Rattle.refinement.specs.Layout.{DontOverlap, AreLaidOut, HoldsLarge, res
 pub use Rattle.refinement.specs.EntryMakes.{BelongingsAfter, BelongingsAfterStore, EntryMakes, StepsTo, Stores, StoresInto, taken_by}
 pub use Rattle.refinement.specs.Marking.{CanGoOnMarking, MarkedBy, MarksStand}
 pub use Rattle.refinement.specs.Marks.{Marks, StoreMarks}
-pub use Rattle.refinement.specs.Memory.{Belongings, Chunk, In, Lies, Memory, Noted, copied_object, mapped_chunk, no_belongings, object_name, objects, objects_in, put_at, rewritten_belongings, sources}
+pub use Rattle.refinement.specs.Memory.{Belongings, Chunk, In, Lies, Memory, Noted, copied_object, mapped_chunk, no_belongings, object_name, objects, objects_of_chunks, put_at, rewritten_belongings, sources}
 pub use Rattle.refinement.specs.RanCounts.{NodeGoes, NodesFork, NodesJoin, RanCounts, node_then}
 pub use Rattle.refinement.specs.ReadsReference.{AllRead, FrameIsRead, FramesAreRead, HoldsRead, IsModelObject, ReadsReference, TaskIsRead}
 pub use Rattle.refinement.specs.Since.{ForksNotes, JoinsNotes, Keeps, OthersNotes, StoresNotes, kept}

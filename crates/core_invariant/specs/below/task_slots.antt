@@ -1,6 +1,6 @@
 -- Re-exports from `task_slots` for the crates above.
 pub use Rattle.task_slots.specs.TaskSlotsValue.{TaskSlotsValue, IsSameRest, keeping, keeps_of, kept_of, marks_at, refs_of_rest, rest_at, sources_of}
-pub use Rattle.task_slots.specs.RestingHeaps.{Resting, refs_for, refs_in, resting, with_ref_in, with_resting}
+pub use Rattle.task_slots.specs.RestingHeaps.{Resting, refs_for, resting_references, resting, with_ref_in, with_resting}
 pub use Rattle.task_slots.specs.declared.heaps.Heaps.{Heaps}
 pub use Rattle.task_slots.specs.declared.slots.TaskSlot.{TaskSlot}
 pub use Rattle.task_slots.specs.declared.task_at_rest.ParkedTask.{ParkedTask}

@@ -1,7 +1,7 @@
 -- Re-exports from `core_invariant` for the crates above.
 pub use Rattle.core_invariant.specs.Causes.{first_cause, need_cause, or_else}
 pub use Rattle.core_invariant.specs.Due.{due_cause}
-pub use Rattle.core_invariant.specs.Entered.{Enters, IsCaused, cause_of, refused}
+pub use Rattle.core_invariant.specs.Entered.{Enters, IsCaused, refusal_of_result, refused}
 pub use Rattle.core_invariant.specs.Fits.{AllFit, Fits, OthersFit}
 pub use Rattle.core_invariant.specs.LeafBegin.{HasBegun}
 pub use Rattle.core_invariant.specs.Links.{FitsFirst}

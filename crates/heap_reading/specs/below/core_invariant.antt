@@ -1,7 +1,7 @@
 -- Re-exports from `core_invariant` for the crates above.
 pub use Rattle.core_invariant.specs.Causes.{first_cause, need_cause, or_else, task_asked}
 pub use Rattle.core_invariant.specs.Due.{due_cause}
-pub use Rattle.core_invariant.specs.Entered.{EntersOrRefuses, Enters, IsCaused, IsSamePart, cause_of, refused}
+pub use Rattle.core_invariant.specs.Entered.{EntersOrRefuses, Enters, IsCaused, IsSamePart, refusal_of_result, refused}
 pub use Rattle.core_invariant.specs.Fits.{AllFit, Fits, OthersFit, belongings_of_part, beyond, part_of}
 pub use Rattle.core_invariant.specs.LeafBegin.{HasBegun}
 pub use Rattle.core_invariant.specs.Links.{FitsFirst}

@@ -1,5 +1,5 @@
 -- A private step of a task whose belongings aren't in the memory: the memory stands for the accounts after it too.
-use Rattle.refinement.proofs.Common.{◌≡◌, ℕ, false, Some, length, slice_get, inl, inr, refl, ap, sym, subst, ◌∙◌, both_ways, Addr, Located, Name, row_of, is_joined, is_waiting, is_on_path, Heap, Ledger, heap_of, SoundLedger, own, Rests, StepsAlone, Belongings, Memory, In, object_name, objects, objects_in, sources, Lies, AreLaidOut, Place, HasNames, BelongingsStand, Stands}
+use Rattle.refinement.proofs.Common.{◌≡◌, ℕ, false, Some, length, slice_get, inl, inr, refl, ap, sym, subst, ◌∙◌, both_ways, Addr, Located, Name, row_of, is_joined, is_waiting, is_on_path, Heap, Ledger, heap_of, SoundLedger, own, Rests, StepsAlone, Belongings, Memory, In, object_name, objects, objects_of_chunks, sources, Lies, AreLaidOut, Place, HasNames, BelongingsStand, Stands}
 use Rattle.refinement.proofs.objects.Carry.{object_kept, task_kept}
 use Rattle.refinement.proofs.objects.Members.{object_held}
 use Rattle.refinement.proofs.changes.Same.{source_alone}
@@ -18,8 +18,8 @@ belongings_kept v v' l l' t eh ow el er ej H = record {
   count = λ live. ap (λ (h : Belongings). h.count) eh ∙ (H.count (sym ej ∙ live) ∙ sym er);
   owned = λ k i. ow k.number (H.owned k (subst (λ (h : Belongings). In h.chunks k) eh i));
   inside = λ k o i j. H.inside k o (subst (λ (h : Belongings). In h.chunks k) eh i) j;
-  once = λ o p i j e. H.once o p (subst (λ (h : Belongings). In (objects_in h.chunks) o) eh i) (subst (λ (h : Belongings). In (objects_in h.chunks) p) eh j) e;
-  named = λ o p i j e. H.named o p (subst (λ (h : Belongings). In (objects_in h.chunks) o) eh i) (subst (λ (h : Belongings). In (objects_in h.chunks) p) eh j) e;
+  once = λ o p i j e. H.once o p (subst (λ (h : Belongings). In (objects_of_chunks h.chunks) o) eh i) (subst (λ (h : Belongings). In (objects_of_chunks h.chunks) p) eh j) e;
+  named = λ o p i j e. H.named o p (subst (λ (h : Belongings). In (objects_of_chunks h.chunks) o) eh i) (subst (λ (h : Belongings). In (objects_of_chunks h.chunks) p) eh j) e;
   laid = subst (λ (h : Belongings). AreLaidOut h.chunks (heap_of l' t).reserved) (sym eh) (subst (λ (h : Heap). AreLaidOut (v.belongings t).chunks h.reserved) (sym el) H.laid);
 }
 

@@ -1,6 +1,6 @@
 -- The end of a leaf collection: the survivors of a running task are at new addresses, and each reference to one is
 -- updated.
-use Rattle.refinement.proofs.Common.{◌≡◌, ℕ, ◌+◌, arith, true, false, Option, Some, None, List, ◌∷◌, slice_get, ◌⊎◌, inl, inr, refl, ap, sym, subst, ◌∙◌, is_some, cases_eq, both_ways, same_Some, got_in, Addr, Located, Name, Object, Task, MachineState, object_at, names_from, task_names, is_waiting, is_joined, is_on_path, parents, path_itself, runs_idle, Heap, Ledger, heap_of, or_fresh, SoundLedger, Spares, survivors_at, collecting, RefField, own, Rests, ChangesHeap, own_live, leaf_alone, holder_live, Belongings, Memory, In, object_name, objects, objects_in, sources, Lies, copied_object, rewritten, rewritten_belongings, IsModelObject, FramesAreRead, HoldsRead, TaskIsRead, Place, BelongingsStand, IsSource, Stands, Moves, Collects}
+use Rattle.refinement.proofs.Common.{◌≡◌, ℕ, ◌+◌, arith, true, false, Option, Some, None, List, ◌∷◌, slice_get, ◌⊎◌, inl, inr, refl, ap, sym, subst, ◌∙◌, is_some, cases_eq, both_ways, same_Some, got_in, Addr, Located, Name, Object, Task, MachineState, object_at, names_from, task_names, is_waiting, is_joined, is_on_path, parents, path_itself, runs_idle, Heap, Ledger, heap_of, or_fresh, SoundLedger, Spares, survivors_at, collecting, RefField, own, Rests, ChangesHeap, own_live, leaf_alone, holder_live, Belongings, Memory, In, object_name, objects, objects_of_chunks, sources, Lies, copied_object, rewritten, rewritten_belongings, IsModelObject, FramesAreRead, HoldsRead, TaskIsRead, Place, BelongingsStand, IsSource, Stands, Moves, Collects}
 use Rattle.refinement.proofs.changes.Same.{own_same, path_same, store_same, source_same, rests_before, worker_same}
 use Rattle.refinement.proofs.objects.Carry.{Led, task_kept, same_holding, all_led, frames_led, all_rewritten}
 use Rattle.refinement.proofs.objects.Members.{in_chunk}
@@ -71,7 +71,7 @@ module _ (v v' : Memory) (l l' : Ledger) (t : ℕ) (x : Task) (f : Addr → Addr
 
   -- what is in another task's heap, before the rewriting
   was : (u : ℕ) (o : Located) → (u ≡ t → ⊥) → In (objects v' u) o → (q : Located) × In (objects v u) q × (rewritten f (sources v t) q ≡ o)
-  was u o ne i = from_mapped (rewritten f (sources v t)) (λ o. refl) (λ o. refl) (v.belongings u).chunks o (subst (λ (h : Belongings). In (objects_in h.chunks) o) (C.others u ne) i)
+  was u o ne i = from_mapped (rewritten f (sources v t)) (λ o. refl) (λ o. refl) (v.belongings u).chunks o (subst (λ (h : Belongings). In (objects_of_chunks h.chunks) o) (C.others u ne) i)
 
   -- a field of another's object: what it names is no object of t, or it is remembered
   field : (u : ℕ) (o : Located) (y : Object) → (u ≡ t → ⊥) → Rests l u → In (objects v u) o → object_at l.machine.store (object_name o) ≡ Some y → (j : ℕ) (n : Name) → slice_get y.refs j ≡ Some (Some n) → Led (Place v l) (Place v' l') f (sources v t) o.at j n

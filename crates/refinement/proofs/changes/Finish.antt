@@ -1,5 +1,5 @@
 -- A task ends, and its sibling goes on: its belongings stay, with the result.
-use Rattle.refinement.proofs.Common.{◌≡◌, ℕ, pos, false, unwrap_or, Some, List, ◌∷◌, length, slice_get, ap, sym, subst, ◌∙◌, same_Some, Addr, Name, Ended, Task, row_of, is_joined, is_waiting, result_of, runs_idle, Heap, Ledger, heap_of, SoundLedger, CallFrame, Rests, EndsTask, ref_of, Memory, In, object_name, objects_in, Lies, ReadsReference, FramesAreRead, HoldsRead, TaskIsRead, AreLaidOut, Place, HasNames, BelongingsStand, Stands, EndsBelongings, StepsInBelongings}
+use Rattle.refinement.proofs.Common.{◌≡◌, ℕ, pos, false, unwrap_or, Some, List, ◌∷◌, length, slice_get, ap, sym, subst, ◌∙◌, same_Some, Addr, Name, Ended, Task, row_of, is_joined, is_waiting, result_of, runs_idle, Heap, Ledger, heap_of, SoundLedger, CallFrame, Rests, EndsTask, ref_of, Memory, In, object_name, objects_of_chunks, Lies, ReadsReference, FramesAreRead, HoldsRead, TaskIsRead, AreLaidOut, Place, HasNames, BelongingsStand, Stands, EndsBelongings, StepsInBelongings}
 use Rattle.refinement.proofs.objects.Carry.{field_of, object_kept, read_kept}
 use Rattle.refinement.proofs.changes.Own.{stepped, place_own}
 
@@ -13,8 +13,8 @@ belongings_alike v v' l l' t ec eo es en ow el er ej H = record {
   count = λ live. en ∙ (H.count (sym ej ∙ live) ∙ sym er);
   owned = λ k i. ow k.number (H.owned k (subst (λ ks. In ks k) ec i));
   inside = λ k o i j. H.inside k o (subst (λ ks. In ks k) ec i) j;
-  once = λ o p i j e. H.once o p (subst (λ ks. In (objects_in ks) o) ec i) (subst (λ ks. In (objects_in ks) p) ec j) e;
-  named = λ o p i j e. H.named o p (subst (λ ks. In (objects_in ks) o) ec i) (subst (λ ks. In (objects_in ks) p) ec j) e;
+  once = λ o p i j e. H.once o p (subst (λ ks. In (objects_of_chunks ks) o) ec i) (subst (λ ks. In (objects_of_chunks ks) p) ec j) e;
+  named = λ o p i j e. H.named o p (subst (λ ks. In (objects_of_chunks ks) o) ec i) (subst (λ ks. In (objects_of_chunks ks) p) ec j) e;
   laid = subst (λ ks. AreLaidOut ks (heap_of l' t).reserved) (sym ec) (subst (λ (h : Heap). AreLaidOut (v.belongings t).chunks h.reserved) (sym el) H.laid);
 }
 
@@ -49,7 +49,7 @@ module _ (v v' : Memory) (l l' : Ledger) (t : ℕ) (x : Task) (f : CallFrame) (f
   finished = stepped v v' l l' t S S' V L.alone rests rests' idle at_belongings (record {
     belongings = belongings_alike v v' l l' t C.chunks C.room C.since C.count (λ k e. C.owner k ∙ e) L.heap L.row (L.alone.tree.joins t) (V.belongings t rests);
     contents = λ o i.
-        let c = V.contents t o rests (subst (λ ks. In (objects_in ks) o) C.chunks i) in
+        let c = V.contents t o rests (subst (λ ks. In (objects_of_chunks ks) o) C.chunks i) in
         (c.0, L.store (object_name o) ∙ c.1, object_kept (Place v l) (Place v' l') o c.0 (λ n j. place n) c.2);
     task = task;
   })

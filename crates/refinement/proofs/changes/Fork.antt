@@ -1,5 +1,5 @@
 -- A fork: the parent waits, its children have fresh belongings, and nothing moves.
-use Rattle.refinement.proofs.Common.{is_some, ◌≡◌, ℕ, ◌+◌, true, false, Some, List, [], ◌∷◌, map, length, slice_get, ◌⊎◌, inl, inr, refl, ap, sym, subst, ◌∙◌, cases_eq, both_ways, same_Some, Addr, Located, Name, Object, Frame as ModelFrame, Running, Waiting, Task, object_at, row_of, onward, is_waiting, is_joined, is_on_path, child, runs_idle, runs_live, Heap, Ledger, heap_of, fresh, SoundLedger, CallFrame, RefField, own, Rests, ForksTask, Belongings, Memory, In, object_name, objects, objects_in, sources, Lies, FramesAreRead, HoldsRead, TaskIsRead, AreLaidOut, Place, small_chunks, large_chunks, HasNames, BelongingsStand, IsSource, Stands, IsShown, ForksBelongings, advanced, entered, child_belongings}
+use Rattle.refinement.proofs.Common.{is_some, ◌≡◌, ℕ, ◌+◌, true, false, Some, List, [], ◌∷◌, map, length, slice_get, ◌⊎◌, inl, inr, refl, ap, sym, subst, ◌∙◌, cases_eq, both_ways, same_Some, Addr, Located, Name, Object, Frame as ModelFrame, Running, Waiting, Task, object_at, row_of, onward, is_waiting, is_joined, is_on_path, child, runs_idle, runs_live, Heap, Ledger, heap_of, fresh, SoundLedger, CallFrame, RefField, own, Rests, ForksTask, Belongings, Memory, In, object_name, objects, objects_of_chunks, sources, Lies, FramesAreRead, HoldsRead, TaskIsRead, AreLaidOut, Place, small_chunks, large_chunks, HasNames, BelongingsStand, IsSource, Stands, IsShown, ForksBelongings, advanced, entered_frames, child_belongings}
 use Rattle.refinement.specs.Stands.{names_of}
 use Rattle.refinement.proofs.objects.Carry.{object_kept, task_kept, frames_kept}
 use Rattle.refinement.proofs.objects.LaidOut.{none_laid}
@@ -13,7 +13,7 @@ advanced_read : (at : Name → Addr → Type 0) (fs : List CallFrame) (f : Model
 advanced_read at [] f xs h = absurd h
 advanced_read at (y ∷ fs) f xs h = (record { function = h.0.function; next = ap (λ n. n + 1) h.0.next; ints = h.0.ints; refs = h.0.refs }, h.1)
 
-entered_read : (at : Name → Addr → Type 0) (fs : List CallFrame) (t d g : ℕ) (f : ModelFrame) (xs : List ModelFrame) → FramesAreRead at fs (f ∷ xs) → FramesAreRead at (entered g fs) ((child t d g f).top ∷ [])
+entered_read : (at : Name → Addr → Type 0) (fs : List CallFrame) (t d g : ℕ) (f : ModelFrame) (xs : List ModelFrame) → FramesAreRead at fs (f ∷ xs) → FramesAreRead at (entered_frames g fs) ((child t d g f).top ∷ [])
 entered_read at [] t d g f xs h = absurd h
 entered_read at (y ∷ fs) t d g f xs h = (record { function = refl; next = refl; ints = h.0.ints; refs = h.0.refs }, tt)
 
@@ -83,7 +83,7 @@ module _ (v v' : Memory) (l l' : Ledger) (t a b g h : ℕ) (x : Task) (S : Sound
     was z o r i =
         let na : z ≡ a → ⊥ = λ e. none_new z o (inl e) i in
         let nb : z ≡ b → ⊥ = λ e. none_new z o (inr e) i in
-        (na, nb, rest z na nb r, subst (λ ks. In (objects_in ks) o) (chunks_same z na nb) i)
+        (na, nb, rest z na nb r, subst (λ ks. In (objects_of_chunks ks) o) (chunks_same z na nb) i)
 
     running : is_joined (slice_get l.machine.tasks t) ≡ false
     running = runs_live x F.task runs
@@ -94,15 +94,15 @@ module _ (v v' : Memory) (l l' : Ledger) (t a b g h : ℕ) (x : Task) (S : Sound
         record {
           names = record {
             small = ap (λ ks. map names_of (small_chunks ks)) (ap (λ (i : Belongings). i.chunks) C.belongings) ∙ (H.names.small ∙ sym (ap (λ (i : Heap). i.chunks) F.heap));
-            large = ap (λ ks. map object_name (objects_in (large_chunks ks))) (ap (λ (i : Belongings). i.chunks) C.belongings) ∙ (H.names.large ∙ sym (ap (λ (i : Heap). i.large) F.heap));
+            large = ap (λ ks. map object_name (objects_of_chunks (large_chunks ks))) (ap (λ (i : Belongings). i.chunks) C.belongings) ∙ (H.names.large ∙ sym (ap (λ (i : Heap). i.large) F.heap));
           };
           room = ap (λ (i : Belongings). i.room) C.belongings ∙ (H.room ∙ sym (ap (λ (i : Heap). i.room) F.heap));
           since = ap (λ (i : Belongings). i.since) C.belongings ∙ (H.since ∙ sym (ap (λ (i : Heap). i.since) F.heap));
           count = λ live. ap (λ (i : Belongings). i.count) C.belongings ∙ (H.count running ∙ sym (F.rows t));
           owned = λ k i. C.owner k.number ∙ H.owned k (subst (λ (j : Belongings). In j.chunks k) C.belongings i);
           inside = λ k o i j. H.inside k o (subst (λ (j : Belongings). In j.chunks k) C.belongings i) j;
-          once = λ o q i j e. H.once o q (subst (λ (j : Belongings). In (objects_in j.chunks) o) C.belongings i) (subst (λ (j : Belongings). In (objects_in j.chunks) q) C.belongings j) e;
-          named = λ o q i j e. H.named o q (subst (λ (j : Belongings). In (objects_in j.chunks) o) C.belongings i) (subst (λ (j : Belongings). In (objects_in j.chunks) q) C.belongings j) e;
+          once = λ o q i j e. H.once o q (subst (λ (j : Belongings). In (objects_of_chunks j.chunks) o) C.belongings i) (subst (λ (j : Belongings). In (objects_of_chunks j.chunks) q) C.belongings j) e;
+          named = λ o q i j e. H.named o q (subst (λ (j : Belongings). In (objects_of_chunks j.chunks) o) C.belongings i) (subst (λ (j : Belongings). In (objects_of_chunks j.chunks) q) C.belongings j) e;
           laid = subst (λ (i : Belongings). AreLaidOut i.chunks (heap_of l' t).reserved) (sym C.belongings) (subst (AreLaidOut (v.belongings t).chunks) (sym (ap (λ (i : Heap). i.reserved) F.heap)) H.laid);
         }
 
@@ -114,8 +114,8 @@ module _ (v v' : Memory) (l l' : Ledger) (t a b g h : ℕ) (x : Task) (S : Sound
       count = λ live. ap (λ (i : Belongings). i.count) eh ∙ sym (F.rows z ∙ er);
       owned = λ k i. absurd (subst (λ (j : Belongings). In j.chunks k) eh i);
       inside = λ k o i j. absurd (subst (λ (j : Belongings). In j.chunks k) eh i);
-      once = λ o q i j e. absurd (subst (λ (j : Belongings). In (objects_in j.chunks) o) eh i);
-      named = λ o q i j e. absurd (subst (λ (j : Belongings). In (objects_in j.chunks) o) eh i);
+      once = λ o q i j e. absurd (subst (λ (j : Belongings). In (objects_of_chunks j.chunks) o) eh i);
+      named = λ o q i j e. absurd (subst (λ (j : Belongings). In (objects_of_chunks j.chunks) o) eh i);
       laid = subst (λ (i : Belongings). AreLaidOut i.chunks (heap_of l' z).reserved) (sym eh) (subst (AreLaidOut []) (sym (ap (λ (i : Heap). i.reserved) el)) none_laid);
     }
 

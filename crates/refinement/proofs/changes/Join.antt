@@ -1,5 +1,5 @@
 -- A join: the parent owns what its children owned, and nothing moves.
-use Rattle.refinement.proofs.Common.{◌≡◌, ℕ, ℤ, ◌+◌, ◌<◌, ◌||◌, arith, true, false, Option, Some, None, is_some, List, [], ◌∷◌, ◌++◌, map, length, slice_get, slice_set, ◌⊎◌, inl, inr, refl, ap, ap₂, sym, subst, ◌∙◌, ne_eqb, cases_eq, both_ways, false≢true, same_Some, in_append_left, in_append_right, in_append_cases, Addr, Located, Name, Object, Frame as ModelFrame, TaskStatus, Running, Waiting, Ended, Joined, Task, object_at, row_of, is_waiting, is_joined, is_over, is_on_path, parents, joined, resumed, path_itself, path_child, path_parent, path_through, live_up, waiting, joins_in, Heap, Ledger, heap_of, emptied, SoundLedger, CallFrame, RefField, own, Rests, JoinsTasks, TasksCanJoin, leaf_alone, Chunk, Belongings, no_belongings, Memory, In, object_name, objects, objects_in, sources, Lies, ReadsReference, IsModelObject, FrameIsRead, FramesAreRead, HoldsRead, TaskIsRead, AreLaidOut, Place, HasNames, small_chunks, large_chunks, GivesLevel, BelongingsStand, IsSource, Stands, IsShown, JoinsBelongings, with_results, top_with_results}
+use Rattle.refinement.proofs.Common.{◌≡◌, ℕ, ℤ, ◌+◌, ◌<◌, ◌||◌, arith, true, false, Option, Some, None, is_some, List, [], ◌∷◌, ◌++◌, map, length, slice_get, slice_set, ◌⊎◌, inl, inr, refl, ap, ap₂, sym, subst, ◌∙◌, ne_eqb, cases_eq, both_ways, false≢true, same_Some, in_append_left, in_append_right, in_append_cases, Addr, Located, Name, Object, Frame as ModelFrame, TaskStatus, Running, Waiting, Ended, Joined, Task, object_at, row_of, is_waiting, is_joined, is_over, is_on_path, parents, joined, resumed, path_itself, path_child, path_parent, path_through, live_up, waiting, joins_in, Heap, Ledger, heap_of, emptied, SoundLedger, CallFrame, RefField, own, Rests, JoinsTasks, TasksCanJoin, leaf_alone, Chunk, Belongings, no_belongings, Memory, In, object_name, objects, objects_of_chunks, sources, Lies, ReadsReference, IsModelObject, FrameIsRead, FramesAreRead, HoldsRead, TaskIsRead, AreLaidOut, Place, HasNames, small_chunks, large_chunks, GivesLevel, BelongingsStand, IsSource, Stands, IsShown, JoinsBelongings, with_results, top_with_results}
 use Rattle.refinement.specs.Stands.{names_of}
 use Rattle.refinement.proofs.objects.Carry.{object_kept, task_kept, frames_kept, read_kept, all_set}
 use Rattle.refinement.proofs.objects.Members.{in_chunk, in_objects, lies_in as owned_by, none_in}
@@ -148,7 +148,7 @@ module _ (v v' : Memory) (l l' : Ledger) (p c d : ℕ) (x : Task) (rl rr : ℤ �
         record { task = w.0; rests = part_rests w.0 w.1; there = in_objects (v.belongings w.0).chunks k.0 o w.2 k.2; came = inl (e, w.1) }
     | inr w ↦ elim w [
       | inl ch ↦ absurd (no_object z o ch i)
-      | inr ot ↦ record { task = z; rests = rest z r; there = subst (λ (h : Belongings). In (objects_in h.chunks) o) (H.others z ot.0 ot.1 ot.2) i; came = inr (refl, ot) }
+      | inr ot ↦ record { task = z; rests = rest z r; there = subst (λ (h : Belongings). In (objects_of_chunks h.chunks) o) (H.others z ot.0 ot.1 ot.2) i; came = inr (refl, ot) }
     ]
   ]
 
@@ -212,7 +212,7 @@ module _ (v v' : Memory) (l l' : Ledger) (p c d : ℕ) (x : Task) (rl rr : ℤ �
   merged_names : HasNames (v'.belongings p).chunks (heap_of l' p)
   merged_names = record {
     small = ap (λ ks. map names_of (small_chunks ks)) H.chunks ∙ (small_both (A ++ B) C both (heap_of l p) both_names (V.belongings p T.rests).names ∙ sym (ap (λ (h : Heap). h.chunks) J.heap));
-    large = ap (λ ks. map object_name (objects_in (large_chunks ks))) H.chunks ∙ (large_both (A ++ B) C both (heap_of l p) both_names (V.belongings p T.rests).names ∙ sym (ap (λ (h : Heap). h.large) J.heap));
+    large = ap (λ ks. map object_name (objects_of_chunks (large_chunks ks))) H.chunks ∙ (large_both (A ++ B) C both (heap_of l p) both_names (V.belongings p T.rests).names ∙ sym (ap (λ (h : Heap). h.large) J.heap));
   }
 
   merged_belongings : BelongingsStand v' l' p
@@ -267,8 +267,8 @@ module _ (v v' : Memory) (l l' : Ledger) (p c d : ℕ) (x : Task) (rl rr : ℤ �
     count = λ live. absurd (both_ways (is_joined (slice_get l'.machine.tasks z)) live gone);
     owned = λ k i. absurd (subst (λ (h : Belongings). In h.chunks k) eh i);
     inside = λ k o i j. absurd (subst (λ (h : Belongings). In h.chunks k) eh i);
-    once = λ o q i j e. absurd (subst (λ (h : Belongings). In (objects_in h.chunks) o) eh i);
-    named = λ o q i j e. absurd (subst (λ (h : Belongings). In (objects_in h.chunks) o) eh i);
+    once = λ o q i j e. absurd (subst (λ (h : Belongings). In (objects_of_chunks h.chunks) o) eh i);
+    named = λ o q i j e. absurd (subst (λ (h : Belongings). In (objects_of_chunks h.chunks) o) eh i);
     laid = subst (λ (h : Belongings). AreLaidOut h.chunks (heap_of l' z).reserved) (sym eh) (subst (AreLaidOut []) (sym (ap (λ (h : Heap). h.reserved) el ∙ spare)) none_laid);
   }
 

@@ -1,6 +1,6 @@
 -- If the last step of an entry changes the accounts and the memory in a way, it changes those with the steps and the
 -- belongings of another task's part in the same way.
-use Rattle.refinement.proofs.Common.{◌≡◌, ℕ, ℤ, ◌+◌, false, Option, List, ◌++◌, map, length, slice_get, ◌⊎◌, inl, inr, refl, ap, ap₂, sym, subst, ◌∙◌, cases_eq, both_ways, Addr, Located, Name, Object, Task, object_at, row_of, is_joined, is_waiting, is_on_path, owner_of, parent_of, Ledger, heap_of, or_fresh, merged, emptied, forked_heap, Heap, CallFrame, own, StepsAlone, WritesOne, AlikeFor, ForksTask, JoinsTasks, TasksCanJoin, StoresOne, StoresNumber, EndsTask, tree_beside, Belongings, Memory, In, objects_in, mapped_chunk, put_at, with_belongings, ForksBelongings, JoinsBelongings, WritesAt, StoresAt, StoresNumberAt, EndsBelongings, child_belongings, advanced, top_with_results}
+use Rattle.refinement.proofs.Common.{◌≡◌, ℕ, ℤ, ◌+◌, false, Option, List, ◌++◌, map, length, slice_get, ◌⊎◌, inl, inr, refl, ap, ap₂, sym, subst, ◌∙◌, cases_eq, both_ways, Addr, Located, Name, Object, Task, object_at, row_of, is_joined, is_waiting, is_on_path, owner_of, parent_of, Ledger, heap_of, or_fresh, merged, emptied, forked_heap, Heap, CallFrame, own, StepsAlone, WritesOne, AlikeFor, ForksTask, JoinsTasks, TasksCanJoin, StoresOne, StoresNumber, EndsTask, tree_beside, Belongings, Memory, In, objects_of_chunks, mapped_chunk, put_at, with_belongings, ForksBelongings, JoinsBelongings, WritesAt, StoresAt, StoresNumberAt, EndsBelongings, child_belongings, advanced, top_with_results}
 use Rattle.refinement.proofs.objects.Untouched.{chunks_unwritten}
 use Rattle.refinement.proofs.changes.UpdateOneTask.{at_belongings, off_belongings}
 
@@ -231,7 +231,7 @@ module _ (v v' : Memory) (u : ℕ) (h : Belongings) where
   ]
 
   -- a write of an object that isn't in u's belongings
-  pub writes_with : (t : ℕ) (a : Addr) (f : Located → Located) → ((o : Located) → In (objects_in h.chunks) o → o.at.chunk ≡ a.chunk → ⊥) → WritesAt v v' t a f → WritesAt w w' t a f
+  pub writes_with : (t : ℕ) (a : Addr) (f : Located → Located) → ((o : Located) → In (objects_of_chunks h.chunks) o → o.at.chunk ≡ a.chunk → ⊥) → WritesAt v v' t a f → WritesAt w w' t a f
   writes_with t a f none C = record {
     same_name = C.same_name;
     same_at = C.same_at;
@@ -250,7 +250,7 @@ module _ (v v' : Memory) (u : ℕ) (h : Belongings) where
   }
 
   pub stores_with : (l k : Ledger) (t : ℕ) (f : CallFrame) (fs : List CallFrame) (a : Addr) (o i : ℕ) (c : Option (ℕ × ℤ)) → (t ≡ u → ⊥) → ((b z : ℕ) → is_on_path k.machine.tasks b z ≡ is_on_path l.machine.tasks b z)
-      → ((q : Located) → In (objects_in h.chunks) q → q.at.chunk ≡ a.chunk → ⊥) → StoresAt v v' l t f fs a o i c → StoresAt w w' k t f fs a o i c
+      → ((q : Located) → In (objects_of_chunks h.chunks) q → q.at.chunk ≡ a.chunk → ⊥) → StoresAt v v' l t f fs a o i c → StoresAt w w' k t f fs a o i c
   stores_with l k t f fs a o i c nt paths none C = record {
     frames = ap (λ (j : Belongings). j.frames) (off_belongings v u h t nt) ∙ C.frames;
     goes = ap (λ (j : Belongings). j.frames) (off_belongings v' u h t nt) ∙ C.goes;
@@ -262,7 +262,7 @@ module _ (v v' : Memory) (u : ℕ) (h : Belongings) where
     ];
   }
 
-  pub numbers_with : (t : ℕ) (f : CallFrame) (fs : List CallFrame) (a : Addr) (o i : ℕ) → (t ≡ u → ⊥) → ((q : Located) → In (objects_in h.chunks) q → q.at.chunk ≡ a.chunk → ⊥) → StoresNumberAt v v' t f fs a o i → StoresNumberAt w w' t f fs a o i
+  pub numbers_with : (t : ℕ) (f : CallFrame) (fs : List CallFrame) (a : Addr) (o i : ℕ) → (t ≡ u → ⊥) → ((q : Located) → In (objects_of_chunks h.chunks) q → q.at.chunk ≡ a.chunk → ⊥) → StoresNumberAt v v' t f fs a o i → StoresNumberAt w w' t f fs a o i
   numbers_with t f fs a o i nt none C = record {
     frames = ap (λ (j : Belongings). j.frames) (off_belongings v u h t nt) ∙ C.frames;
     goes = ap (λ (j : Belongings). j.frames) (off_belongings v' u h t nt) ∙ C.goes;

@@ -1,5 +1,5 @@
 -- A store of a number, into an object of the task or of an ancestor.
-use Rattle.refinement.proofs.Common.{◌≡◌, ℕ, pos, true, unwrap_or, Some, None, List, ◌∷◌, slice_get, slice_set, ◌⊎◌, inl, inr, ap, ap₂, Addr, Name, Object, Task, ref_in, int_in, task_names, is_on_path, Ledger, SoundLedger, CallFrame, own, Rests, StoresNumber, ref_of, int_of, Memory, In, sources, FramesAreRead, TaskIsRead, Place, Stands, StoresNumberAt, with_number}
+use Rattle.refinement.proofs.Common.{◌≡◌, ℕ, pos, true, unwrap_or, Some, None, List, ◌∷◌, slice_get, slice_set, ◌⊎◌, inl, inr, ap, ap₂, Addr, Name, Object, Task, ref_in, int_in, task_names, is_on_path, Ledger, SoundLedger, CallFrame, own, Rests, StoresNumber, ref_of, int_of, Memory, In, sources, FramesAreRead, TaskIsRead, Place, Stands, StoresNumberAt, with_int_field}
 use Rattle.refinement.proofs.changes.Target as target
 use Rattle.refinement.proofs.changes.Write.{written}
 
@@ -27,7 +27,7 @@ module _ (v v' : Memory) (l l' : Ledger) (t : ℕ) (x : Task) (n : Name) (y : Ob
   task z r e = target.task_on v l t x n o f fs a S V rests L.task L.runs L.object L.waits C.frames at_a v' l' None L.goes C.goes z e
 
   pub numbered : Stands v' l'
-  numbered = written v v' l l' t n a y y' (with_number i (int_of f w)) S V L.writes C.writes (record {
+  numbered = written v v' l l' t n a y y' (with_int_field i (int_of f w)) S V L.writes C.writes (record {
     place = place;
     rests = rests_n;
     mutable = L.mutable;

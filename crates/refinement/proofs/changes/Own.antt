@@ -1,5 +1,5 @@
 -- A private step of a task whose belongings are in the memory: what is shown of its belongings is enough.
-use Rattle.refinement.proofs.Common.{◌≡◌, ℕ, true, false, Option, Some, None, slice_get, ◌⊎◌, inl, inr, refl, ap, sym, subst, ◌∙◌, cases_eq, both_ways, got_in, Addr, Located, Name, Object, Task, object_at, is_joined, is_waiting, is_on_path, parents, path_itself, Heap, Ledger, heap_of, SoundLedger, RefField, own, Rests, StepsAlone, own_live, leaf_alone, Belongings, Memory, In, object_name, objects, objects_in, sources, Lies, shown_at, IsModelObject, TaskIsRead, Place, GivesLevel, BelongingsStand, IsSource, Stands, IsShown, StepsInBelongings, BelongingsAreRead, Allocates}
+use Rattle.refinement.proofs.Common.{◌≡◌, ℕ, true, false, Option, Some, None, slice_get, ◌⊎◌, inl, inr, refl, ap, sym, subst, ◌∙◌, cases_eq, both_ways, got_in, Addr, Located, Name, Object, Task, object_at, is_joined, is_waiting, is_on_path, parents, path_itself, Heap, Ledger, heap_of, SoundLedger, RefField, own, Rests, StepsAlone, own_live, leaf_alone, Belongings, Memory, In, object_name, objects, objects_of_chunks, sources, Lies, shown_at, IsModelObject, TaskIsRead, Place, GivesLevel, BelongingsStand, IsSource, Stands, IsShown, StepsInBelongings, BelongingsAreRead, Allocates}
 use Rattle.refinement.proofs.objects.Carry.{object_kept, task_kept}
 use Rattle.refinement.proofs.objects.Members.{in_chunk}
 use Rattle.refinement.proofs.changes.Alone.{belongings_own, belongings_kept}
@@ -30,7 +30,7 @@ module _ (v v' : Memory) (l l' : Ledger) (t : ℕ) (S : SoundLedger l) (S' : Sou
 
   module _ (H : BelongingsAreRead v' l' t) where
     was : (u : ℕ) (o : Located) → (u ≡ t → ⊥) → In (objects v' u) o → In (objects v u) o
-    was u o ne i = subst (λ (h : Belongings). In (objects_in h.chunks) o) (C.others u ne) i
+    was u o ne i = subst (λ (h : Belongings). In (objects_of_chunks h.chunks) o) (C.others u ne) i
 
     store_same : (u : ℕ) (o : Located) → (u ≡ t → ⊥) → Rests l u → In (objects v u) o → object_at l'.machine.store (object_name o) ≡ object_at l.machine.store (object_name o)
     store_same u o ne r i = A.store (object_name o) (λ e. ne (sym (belongings_own v l S u (V.belongings u r) o i) ∙ e))
@@ -92,7 +92,7 @@ module _ (v v' : Memory) (l l' : Ledger) (t : ℕ) (S : SoundLedger l) (S' : Sou
         let up1 : is_on_path l.machine.tasks w z ≡ true = sym (A.tree.paths w z) ∙ up in
         let j1 : is_joined (slice_get l.machine.tasks z) ≡ false = sym (A.tree.joins z) ∙ j in
         let wt : w ≡ t → ⊥ = λ f. ne (leaf_alone l S w z (ap (λ y. is_waiting (slice_get l.machine.tasks y)) f ∙ idle) j1 up1) in
-        ap (λ s. shown_at s o.at) (view_same z) ∙ V.views z (rest z r) j1 w o up1 ne (rest w rw) (subst (λ (h : Belongings). In (objects_in h.chunks) o) (C.others w wt) i)
+        ap (λ s. shown_at s o.at) (view_same z) ∙ V.views z (rest z r) j1 w o up1 ne (rest w rw) (subst (λ (h : Belongings). In (objects_of_chunks h.chunks) o) (C.others w wt) i)
 
     give : (z w : ℕ) → Rests l' z → is_joined (slice_get l'.machine.tasks z) ≡ false → is_on_path l'.machine.tasks w z ≡ true → (w ≡ z → ⊥) → is_waiting (slice_get l'.machine.tasks w) ≡ true → Rests l' w → GivesLevel v' w z
     give z w r j up ne wait rw =

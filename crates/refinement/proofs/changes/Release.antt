@@ -1,5 +1,5 @@
 -- A worker takes a task, with its belongings: the memory stands without them.
-use Rattle.refinement.proofs.Common.{is_some, ◌≡◌, ℕ, false, Some, length, slice_get, ap, sym, subst, ◌∙◌, both_ways, Addr, Located, Name, MachineState, row_of, is_joined, is_waiting, Heap, Ledger, heap_of, own, Rests, WorkerTakes, Belongings, Memory, In, object_name, objects, objects_in, sources, Lies, shown_at, TaskIsRead, Place, Stands, SameBut}
+use Rattle.refinement.proofs.Common.{is_some, ◌≡◌, ℕ, false, Some, length, slice_get, ap, sym, subst, ◌∙◌, both_ways, Addr, Located, Name, MachineState, row_of, is_joined, is_waiting, Heap, Ledger, heap_of, own, Rests, WorkerTakes, Belongings, Memory, In, object_name, objects, objects_of_chunks, sources, Lies, shown_at, TaskIsRead, Place, Stands, SameBut}
 use Rattle.refinement.proofs.changes.Same.{own_same, path_same, store_same, source_same, remembered_same}
 use Rattle.refinement.proofs.objects.Carry.{object_kept, task_kept}
 use Rattle.refinement.proofs.changes.Alone.{belongings_kept}
@@ -22,7 +22,7 @@ module _ (v v' : Memory) (l l' : Ledger) (t w : ℕ) (V : Stands v l) (idle : is
   }
 
   was : (u : ℕ) (o : Located) → Rests l' u → In (objects v' u) o → In (objects v u) o
-  was u o r i = subst (λ (h : Belongings). In (objects_in h.chunks) o) (C.belongings u (other u r)) i
+  was u o r i = subst (λ (h : Belongings). In (objects_of_chunks h.chunks) o) (C.belongings u (other u r)) i
 
   pub released : Stands v' l'
   released = record {

@@ -1,5 +1,5 @@
 -- What the views of tasks show of their ancestors' heaps, through each kind of change.
-use Rattle.refinement.proofs.Common.{◌≡◌, ℕ, ℤ, ◌==◌, ◌&&◌, suc, Bool, true, false, not, cond, Option, Some, None, List, [], ◌∷◌, map, filter, slice_get, ◌⊎◌, inl, inr, refl, ap, ap₂, sym, subst, ◌∙◌, option_map, list_any, cases_eq, both_ways, and_parts, eq-eqb, eqb-true, cond-true, cond-false, false_from_ne_true, same_Some, in_from_any, each_in, in_map, Addr, Located, Task, is_joined, is_on_path, is_waiting, Name, Object, object_at, Heap, Ledger, heap_of, SoundLedger, RefField, own, Rests, ForksTask, JoinsTasks, TasksCanJoin, leaf_alone, same_address, is_same, same_is, Chunk, Belongings, Memory, In, object_name, objects, objects_in, sources, is_source, rewritten_refs, rewritten, put_at, frozen_chunk, frozen_chunks, chunk_among, seen_at, seen_in, shown_at, as_shown, BelongingsStand, IsShown, Stands, ForksBelongings, advanced, JoinsBelongings, KeepsJust, Moves, WritesAt}
+use Rattle.refinement.proofs.Common.{◌≡◌, ℕ, ℤ, ◌==◌, ◌&&◌, suc, Bool, true, false, not, cond, Option, Some, None, List, [], ◌∷◌, map, filter, slice_get, ◌⊎◌, inl, inr, refl, ap, ap₂, sym, subst, ◌∙◌, option_map, list_any, cases_eq, both_ways, and_parts, eq-eqb, eqb-true, cond-true, cond-false, false_from_ne_true, same_Some, in_from_any, each_in, in_map, Addr, Located, Task, is_joined, is_on_path, is_waiting, Name, Object, object_at, Heap, Ledger, heap_of, SoundLedger, RefField, own, Rests, ForksTask, JoinsTasks, TasksCanJoin, leaf_alone, same_address, is_same, same_is, Chunk, Belongings, Memory, In, object_name, objects, objects_of_chunks, sources, is_source, rewritten_refs, rewritten, put_at, frozen_chunk, frozen_chunks, chunk_among, seen_at, seen_in, shown_at, as_shown, BelongingsStand, IsShown, Stands, ForksBelongings, advanced, JoinsBelongings, KeepsJust, Moves, WritesAt}
 use Rattle.std.specs.List.{IsDistinct}
 use Rattle.refinement.proofs.objects.Members.{in_chunk, in_objects, none_in}
 use Rattle.refinement.proofs.objects.Mapped.{from_mapped}
@@ -94,11 +94,11 @@ module _ (v v' : Memory) (l l' : Ledger) (t a b g h : ℕ) (x : Task) (V : Stand
 
   was : (u : ℕ) (o : Located) → Rests l' u → In (objects v' u) o → Rests l u × In (objects v u) o
   was u o r i = elim (cases_eq u t) [
-    | inl e ↦ (ap (λ k. (heap_of l k).worker) e ∙ rests, subst (λ (k : Belongings). In (objects_in k.chunks) o) (ap v'.belongings e ∙ (C.belongings ∙ ap (λ (k : Belongings). record k { frames = advanced (v.belongings t).frames }) (sym (ap v.belongings e)))) i)
+    | inl e ↦ (ap (λ k. (heap_of l k).worker) e ∙ rests, subst (λ (k : Belongings). In (objects_of_chunks k.chunks) o) (ap v'.belongings e ∙ (C.belongings ∙ ap (λ (k : Belongings). record k { frames = advanced (v.belongings t).frames }) (sym (ap v.belongings e)))) i)
     | inr nt ↦
         let na : u ≡ a → ⊥ = λ e. none_new u o (inl e) i in
         let nb : u ≡ b → ⊥ = λ e. none_new u o (inr e) i in
-        (ap (λ (z : Heap). z.worker) (sym (F.heaps u nt na nb)) ∙ r, subst (λ (k : Belongings). In (objects_in k.chunks) o) (C.others u nt na nb) i)
+        (ap (λ (z : Heap). z.worker) (sym (F.heaps u nt na nb)) ∙ r, subst (λ (k : Belongings). In (objects_of_chunks k.chunks) o) (C.others u nt na nb) i)
   ]
 
   -- a child
@@ -134,12 +134,12 @@ module _ (v v' : Memory) (l l' : Ledger) (p c d : ℕ) (x : Task) (rl rr : ℤ �
         let gone : (k : ℕ) → is_joined (slice_get l'.machine.tasks k) ≡ true → z ≡ k → ⊥ = λ k g f. both_ways (is_joined (slice_get l'.machine.tasks z)) lz' (ap (λ y. is_joined (slice_get l'.machine.tasks y)) f ∙ g) in
         absurd (nobody z lz (ap (λ y. is_on_path l.machine.tasks y z) (sym e) ∙ (sym (J.paths u z) ∙ up)) ((λ f. ne (e ∙ sym f)), gone c J.left, gone d J.right))
     | inr np ↦ elim (cases_eq u c) [
-      | inl e ↦ absurd (subst (λ (k : Belongings). In (objects_in k.chunks) o) (ap v'.belongings e ∙ C.left) i)
+      | inl e ↦ absurd (subst (λ (k : Belongings). In (objects_of_chunks k.chunks) o) (ap v'.belongings e ∙ C.left) i)
       | inr nc ↦ elim (cases_eq u d) [
-        | inl e ↦ absurd (subst (λ (k : Belongings). In (objects_in k.chunks) o) (ap v'.belongings e ∙ C.right) i)
+        | inl e ↦ absurd (subst (λ (k : Belongings). In (objects_of_chunks k.chunks) o) (ap v'.belongings e ∙ C.right) i)
         | inr nd ↦
             ap (λ s. shown_at s o.at) same
-            ∙ T z rz lz u o (sym (J.paths u z) ∙ up) ne (ap (λ (k : Heap). k.worker) (sym (J.heaps u np nc nd)) ∙ r) (subst (λ (k : Belongings). In (objects_in k.chunks) o) (C.others u np nc nd) i)
+            ∙ T z rz lz u o (sym (J.paths u z) ∙ up) ne (ap (λ (k : Heap). k.worker) (sym (J.heaps u np nc nd)) ∙ r) (subst (λ (k : Belongings). In (objects_of_chunks k.chunks) o) (C.others u np nc nd) i)
       ]
     ]
   ]
@@ -173,7 +173,7 @@ module _ (v v' : Memory) (l l' : Ledger) (t : ℕ) (a : Addr) (f : Located → L
 
   pub write_shown : (z : ℕ) → Rests l z → is_joined (slice_get l.machine.tasks z) ≡ false → IsShown v' l' z
   write_shown z rz lz u o up ne r i =
-      let w = from_mapped (put_at a f) one_name one_at (v.belongings u).chunks o (subst (λ ks. In (objects_in ks) o) (C.chunks u) i) in
+      let w = from_mapped (put_at a f) one_name one_at (v.belongings u).chunks o (subst (λ ks. In (objects_of_chunks ks) o) (C.chunks u) i) in
       let at : o.at ≡ w.0.at = ap (λ (q : Located). q.at) (sym w.2) ∙ one_at w.0 in
       ap₂ (λ s b. shown_at s b) (same z) at ∙ subst (λ (q : Located). shown_at (v.belongings z).view w.0.at ≡ as_shown q) w.2
       (one_shown (shown_at (v.belongings z).view w.0.at) u w.0 (rests u r) w.1 (T z rz lz u w.0 (sym (paths u z) ∙ up) ne (rests u r) w.1))
@@ -184,7 +184,7 @@ module _ (v v' : Memory) (l l' : Ledger) (t : ℕ) (names : List Name) (T : AreS
   pub sweep_shown : (z : ℕ) → Rests l z → is_joined (slice_get l.machine.tasks z) ≡ false → IsShown v' l' z
   sweep_shown z rz lz u o up ne r i = ap (λ s. shown_at s o.at) (same z) ∙ T z rz lz u o (sym (paths u z) ∙ up) ne (rests u r) (elim (cases_eq u t) [
     | inl e ↦ subst (λ k. In (objects v k) o) (sym e) (C.only o (subst (λ k. In (objects v' k) o) e i)).0
-    | inr nt ↦ subst (λ (k : Belongings). In (objects_in k.chunks) o) (C.others u nt) i
+    | inr nt ↦ subst (λ (k : Belongings). In (objects_of_chunks k.chunks) o) (C.others u nt) i
   ])
 
 -- THE END OF A LEAF COLLECTION: t runs, so it is an ancestor of no other live task; what is remembered is mutable
@@ -233,7 +233,7 @@ module _ (v v' : Memory) (l l' : Ledger) (t : ℕ) (names : List Name) (f : Addr
       elim (cases_eq u t) [
         | inl e ↦ absurd (ne (leaf_alone l S u z (ap (λ k. is_waiting (slice_get l.machine.tasks k)) e ∙ idle) lz up'))
         | inr nt ↦
-            let w = from_mapped (rewritten f ss) (λ q. refl) (λ q. refl) (v.belongings u).chunks o (subst (λ (k : Belongings). In (objects_in k.chunks) o) (C.others u nt) i) in
+            let w = from_mapped (rewritten f ss) (λ q. refl) (λ q. refl) (v.belongings u).chunks o (subst (λ (k : Belongings). In (objects_of_chunks k.chunks) o) (C.others u nt) i) in
             let at : o.at ≡ w.0.at = ap (λ (q : Located). q.at) (sym w.2) in
             ap₂ (λ s b. shown_at s b) (same z) at ∙ subst (λ (q : Located). shown_at (v.belongings z).view w.0.at ≡ as_shown q) w.2
             (one_led (shown_at (v.belongings z).view w.0.at) u w.0 (rests u r) w.1 (T z rz lz u w.0 up' ne (rests u r) w.1))

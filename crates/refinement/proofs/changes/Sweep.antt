@@ -1,5 +1,5 @@
 -- A sweep of a waiting task's heap: exactly its snapshot stays, and nothing moves.
-use Rattle.refinement.proofs.Common.{is_some, ◌≡◌, ℕ, true, Option, Some, None, List, length, slice_get, inl, inr, refl, ap, sym, subst, ◌∙◌, cases_eq, Addr, Located, Name, Object, Task, MachineState, object_at, row_of, refs_at, refs_of, task_names, is_joined, is_waiting, named_from_in, Heap, Ledger, heap_of, or_fresh, SoundLedger, Keeps, InHeaps, Spares, snapshot_at, RefField, own, Rests, ChangesHeap, Belongings, Memory, In, object_name, objects, objects_in, sources, Lies, TaskIsRead, Place, BelongingsStand, IsSource, Stands, KeepsJust}
+use Rattle.refinement.proofs.Common.{is_some, ◌≡◌, ℕ, true, Option, Some, None, List, length, slice_get, inl, inr, refl, ap, sym, subst, ◌∙◌, cases_eq, Addr, Located, Name, Object, Task, MachineState, object_at, row_of, refs_at, refs_of, task_names, is_joined, is_waiting, named_from_in, Heap, Ledger, heap_of, or_fresh, SoundLedger, Keeps, InHeaps, Spares, snapshot_at, RefField, own, Rests, ChangesHeap, Belongings, Memory, In, object_name, objects, objects_of_chunks, sources, Lies, TaskIsRead, Place, BelongingsStand, IsSource, Stands, KeepsJust}
 use Rattle.refinement.proofs.changes.Shown.{sweep_shown}
 use Rattle.refinement.proofs.changes.Same.{own_same, path_same, store_same, source_same, remembered_same, rests_before, worker_same}
 use Rattle.refinement.proofs.objects.Carry.{object_kept, task_kept, same_holding}
@@ -55,7 +55,7 @@ module _ (v v' : Memory) (l l' : Ledger) (t : ℕ) (names : List Name) (S : Soun
     | inl e ↦
         let q = C.only o (subst (λ z. In (objects v' z) o) e i) in
         (subst (λ z. In (objects v z) o) (sym e) q.0, λ e. q.1)
-    | inr ne ↦ (subst (λ (h : Belongings). In (objects_in h.chunks) o) (C.others u ne) i, λ e. absurd (ne e))
+    | inr ne ↦ (subst (λ (h : Belongings). In (objects_of_chunks h.chunks) o) (C.others u ne) i, λ e. absurd (ne e))
   ]
 
   at_belongings : (n : Name) (a : Addr) → own l n ≡ t → Live l t S snapshot spares n → Place v l n a → Lies (v'.belongings t).chunks n a

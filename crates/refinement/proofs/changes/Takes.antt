@@ -1,5 +1,5 @@
 -- A task is taken, and private steps are committed: the memory stands, and the part fits.
-use Rattle.refinement.proofs.Common.{◌≡◌, ℕ, arith, false, Some, None, length, slice_get, inl, inr, refl, ap, sym, ◌∙◌, cases_eq, ProgramText, SettingsValue, MachineState, row_of, is_joined, is_waiting, Heap, Ledger, heap_of, or_fresh, with_heap, let_go, task_steps, heap_machine, Rests, rested, heap_then, with_at, with_off, took_takes, Belongings, Memory, objects_in, Stands, Part, FitsAt, with_belongings, part_for}
+use Rattle.refinement.proofs.Common.{◌≡◌, ℕ, arith, false, Some, None, length, slice_get, inl, inr, refl, ap, sym, ◌∙◌, cases_eq, ProgramText, SettingsValue, MachineState, row_of, is_joined, is_waiting, Heap, Ledger, heap_of, or_fresh, with_heap, let_go, task_steps, heap_machine, Rests, rested, heap_then, with_at, with_off, took_takes, Belongings, Memory, objects_of_chunks, Stands, Part, FitsAt, with_belongings, part_for}
 use Rattle.refinement.proofs.changes.Alone.{belongings_kept}
 use Rattle.refinement.proofs.changes.Release.{released}
 use Rattle.refinement.proofs.changes.Renew.{renewed}
@@ -49,7 +49,7 @@ module _ (p : ProgramText) (s : SettingsValue) (v : Memory) (l : Ledger) (t w : 
         (record { machine = machine_back; worker = λ u. ap (λ (z : Heap). z.worker) (heap_back u); snapshot = λ u. ap (λ (z : Heap). z.snapshot) (heap_back u) })
         (record {
           belongings = λ u r. belongings_kept v (with_belongings v t (v.belongings t)) l back u (same_belongings u) (λ k e. e) (heap_back u) (ap (λ (m : MachineState). length (row_of (slice_get m.store u))) machine_back) (ap (λ (m : MachineState). is_joined (slice_get m.tasks u)) machine_back) (V.belongings u (ap (λ (z : Heap). z.worker) (sym (heap_back u)) ∙ r));
-          objects = λ u. ap (λ (z : Belongings). objects_in z.chunks) (same_belongings u);
+          objects = λ u. ap (λ (z : Belongings). objects_of_chunks z.chunks) (same_belongings u);
           chunks = λ u e. ap (λ (z : Belongings). length z.chunks) (same_belongings u);
           frames = λ u. ap (λ (z : Belongings). z.frames) (same_belongings u);
           result = λ u. ap (λ (z : Belongings). z.result) (same_belongings u);
@@ -66,10 +66,10 @@ module _ (p : ProgramText) (s : SettingsValue) (q : Part) (v : Memory) (l : Ledg
   abbrev then_ : Ledger
   then_ = task_steps p l q.task q.fresh
 
-  abbrev entered : Part
-  entered = record q { fresh = 0 }
+  abbrev entered_frames : Part
+  entered_frames = record q { fresh = 0 }
 
-  pub ran_fits : FitsAt p s entered v then_
+  pub ran_fits : FitsAt p s entered_frames v then_
   ran_fits = record { worker = w; out = out; few = omega arith; private = tt; stands = F.stands }
 
   -- and the memory stands without it

@@ -1,5 +1,5 @@
 -- An entry that changes a memory changes the memory with another task's belongings in the same way.
-use Rattle.refinement.proofs.Common.{◌≡◌, ℕ, ◌==◌, List, map, inl, inr, refl, ap, sym, subst, ◌∙◌, ne_eqb, option_map, cases_eq, cond-true, cond-false, eq-eqb, Addr, Located, Name, Heap, Ledger, heap_of, RefField, led_frame, StepsAlone, ChangesHeap, Belongings, Memory, In, objects_in, sources, copied_object, rewritten_belongings, with_belongings, KeepsJust, Moves}
+use Rattle.refinement.proofs.Common.{◌≡◌, ℕ, ◌==◌, List, map, inl, inr, refl, ap, sym, subst, ◌∙◌, ne_eqb, option_map, cases_eq, cond-true, cond-false, eq-eqb, Addr, Located, Name, Heap, Ledger, heap_of, RefField, led_frame, StepsAlone, ChangesHeap, Belongings, Memory, In, objects_of_chunks, sources, copied_object, rewritten_belongings, with_belongings, KeepsJust, Moves}
 use Rattle.refinement.proofs.changes.Alone.{belongings_kept}
 use Rattle.refinement.proofs.objects.Untouched.{belongings_untouched}
 
@@ -43,8 +43,8 @@ module _ (v v' : Memory) (l l' k k' : Ledger) (t u : ℕ) (h : Belongings) (apar
   pub keeps_with : (names : List Name) → KeepsJust v v' l l' t names → KeepsJust w w' k k' t names
   keeps_with names C = record {
     belongings = belongings_kept v' w' l' k' t here' (λ i e. e) (A'.heaps t apart) (A'.rows t apart) (A'.tree.joins t) C.belongings;
-    stays = λ o i j. subst (λ (y : Belongings). In (objects_in y.chunks) o) (sym here') (C.stays o (subst (λ (y : Belongings). In (objects_in y.chunks) o) own_belongings i) j);
-    only = λ o i. let q = C.only o (subst (λ (y : Belongings). In (objects_in y.chunks) o) here' i) in (subst (λ (y : Belongings). In (objects_in y.chunks) o) (sym own_belongings) q.0, q.1);
+    stays = λ o i j. subst (λ (y : Belongings). In (objects_of_chunks y.chunks) o) (sym here') (C.stays o (subst (λ (y : Belongings). In (objects_of_chunks y.chunks) o) own_belongings i) j);
+    only = λ o i. let q = C.only o (subst (λ (y : Belongings). In (objects_of_chunks y.chunks) o) here' i) in (subst (λ (y : Belongings). In (objects_of_chunks y.chunks) o) (sym own_belongings) q.0, q.1);
     frames = ap (λ (y : Belongings). y.frames) here' ∙ (C.frames ∙ ap (λ (y : Belongings). y.frames) (sym own_belongings));
     result = ap (λ (y : Belongings). y.result) here' ∙ (C.result ∙ ap (λ (y : Belongings). y.result) (sym own_belongings));
     view = ap (λ (y : Belongings). y.view) here' ∙ (C.view ∙ ap (λ (y : Belongings). y.view) (sym own_belongings));
@@ -68,7 +68,7 @@ with_both v t u g h ne z = elim (cases_eq z t) [
 
 -- the end of t's collection, if no remembered field is in u's belongings
 pub moves_with : (v v' : Memory) (l l' k k' : Ledger) (t u : ℕ) (h : Belongings) → (t ≡ u → ⊥) → StepsAlone l k u → StepsAlone l' k' u → (names : List Name) (f : Addr → Addr)
-    → ((o : Located) (s : RefField) → In (objects_in h.chunks) o → In (sources v t) s → s.object.chunk ≡ o.at.chunk → ⊥)
+    → ((o : Located) (s : RefField) → In (objects_of_chunks h.chunks) o → In (sources v t) s → s.object.chunk ≡ o.at.chunk → ⊥)
     → Moves v v' l l' t names f → Moves (with_belongings v u h) (with_belongings v' u h) k k' t names f
 moves_with v v' l l' k k' t u h apart A A' names f none C =
     let w : Memory = with_belongings v u h in
@@ -77,8 +77,8 @@ moves_with v v' l l' k k' t u h apart A A' names f none C =
     let here' : (with_belongings v' u h).belongings t ≡ v'.belongings t = off_belongings v' u h t apart in
     record {
       belongings = belongings_kept v' (with_belongings v' u h) l' k' t here' (λ i e. e) (A'.heaps t apart) (A'.rows t apart) (A'.tree.joins t) C.belongings;
-      copied = λ o i j. subst (λ (y : Belongings). In (objects_in y.chunks) (copied_object f o)) (sym here') (C.copied o (subst (λ (y : Belongings). In (objects_in y.chunks) o) here i) j);
-      only = λ o i. let q = C.only o (subst (λ (y : Belongings). In (objects_in y.chunks) o) here' i) in (q.0, subst (λ (y : Belongings). In (objects_in y.chunks) q.0) (sym here) q.1, q.2, q.3);
+      copied = λ o i j. subst (λ (y : Belongings). In (objects_of_chunks y.chunks) (copied_object f o)) (sym here') (C.copied o (subst (λ (y : Belongings). In (objects_of_chunks y.chunks) o) here i) j);
+      only = λ o i. let q = C.only o (subst (λ (y : Belongings). In (objects_of_chunks y.chunks) o) here' i) in (q.0, subst (λ (y : Belongings). In (objects_of_chunks y.chunks) q.0) (sym here) q.1, q.2, q.3);
       frames = ap (λ (y : Belongings). y.frames) here' ∙ (C.frames ∙ ap (λ (y : Belongings). map (led_frame (option_map f)) y.frames) (sym here));
       view = ap (λ (y : Belongings). y.view) here' ∙ (C.view ∙ ap (λ (y : Belongings). y.view) (sym here));
       others = λ z ne. elim (cases_eq z u) [

@@ -1,6 +1,6 @@
 -- A step writes a field, of an object of its task or of an ancestor: nothing moves, and a reference that points down is
 -- remembered.
-use Rattle.refinement.proofs.Common.{◌≡◌, ℕ, ◌<◌, Bool, true, false, cond, Some, length, slice_get, ◌⊎◌, inl, inr, refl, ap, sym, subst, ◌∙◌, cases_eq, both_ways, cond-true, cond-false, same_Some, Addr, Located, Name, Object, Task, object_at, is_waiting, is_on_path, Heap, Ledger, heap_of, SoundLedger, RefField, own, Rests, WritesOne, name_cases, same_address, is_same, same_is, Memory, In, object_name, objects, objects_in, sources, Lies, put_at, IsModelObject, TaskIsRead, words, Place, IsSource, Stands, WritesAt, WritesWell}
+use Rattle.refinement.proofs.Common.{◌≡◌, ℕ, ◌<◌, Bool, true, false, cond, Some, length, slice_get, ◌⊎◌, inl, inr, refl, ap, sym, subst, ◌∙◌, cases_eq, both_ways, cond-true, cond-false, same_Some, Addr, Located, Name, Object, Task, object_at, is_waiting, is_on_path, Heap, Ledger, heap_of, SoundLedger, RefField, own, Rests, WritesOne, name_cases, same_address, is_same, same_is, Memory, In, object_name, objects, objects_of_chunks, sources, Lies, put_at, IsModelObject, TaskIsRead, words, Place, IsSource, Stands, WritesAt, WritesWell}
 use Rattle.refinement.proofs.objects.Carry.{object_kept, task_kept, same_holding}
 use Rattle.refinement.proofs.objects.Members.{in_chunk}
 use Rattle.refinement.proofs.objects.Mapped.{from_mapped, lies_mapped, belongings_mapped_by}
@@ -50,7 +50,7 @@ module _ (v v' : Memory) (l l' : Ledger) (t : ℕ) (n : Name) (a : Addr) (x x' :
   }
 
   was : (u : ℕ) (o : Located) → In (objects v' u) o → (q : Located) × In (objects v u) q × (one q ≡ o)
-  was u o i = from_mapped one one_name one_at (v.belongings u).chunks o (subst (λ ks. In (objects_in ks) o) (C.chunks u) i)
+  was u o i = from_mapped one one_name one_at (v.belongings u).chunks o (subst (λ ks. In (objects_of_chunks ks) o) (C.chunks u) i)
 
   -- the object of this name is written, and no other is
   written_is : (u : ℕ) (o : Located) → Rests l u → In (objects v u) o → o.at ≡ a → object_name o ≡ n

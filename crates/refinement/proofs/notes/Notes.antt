@@ -1,5 +1,5 @@
 -- What is noted of a waiting heap still holds, whatever entry is made.
-use Rattle.refinement.proofs.Common.{◌≡◌, ℕ, ℤ, suc, Bool, true, false, cond, Option, Some, None, List, [], ◌∷◌, ◌⊎◌, length, slice_get, inl, inr, refl, ap, ap₂, sym, subst, ◌∙◌, option_map, list_any, ◌&&◌, not, both_ways, same_Some, append-nil, length-map, Addr, Located, Name, Object, Task, Running, object_at, task_names, is_waiting, runs_idle, got_in, Heap, Ledger, heap_of, heap_at, within, SoundLedger, InHeaps, names_of, snapshot_at, MarkingValue, in_append_right, CallFrame, RefField, own, Rests, ref_of, ForksTask, StoresOne, same_address, Chunk, Belongings, Memory, In, object_name, objects, objects_in, sources, is_source, rewritten, rewritten_refs, rewritten_belongings, mapped_chunk, put_at, Place, Stands, IsReachedAt, AreRoots, CanGoOnMarking, MarkedBy, Since, kept, NotedAt, SameNotes, NoNotes, StaysWhole, Moves, ForksBelongings, WritesAt, StoresAt, with_field, with_number}
+use Rattle.refinement.proofs.Common.{◌≡◌, ℕ, ℤ, suc, Bool, true, false, cond, Option, Some, None, List, [], ◌∷◌, ◌⊎◌, length, slice_get, inl, inr, refl, ap, ap₂, sym, subst, ◌∙◌, option_map, list_any, ◌&&◌, not, both_ways, same_Some, append-nil, length-map, Addr, Located, Name, Object, Task, Running, object_at, task_names, is_waiting, runs_idle, got_in, Heap, Ledger, heap_of, heap_at, within, SoundLedger, InHeaps, names_of, snapshot_at, MarkingValue, in_append_right, CallFrame, RefField, own, Rests, ref_of, ForksTask, StoresOne, same_address, Chunk, Belongings, Memory, In, object_name, objects, objects_of_chunks, sources, is_source, rewritten, rewritten_refs, rewritten_belongings, mapped_chunk, put_at, Place, Stands, IsReachedAt, AreRoots, CanGoOnMarking, MarkedBy, Since, kept, NotedAt, SameNotes, NoNotes, StaysWhole, Moves, ForksBelongings, WritesAt, StoresAt, with_field, with_int_field}
 use Rattle.refinement.specs.Since.{Keeps}
 use Rattle.refinement.proofs.objects.Mapped.{count_mapped, from_mapped, to_mapped}
 use Rattle.refinement.proofs.notes.MarksGoOn.{goes_on}
@@ -96,11 +96,11 @@ pub moves_whole : (v v' : Memory) (l l' : Ledger) (u t : ℕ) (names : List Name
 moves_whole v v' l l' u t names f ne M =
     let e : v'.belongings t ≡ rewritten_belongings f (sources v u) (v.belongings t) = M.others t ne in
     record {
-      count = ap (λ (h : Belongings). length (objects_in h.chunks)) e ∙ count_mapped (rewritten f (sources v u)) (λ o. refl) (λ o. refl) (v.belongings t).chunks;
+      count = ap (λ (h : Belongings). length (objects_of_chunks h.chunks)) e ∙ count_mapped (rewritten f (sources v u)) (λ o. refl) (λ o. refl) (v.belongings t).chunks;
       chunks = ap (λ (h : Belongings). length h.chunks) e ∙ length-map (v.belongings t).chunks (mapped_chunk (rewritten f (sources v u)));
-      there = λ o i. (rewritten f (sources v u) o, subst (λ (h : Belongings). In (objects_in h.chunks) (rewritten f (sources v u) o)) (sym e) (to_mapped (rewritten f (sources v u)) (λ o. refl) (λ o. refl) (v.belongings t).chunks o i), refl, refl);
+      there = λ o i. (rewritten f (sources v u) o, subst (λ (h : Belongings). In (objects_of_chunks h.chunks) (rewritten f (sources v u) o)) (sym e) (to_mapped (rewritten f (sources v u)) (λ o. refl) (λ o. refl) (v.belongings t).chunks o i), refl, refl);
       were = λ q i.
-          let z = from_mapped (rewritten f (sources v u)) (λ o. refl) (λ o. refl) (v.belongings t).chunks q (subst (λ (h : Belongings). In (objects_in h.chunks) q) e i) in (
+          let z = from_mapped (rewritten f (sources v u)) (λ o. refl) (λ o. refl) (v.belongings t).chunks q (subst (λ (h : Belongings). In (objects_of_chunks h.chunks) q) e i) in (
             z.0,
             z.1,
             ap (λ (o : Located). o.at) (sym z.2),
@@ -111,35 +111,35 @@ moves_whole v v' l l' u t names f ne M =
 
 -- putting a number into an object keeps its name, its address and its references
 module _ (a : Addr) (i : ℕ) (k : ℤ) where
-  pub number_name : (q : Located) → object_name (put_at a (with_number i k) q) ≡ object_name q
+  pub number_name : (q : Located) → object_name (put_at a (with_int_field i k) q) ≡ object_name q
   number_name q = number_name_by_cases (same_address q.at a)
     where
-      number_name_by_cases : (b : Bool) → object_name (cond b (with_number i k q) q) ≡ object_name q
+      number_name_by_cases : (b : Bool) → object_name (cond b (with_int_field i k q) q) ≡ object_name q
       number_name_by_cases true = refl
       number_name_by_cases false = refl
 
-  pub number_at : (q : Located) → (put_at a (with_number i k) q).at ≡ q.at
+  pub number_at : (q : Located) → (put_at a (with_int_field i k) q).at ≡ q.at
   number_at q = number_at_by_cases (same_address q.at a)
     where
-      number_at_by_cases : (b : Bool) → (cond b (with_number i k q) q).at ≡ q.at
+      number_at_by_cases : (b : Bool) → (cond b (with_int_field i k q) q).at ≡ q.at
       number_at_by_cases true = refl
       number_at_by_cases false = refl
 
-  pub number_refs : (q : Located) → (put_at a (with_number i k) q).refs ≡ q.refs
+  pub number_refs : (q : Located) → (put_at a (with_int_field i k) q).refs ≡ q.refs
   number_refs q = number_refs_by_cases (same_address q.at a)
     where
-      number_refs_by_cases : (b : Bool) → (cond b (with_number i k q) q).refs ≡ q.refs
+      number_refs_by_cases : (b : Bool) → (cond b (with_int_field i k q) q).refs ≡ q.refs
       number_refs_by_cases true = refl
       number_refs_by_cases false = refl
 
 -- so does a store of a number
-pub numbers_whole : (v v' : Memory) (w : ℕ) (a : Addr) (i : ℕ) (k : ℤ) (t : ℕ) → WritesAt v v' w a (with_number i k) → StaysWhole v v' t
+pub numbers_whole : (v v' : Memory) (w : ℕ) (a : Addr) (i : ℕ) (k : ℤ) (t : ℕ) → WritesAt v v' w a (with_int_field i k) → StaysWhole v v' t
 numbers_whole v v' w a i k t C = record {
-  count = ap (λ ks. length (objects_in ks)) (C.chunks t) ∙ count_mapped one (number_name a i k) (number_at a i k) (v.belongings t).chunks;
+  count = ap (λ ks. length (objects_of_chunks ks)) (C.chunks t) ∙ count_mapped one (number_name a i k) (number_at a i k) (v.belongings t).chunks;
   chunks = ap (λ (ks : List Chunk). length ks) (C.chunks t) ∙ length-map (v.belongings t).chunks (mapped_chunk one);
-  there = λ o j. (one o, subst (λ ks. In (objects_in ks) (one o)) (sym (C.chunks t)) (to_mapped one (number_name a i k) (number_at a i k) (v.belongings t).chunks o j), number_at a i k o, number_name a i k o);
+  there = λ o j. (one o, subst (λ ks. In (objects_of_chunks ks) (one o)) (sym (C.chunks t)) (to_mapped one (number_name a i k) (number_at a i k) (v.belongings t).chunks o j), number_at a i k o, number_name a i k o);
   were = λ q j.
-      let z = from_mapped one (number_name a i k) (number_at a i k) (v.belongings t).chunks q (subst (λ ks. In (objects_in ks) q) (C.chunks t) j) in (
+      let z = from_mapped one (number_name a i k) (number_at a i k) (v.belongings t).chunks q (subst (λ ks. In (objects_of_chunks ks) q) (C.chunks t) j) in (
         z.0,
         z.1,
         ap (λ (o : Located). o.at) (sym z.2) ∙ number_at a i k z.0,
@@ -149,11 +149,11 @@ numbers_whole v v' w a i k t C = record {
 }
   where
     one : Located → Located
-    one q = put_at a (with_number i k) q
+    one q = put_at a (with_int_field i k) q
 
 -- in any store each object keeps its address
 pub writes_stay : (v v' : Memory) (w : ℕ) (a : Addr) (f : Located → Located) (t : ℕ) → WritesAt v v' w a f → (q : Located) → In (objects v t) q → (z : Located) × In (objects v' t) z × (z.at ≡ q.at) × (object_name z ≡ object_name q)
-writes_stay v v' w a f t C q j = (put_at a f q, subst (λ ks. In (objects_in ks) (put_at a f q)) (sym (C.chunks t)) (to_mapped (put_at a f) one_name one_at (v.belongings t).chunks q j), one_at q, one_name q)
+writes_stay v v' w a f t C q j = (put_at a f q, subst (λ ks. In (objects_of_chunks ks) (put_at a f q)) (sym (C.chunks t)) (to_mapped (put_at a f) one_name one_at (v.belongings t).chunks q j), one_at q, one_name q)
   where
     one_name : (o : Located) → object_name (put_at a f o) ≡ object_name o
     one_name o = one_name_by_cases (same_address o.at a)
@@ -237,7 +237,7 @@ module _ (v v' : Memory) (l l' : Ledger) (t : ℕ) (x : Task) (n : Name) (y : Ob
   -- a marking can go on
   store_goes : Since v' l' u → Keeps v v' u a i → (m : MarkingValue) → CanGoOnMarking v u (heap_of l u).snapshot m → CanGoOnMarking v' u (heap_of l' u).snapshot m
   store_goes H' K m G =
-      let back : (q : Located) → In (objects v' u) q → (o : Located) × In (objects v u) o × (one o ≡ q) = λ q j. from_mapped one one_name one_at (v.belongings u).chunks q (subst (λ ks. In (objects_in ks) q) (C.writes.chunks u) j) in
+      let back : (q : Located) → In (objects v' u) q → (o : Located) × In (objects v u) o × (one o ≡ q) = λ q j. from_mapped one one_name one_at (v.belongings u).chunks q (subst (λ ks. In (objects_of_chunks ks) q) (C.writes.chunks u) j) in
       let same : (heap_of l' u).snapshot ≡ (heap_of l u).snapshot = ap (λ (g : Heap). g.snapshot) (L.writes.heaps u) in
       subst (λ ns. CanGoOnMarking v' u ns m) (sym same)
       (goes_on v v' u (heap_of l u).snapshot m K.more K.grows (λ o j. writes_stay v v' t a _ u C.writes o j)
@@ -248,7 +248,7 @@ module _ (v v' : Memory) (l l' : Ledger) (t : ℕ) (x : Task) (n : Name) (y : Ob
         ap object_name (sym o.2) ∙ one_name o.0,
         λ b c r. subst (λ (z : Located). In z.refs (Some b) ⊎ In (kept v' u) b) o.2 (write_stays v v' l u i a (ref_of f w) V (L.waits u wait) K o.0 b o.1 r c),
       ))
-      (λ k g. sym (C.writes.owner k) ∙ g) (ap (λ ks. length (objects_in ks)) (C.writes.chunks u) ∙ count_mapped one one_name one_at (v.belongings u).chunks) (ap (λ (ks : List Chunk). length ks) (C.writes.chunks u) ∙ length-map (v.belongings u).chunks (mapped_chunk one))
+      (λ k g. sym (C.writes.owner k) ∙ g) (ap (λ ks. length (objects_of_chunks ks)) (C.writes.chunks u) ∙ count_mapped one one_name one_at (v.belongings u).chunks) (ap (λ (ks : List Chunk). length ks) (C.writes.chunks u) ∙ length-map (v.belongings u).chunks (mapped_chunk one))
       (λ b j.
       let q = H'.each b (subst (λ ks. In ks b) (sym K.grows) (in_append_right (kept v u) K.more b j)) in
       let o = back q.0 q.1 in (

@@ -1,6 +1,6 @@
 -- What the registers and the roots of a begun collection reach by addresses is what is reachable within the heap by
 -- names.
-use Rattle.refinement.proofs.Common.{◌≡◌, ℕ, zero, suc, ◌==◌, not, Bool, true, false, Option, Some, None, List, [], ◌∷◌, slice_get, ◌⊎◌, ◌↔◌, inl, inr, refl, ap, sym, subst, ◌∙◌, ne_eqb, and_from, and_parts, eqb-false, not-true, same_Some, in_from_contains, contains_from_in, in_append_left, in_append_right, in_append_cases, in_kept, in_from_kept, in_flat, got_in, in_got, IsWalk, Addr, Located, Name, Frame as ModelFrame, Running, Task, object_at, named, registers, refs_at, refs_of, is_waiting, is_joined, is_on_path, in_from_named, named_from_in, runs_idle, runs_live, Ledger, StartsWithin, LeadsWithin, heap_of, held, held_in, frames_of, roots_of, within, is_above, reached_root, reached_is_walks, SoundLedger, in_held, held_keeps, CallFrame, own, Rests, own_live, leaf_alone, Belongings, Memory, In, object_name, objects, sources, AllRead, FramesAreRead, HoldsRead, Place, Stands, StartsAt, LeadsAt, IsReachedAt, AreRoots}
+use Rattle.refinement.proofs.Common.{◌≡◌, ℕ, zero, suc, ◌==◌, not, Bool, true, false, Option, Some, None, List, [], ◌∷◌, slice_get, ◌⊎◌, ◌↔◌, inl, inr, refl, ap, sym, subst, ◌∙◌, ne_eqb, and_from, and_parts, eqb-false, not-true, same_Some, in_from_contains, contains_from_in, in_append_left, in_append_right, in_append_cases, in_kept, in_from_kept, in_flat, got_in, in_got, IsWalk, Addr, Located, Name, Frame as ModelFrame, Running, Task, object_at, names_of_references, registers, refs_at, refs_of, is_waiting, is_joined, is_on_path, in_from_named, named_from_in, runs_idle, runs_live, Ledger, StartsWithin, LeadsWithin, heap_of, held, held_in, frames_of, roots_of, within, is_proper_ancestor, reached_root, reached_is_walks, SoundLedger, in_held, held_keeps, CallFrame, own, Rests, own_live, leaf_alone, Belongings, Memory, In, object_name, objects, sources, AllRead, FramesAreRead, HoldsRead, Place, Stands, StartsAt, LeadsAt, IsReachedAt, AreRoots}
 use Rattle.run_ledger.proofs.Reached.{reached_more}
 use Rattle.refinement.proofs.objects.Members.{object_held, held_object, from_flat, lies_in}
 use Rattle.refinement.proofs.changes.Alone.{belongings_own}
@@ -33,14 +33,14 @@ frame_name at (g ∷ fs) [] f a h i j = absurd h
 frame_name at (g ∷ fs) (x ∷ xs) f a h (inl e) j =
     let k = in_got g.refs (Some a) (subst (λ (z : CallFrame). In z.refs (Some a)) (sym e) j) in
     let q = name_at at g.refs x.refs k.0 a h.0.refs k.1 in
-    (q.0, in_append_left (named x.refs) (registers xs) q.0 (named_from_in x.refs q.0 (got_in x.refs k.0 (Some q.0) q.1)), q.2)
-frame_name at (g ∷ fs) (x ∷ xs) f a h (inr i) j = let q = frame_name at fs xs f a h.1 i j in (q.0, in_append_right (named x.refs) (registers xs) q.0 q.1, q.2)
+    (q.0, in_append_left (names_of_references x.refs) (registers xs) q.0 (named_from_in x.refs q.0 (got_in x.refs k.0 (Some q.0) q.1)), q.2)
+frame_name at (g ∷ fs) (x ∷ xs) f a h (inr i) j = let q = frame_name at fs xs f a h.1 i j in (q.0, in_append_right (names_of_references x.refs) (registers xs) q.0 q.1, q.2)
 
 frame_address : (at : Name → Addr → Type 0) (fs : List CallFrame) (xs : List ModelFrame) (n : Name) → FramesAreRead at fs xs → In (registers xs) n → (f : CallFrame) × (a : Addr) × In fs f × In f.refs (Some a) × at n a
 frame_address at [] [] n h i = absurd i
 frame_address at [] (x ∷ xs) n h i = absurd h
 frame_address at (g ∷ fs) [] n h i = absurd h
-frame_address at (g ∷ fs) (x ∷ xs) n h i = elim (in_append_cases (named x.refs) (registers xs) n i) [
+frame_address at (g ∷ fs) (x ∷ xs) n h i = elim (in_append_cases (names_of_references x.refs) (registers xs) n i) [
   | inl j ↦
       let k = in_got x.refs (Some n) (in_from_named x.refs n j) in
       let q = address_at at g.refs x.refs k.0 n h.0.refs k.1 in
@@ -97,13 +97,13 @@ module _ (v : Memory) (l : Ledger) (t : ℕ) (x : Task) (roots : List Addr) (S :
       let m = bears t o f.0 a rests i e f.2 in
       let s = V.sources t k.source k.noted in
       let b = bears k.task k.object s.name k.source.object k.rests k.there k.at s.place in
-      let up : is_above l.machine.tasks (own l (object_name k.object)) t ≡ true =
-      subst (λ z. is_above l.machine.tasks (own l z) t ≡ true) (sym b.0) (and_from (is_on_path l.machine.tasks (own l s.name) t) (not (own l s.name == t)) s.above (ap not (ne_eqb (own l s.name) t s.below))) in
+      let up : is_proper_ancestor l.machine.tasks (own l (object_name k.object)) t ≡ true =
+      subst (λ z. is_proper_ancestor l.machine.tasks (own l z) t ≡ true) (sym b.0) (and_from (is_on_path l.machine.tasks (own l s.name) t) (not (own l s.name == t)) s.above (ap not (ne_eqb (own l s.name) t s.below))) in
       let held_q : In (held l) (object_name k.object) = in_held l (object_name k.object) (is_kept v l k.task (V.belongings k.task k.rests) k.object k.there) in
       subst (In (roots_of l t)) (sym m.0)
       (in_append_right (registers (frames_of (slice_get l.machine.tasks t))) _ f.0
       (in_flat (refs_at l.machine.store) _ (object_name k.object) f.0
-      (in_kept (λ n. is_above l.machine.tasks (own l n) t) (held l) (object_name k.object) held_q up)
+      (in_kept (λ n. is_proper_ancestor l.machine.tasks (own l n) t) (held l) (object_name k.object) held_q up)
       (refers l.machine.store (object_name k.object) f.0 c.0 c.1 (got_in c.0.refs k.source.field (Some f.0) f.1))))
 
   register_name : (o : Located) (a : Addr) (f : CallFrame) → In (objects v t) o → o.at ≡ a → In h.frames f → In f.refs (Some a) → In (roots_of l t) (object_name o)
@@ -129,7 +129,7 @@ module _ (v : Memory) (l : Ledger) (t : ℕ) (x : Task) (roots : List Addr) (S :
 
   -- FROM NAMES TO ADDRESSES
 
-  above_rests : (m : Name) → is_above l.machine.tasks (own l m) t ≡ true → Rests l (own l m) × (is_on_path l.machine.tasks t (own l m) ≡ true → ⊥)
+  above_rests : (m : Name) → is_proper_ancestor l.machine.tasks (own l m) t ≡ true → Rests l (own l m) × (is_on_path l.machine.tasks t (own l m) ≡ true → ⊥)
   above_rests m e =
       let p = and_parts (is_on_path l.machine.tasks (own l m) t) (not (own l m == t)) e in
       let ne : own l m ≡ t → ⊥ = eqb-false (own l m) t (not-true (own l m == t) p.1) in
@@ -152,11 +152,11 @@ module _ (v : Memory) (l : Ledger) (t : ℕ) (x : Task) (roots : List Addr) (S :
         inl (q.0, q.2, subst (λ (a : Addr). In q.0.refs (Some a)) (lies_at o (object_name o) q.1 i refl q.4) q.3)
     | inr r ↦
         let q = from_flat (refs_at l.machine.store) _ (object_name o) r in
-        let k = in_from_kept (λ n. is_above l.machine.tasks (own l n) t) (held l) q.0 q.1 in
+        let k = in_from_kept (λ n. is_proper_ancestor l.machine.tasks (own l n) t) (held l) q.0 q.1 in
         inr (noted o i q.0 k.0 k.1 q.2)
   ]
     where
-      noted : (o : Located) → In (objects v t) o → (m : Name) → In (held l) m → is_above l.machine.tasks (own l m) t ≡ true → In (refs_at l.machine.store m) (object_name o) → In roots o.at
+      noted : (o : Located) → In (objects v t) o → (m : Name) → In (held l) m → is_proper_ancestor l.machine.tasks (own l m) t ≡ true → In (refs_at l.machine.store m) (object_name o) → In roots o.at
       noted o i m held_m up r =
           let k = held_keeps l m held_m in
           let mine : own l m ≡ k.0 = (S.owners k.0 m k.1).1 in

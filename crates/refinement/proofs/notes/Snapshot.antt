@@ -1,5 +1,5 @@
 -- From the fork on, the snapshot can be found by addresses.
-use Rattle.refinement.proofs.Common.{◌≡◌, ℕ, Bool, true, false, cond, Option, Some, List, [], slice_get, slice_set, ◌⊎◌, ◌↔◌, inl, inr, refl, ap, sym, subst, ◌∙◌, cases_eq, cond-true, cond-false, got_in, got_other, in_append_left, in_got, Addr, Located, Name, Object, Running, Task, is_waiting, runs_idle, Heap, Ledger, heap_of, within, SoundLedger, Rests, WritesOne, ForksTask, same_address, same_is, Belongings, Memory, In, object_name, objects, objects_in, put_at, Stands, IsReachedAt, IsRoot, AreRoots, Since, kept, ForksBelongings, WritesAt, with_field}
+use Rattle.refinement.proofs.Common.{◌≡◌, ℕ, Bool, true, false, cond, Option, Some, List, [], slice_get, slice_set, ◌⊎◌, ◌↔◌, inl, inr, refl, ap, sym, subst, ◌∙◌, cases_eq, cond-true, cond-false, got_in, got_other, in_append_left, in_got, Addr, Located, Name, Object, Running, Task, is_waiting, runs_idle, Heap, Ledger, heap_of, within, SoundLedger, Rests, WritesOne, ForksTask, same_address, same_is, Belongings, Memory, In, object_name, objects, objects_of_chunks, put_at, Stands, IsReachedAt, IsRoot, AreRoots, Since, kept, ForksBelongings, WritesAt, with_field}
 use Rattle.refinement.specs.Since.{Keeps}
 use Rattle.refinement.proofs.objects.Mapped.{from_mapped, to_mapped}
 use Rattle.refinement.proofs.notes.Rooted.{in_advanced, noted_by, root_apart, root_by, root_same}
@@ -10,7 +10,7 @@ use Rattle.refinement.proofs.objects.Members.{lies_in}
 pub since_fork : (v v' : Memory) (l l' : Ledger) (t a b g h : ℕ) (x : Task) (roots : List Addr) → SoundLedger l → Stands v l → x.status ≡ Running → Rests l t → ((u : ℕ) → is_waiting (slice_get l.machine.tasks u) ≡ true → Rests l u)
     → (F : ForksTask l l' t a b g h x) → ForksBelongings v v' t a b g h → AreRoots v l t roots → ((n : Name) → In (within l t) n ↔ In F.names n) → kept v' t ≡ [] → Since v' l' t
 since_fork v v' l l' t a b g h x roots S V runs rests at_rest F C R same none =
-    let back : (q : Located) → In (objects v' t) q → In (objects v t) q = λ q i. subst (λ (y : Belongings). In (objects_in y.chunks) q) C.belongings i in
+    let back : (q : Located) → In (objects v' t) q → In (objects v t) q = λ q i. subst (λ (y : Belongings). In (objects_of_chunks y.chunks) q) C.belongings i in
     let idle : is_waiting (slice_get l.machine.tasks t) ≡ false = runs_idle x F.task runs in
     record {
       belongings = v.belongings t;
@@ -22,8 +22,8 @@ since_fork v v' l l' t a b g h x roots S V runs rests at_rest F C R same none =
           let na = root_apart v l V a (ap is_waiting F.unmade_left) t c r in
           let nb = root_apart v l V b (ap is_waiting F.unmade_right) t c r in
           inl (root_same v v' l l' t (noted_by v v' t (C.sources t (λ e. F.left_apart (sym e)) (λ e. F.right_apart (sym e)))) (λ k o. C.owner k ∙ o) c r
-          (ap (λ (y : Heap). y.worker) (F.heaps r.task nt na nb) ∙ r.rests) (ap (λ (y : Belongings). objects_in y.chunks) (C.others r.task nt na nb)));
-      there = λ o i. (o, subst (λ (y : Belongings). In (objects_in y.chunks) o) (sym C.belongings) i, refl, refl);
+          (ap (λ (y : Heap). y.worker) (F.heaps r.task nt na nb) ∙ r.rests) (ap (λ (y : Belongings). objects_of_chunks y.chunks) (C.others r.task nt na nb)));
+      there = λ o i. (o, subst (λ (y : Belongings). In (objects_of_chunks y.chunks) o) (sym C.belongings) i, refl, refl);
       were = λ q i. (q, back q i, refl, refl);
       snapshot = λ q i.
           let r = reached_both v l t x roots S V F.task runs rests at_rest R q (back q i) in (
@@ -72,10 +72,10 @@ module _ (v v' : Memory) (l l' : Ledger) (t w i : ℕ) (n : Name) (y y' : Object
       one_at_by_cases false = refl
 
   was : (q' : Located) → In (objects v' t) q' → (q : Located) × In (objects v t) q × (one q ≡ q')
-  was q' j = from_mapped one one_name one_at (v.belongings t).chunks q' (subst (λ ks. In (objects_in ks) q') (C.chunks t) j)
+  was q' j = from_mapped one one_name one_at (v.belongings t).chunks q' (subst (λ ks. In (objects_of_chunks ks) q') (C.chunks t) j)
 
   then_ : (u : ℕ) (q : Located) → In (objects v u) q → In (objects v' u) (one q)
-  then_ u q j = subst (λ ks. In (objects_in ks) (one q)) (sym (C.chunks u)) (to_mapped one one_name one_at (v.belongings u).chunks q j)
+  then_ u q j = subst (λ ks. In (objects_of_chunks ks) (one q)) (sym (C.chunks u)) (to_mapped one one_name one_at (v.belongings u).chunks q j)
 
   now : (q : Located) → In (objects v t) q → In (objects v' t) (one q)
   now = then_ t

@@ -1,5 +1,5 @@
 -- Reading through one address map after another.
-use Rattle.refinement.proofs.Common.{◌≡◌, ℕ, ℤ, zero, suc, ◌+◌, ◌==◌, ◌&&◌, Bool, true, false, cond, arith, unwrap_or, Option, Some, None, List, [], ◌∷◌, map, slice_get, slice_set, ◌⊎◌, inl, inr, refl, ap, sym, subst, ◌∙◌, option_flatten, option_map, list_any, both_ways, and_from, eq-eqb, in_append_left, in_append_right, any_from_in, Addr, Located, Name, Object, Frame as ModelFrame, TaskStatus, Running, Waiting, Ended, Joined, Task, named, registers, names_from, task_names, named_from_in, CallFrame, led_frame, RefField, In, Belongings, is_source, rewritten_refs, ReadsReference, AllRead, IsModelObject, FrameIsRead, FramesAreRead, HoldsRead, TaskIsRead}
+use Rattle.refinement.proofs.Common.{◌≡◌, ℕ, ℤ, zero, suc, ◌+◌, ◌==◌, ◌&&◌, Bool, true, false, cond, arith, unwrap_or, Option, Some, None, List, [], ◌∷◌, map, slice_get, slice_set, ◌⊎◌, inl, inr, refl, ap, sym, subst, ◌∙◌, option_flatten, option_map, list_any, both_ways, and_from, eq-eqb, in_append_left, in_append_right, any_from_in, Addr, Located, Name, Object, Frame as ModelFrame, TaskStatus, Running, Waiting, Ended, Joined, Task, names_of_references, registers, names_from, task_names, named_from_in, CallFrame, led_frame, RefField, In, Belongings, is_source, rewritten_refs, ReadsReference, AllRead, IsModelObject, FrameIsRead, FramesAreRead, HoldsRead, TaskIsRead}
 
 -- a map with the same addresses for the names that are read
 pub read_kept : (at at' : Name → Addr → Type 0) (r : Option Addr) (x : Option Name) → ((n : Name) → x ≡ Some n → (a : Addr) → at n a → at' n a) → ReadsReference at r x → ReadsReference at' r x
@@ -22,8 +22,8 @@ frames_kept at at' [] [] g h = tt
 frames_kept at at' [] (x ∷ xs) g h = absurd h
 frames_kept at at' (f ∷ fs) [] g h = absurd h
 frames_kept at at' (f ∷ fs) (x ∷ xs) g h = (
-  frame_kept at at' f x (λ n i. g n (in_append_left (named x.refs) (registers xs) n (named_from_in x.refs n i))) h.0,
-  frames_kept at at' fs xs (λ n i. g n (in_append_right (named x.refs) (registers xs) n i)) h.1,
+  frame_kept at at' f x (λ n i. g n (in_append_left (names_of_references x.refs) (registers xs) n (named_from_in x.refs n i))) h.0,
+  frames_kept at at' fs xs (λ n i. g n (in_append_right (names_of_references x.refs) (registers xs) n i)) h.1,
 )
 
 -- what a task holds is read through a map that has the same addresses for it
@@ -33,7 +33,7 @@ task_kept at at' h x g k = task_kept_by_cases x.status g k
     task_kept_by_cases : (s : TaskStatus) → ((n : Name) → In (names_from s (x.top ∷ x.below)) n → (a : Addr) → at n a → at' n a) → HoldsRead at h x s → HoldsRead at' h x s
     task_kept_by_cases Running g k = frames_kept at at' h.frames (x.top ∷ x.below) g k
     task_kept_by_cases Waiting g k = frames_kept at at' h.frames (x.top ∷ x.below) g k
-    task_kept_by_cases (Ended z r) g k = (k.0, read_kept at at' h.result.1 r (λ n e. g n (subst (λ o. In (named (o ∷ [])) n) (sym e) (inl refl))) k.1)
+    task_kept_by_cases (Ended z r) g k = (k.0, read_kept at at' h.result.1 r (λ n e. g n (subst (λ o. In (names_of_references (o ∷ [])) n) (sym e) (inl refl))) k.1)
     task_kept_by_cases Joined g k = tt
 
 pub object_kept : (at at' : Name → Addr → Type 0) (o : Located) (x : Object) → ((n : Name) → In x.refs (Some n) → (a : Addr) → at n a → at' n a) → IsModelObject at o x → IsModelObject at' o x
@@ -73,9 +73,9 @@ frames_led at at' f (y ∷ fs) (x ∷ xs) g h = (
     function = h.0.function;
     next = h.0.next;
     ints = h.0.ints;
-    refs = all_led at at' f y.refs x.refs (λ n i. g n (in_append_left (named x.refs) (registers xs) n (named_from_in x.refs n i))) h.0.refs;
+    refs = all_led at at' f y.refs x.refs (λ n i. g n (in_append_left (names_of_references x.refs) (registers xs) n (named_from_in x.refs n i))) h.0.refs;
   },
-  frames_led at at' f fs xs (λ n i. g n (in_append_right (named x.refs) (registers xs) n i)) h.1,
+  frames_led at at' f fs xs (λ n i. g n (in_append_right (names_of_references x.refs) (registers xs) n i)) h.1,
 )
 
 -- REWRITTEN

@@ -1,5 +1,5 @@
 -- The layout of chunks whose objects are changed in place, and of the chunks of two heaps together.
-use Rattle.refinement.proofs.Common.{◌≡◌, ◌⊎◌, ◌&&◌, ◌==◌, ◌+◌, ◌*◌, ◌≤◌, ℕ, suc, Bool, true, false, cond, Option, List, [], ◌∷◌, ◌++◌, length, map, inl, inr, refl, ap, ap₂, sym, subst, ◌∙◌, ne_eqb, AllByRecursion, is_empty, in_append_cases, map_in, Addr, Located, units, RefField, Chunk, In, objects_in, mapped_chunk, rewritten, rewritten_refs, words, DontOverlap, HoldsLarge, reserved_chunks, AreLaidOut}
+use Rattle.refinement.proofs.Common.{◌≡◌, ◌⊎◌, ◌&&◌, ◌==◌, ◌+◌, ◌*◌, ◌≤◌, ℕ, suc, Bool, true, false, cond, Option, List, [], ◌∷◌, ◌++◌, length, map, inl, inr, refl, ap, ap₂, sym, subst, ◌∙◌, ne_eqb, AllByRecursion, is_empty, in_append_cases, map_in, Addr, Located, units, RefField, Chunk, In, objects_of_chunks, mapped_chunk, rewritten, rewritten_refs, words, DontOverlap, HoldsLarge, reserved_chunks, AreLaidOut}
 use Rattle.std.specs.List.{IsDistinct}
 use Rattle.refinement.proofs.objects.Members.{in_chunk, in_objects}
 
@@ -66,7 +66,7 @@ module _ (one : Located → Located) (same_at : (o : Located) → (one o).at ≡
   large_mapped k (inl e) = inl (ap (map one) e)
   large_mapped k (inr h) = inr (one h.0, ap (map one) h.1, ap (λ (a : Addr). a.offset) (same_at h.0) ∙ h.2, h.3 ∙ ap units (sym (same_words h.0)))
 
-  from : (ks : List Chunk) (o : Located) → In (objects_in (map chunk ks)) o → (q : Located) × In (objects_in ks) q × (one q ≡ o)
+  from : (ks : List Chunk) (o : Located) → In (objects_of_chunks (map chunk ks)) o → (q : Located) × In (objects_of_chunks ks) q × (one q ≡ o)
   from ks o i =
       let c = in_chunk (map chunk ks) o i in
       let k = map_in chunk ks c.0 c.1 in
@@ -133,18 +133,18 @@ reserved_both (j ∷ js) ks = reserved_both_by_cases (j.large && is_empty j.obje
 module _ (js ks : List Chunk) (n : ℕ) (L : AreLaidOut js 0) (R : AreLaidOut ks n) (apart : (j k : Chunk) → In js j → In ks k → j.number ≡ k.number → ⊥)
     (inside_j : (k : Chunk) (o : Located) → In js k → In k.objects o → o.at.chunk ≡ k.number) (inside_k : (k : Chunk) (o : Located) → In ks k → In k.objects o → o.at.chunk ≡ k.number) where
   -- objects of both are in two chunks
-  across : (o q : Located) → In (objects_in js) o → In (objects_in ks) q → o.at.chunk ≡ q.at.chunk → ⊥
+  across : (o q : Located) → In (objects_of_chunks js) o → In (objects_of_chunks ks) q → o.at.chunk ≡ q.at.chunk → ⊥
   across o q i j e =
       let a = in_chunk js o i in
       let b = in_chunk ks q j in
       apart a.0 b.0 a.1 b.1 (sym (inside_j a.0 o a.1 a.2) ∙ (e ∙ inside_k b.0 q b.1 b.2))
 
-  objects_cases : (o : Located) → In (objects_in (js ++ ks)) o → In (objects_in js) o ⊎ In (objects_in ks) o
+  objects_cases : (o : Located) → In (objects_of_chunks (js ++ ks)) o → In (objects_of_chunks js) o ⊎ In (objects_of_chunks ks) o
   objects_cases o i =
       let c = in_chunk (js ++ ks) o i in
       elim (in_append_cases js ks c.0 c.1) [ inl a ↦ inl (in_objects js c.0 o a c.2) | inr a ↦ inr (in_objects ks c.0 o a c.2) ]
 
-  apart_both : (o q : Located) → In (objects_in js) o ⊎ In (objects_in ks) o → In (objects_in js) q ⊎ In (objects_in ks) q → (o ≡ q) ⊎ DontOverlap o q
+  apart_both : (o q : Located) → In (objects_of_chunks js) o ⊎ In (objects_of_chunks ks) o → In (objects_of_chunks js) q ⊎ In (objects_of_chunks ks) q → (o ≡ q) ⊎ DontOverlap o q
   apart_both o q (inl i) (inl j) = L.apart o q i j
   apart_both o q (inl i) (inr j) = inr (inl (across o q i j))
   apart_both o q (inr i) (inl j) = inr (inl (λ e. across q o j i (sym e)))

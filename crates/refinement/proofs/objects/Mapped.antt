@@ -1,5 +1,5 @@
 -- Belongings whose objects are changed, except for their names and addresses.
-use Rattle.refinement.proofs.Common.{◌≡◌, ℕ, Bool, true, false, not, cond, Some, List, [], ◌∷◌, ◌++◌, map, length, slice_get, refl, ap, ap₂, sym, subst, ◌∙◌, length-map, map-append, in_map, map_in, Addr, Located, Name, row_of, is_joined, Heap, Ledger, heap_of, Chunk, Belongings, Memory, In, object_name, objects_in, Lies, mapped_chunk, mapped_belongings, words, AreLaidOut, small_chunks, large_chunks, HasNames, BelongingsStand}
+use Rattle.refinement.proofs.Common.{◌≡◌, ℕ, Bool, true, false, not, cond, Some, List, [], ◌∷◌, ◌++◌, map, length, slice_get, refl, ap, ap₂, sym, subst, ◌∙◌, length-map, map-append, in_map, map_in, Addr, Located, Name, row_of, is_joined, Heap, Ledger, heap_of, Chunk, Belongings, Memory, In, object_name, objects_of_chunks, Lies, mapped_chunk, mapped_belongings, words, AreLaidOut, small_chunks, large_chunks, HasNames, BelongingsStand}
 use Rattle.refinement.specs.Stands.{names_of}
 use Rattle.refinement.proofs.objects.LaidOut.{laid_mapped}
 
@@ -7,9 +7,9 @@ module _ (one : Located → Located) (same_name : (o : Located) → object_name 
   abbrev chunk : Chunk → Chunk
   chunk k = mapped_chunk one k
 
-  pub objects_mapped : (ks : List Chunk) → objects_in (map chunk ks) ≡ map one (objects_in ks)
+  pub objects_mapped : (ks : List Chunk) → objects_of_chunks (map chunk ks) ≡ map one (objects_of_chunks ks)
   objects_mapped [] = refl
-  objects_mapped (k ∷ ks) = ap (λ zs. map one k.objects ++ zs) (objects_mapped ks) ∙ sym (map-append one k.objects (objects_in ks))
+  objects_mapped (k ∷ ks) = ap (λ zs. map one k.objects ++ zs) (objects_mapped ks) ∙ sym (map-append one k.objects (objects_of_chunks ks))
 
   names_same : (os : List Located) → map object_name (map one os) ≡ map object_name os
   names_same [] = refl
@@ -34,17 +34,17 @@ module _ (one : Located → Located) (same_name : (o : Located) → object_name 
   pub names_mapped : (ks : List Chunk) (h : Heap) → HasNames ks h → HasNames (map chunk ks) h
   names_mapped ks h N = record {
     small = small_same ks ∙ N.small;
-    large = ap (λ zs. map object_name (objects_in zs)) (large_same ks) ∙ (ap (λ zs. map object_name zs) (objects_mapped (large_chunks ks)) ∙ (names_same (objects_in (large_chunks ks)) ∙ N.large));
+    large = ap (λ zs. map object_name (objects_of_chunks zs)) (large_same ks) ∙ (ap (λ zs. map object_name zs) (objects_mapped (large_chunks ks)) ∙ (names_same (objects_of_chunks (large_chunks ks)) ∙ N.large));
   }
 
-  pub count_mapped : (ks : List Chunk) → length (objects_in (map chunk ks)) ≡ length (objects_in ks)
-  count_mapped ks = ap (λ (os : List Located). length os) (objects_mapped ks) ∙ length-map (objects_in ks) one
+  pub count_mapped : (ks : List Chunk) → length (objects_of_chunks (map chunk ks)) ≡ length (objects_of_chunks ks)
+  count_mapped ks = ap (λ (os : List Located). length os) (objects_mapped ks) ∙ length-map (objects_of_chunks ks) one
 
-  pub from_mapped : (ks : List Chunk) (o : Located) → In (objects_in (map chunk ks)) o → (q : Located) × In (objects_in ks) q × (one q ≡ o)
-  from_mapped ks o i = map_in one (objects_in ks) o (subst (λ zs. In zs o) (objects_mapped ks) i)
+  pub from_mapped : (ks : List Chunk) (o : Located) → In (objects_of_chunks (map chunk ks)) o → (q : Located) × In (objects_of_chunks ks) q × (one q ≡ o)
+  from_mapped ks o i = map_in one (objects_of_chunks ks) o (subst (λ zs. In zs o) (objects_mapped ks) i)
 
-  pub to_mapped : (ks : List Chunk) (o : Located) → In (objects_in ks) o → In (objects_in (map chunk ks)) (one o)
-  to_mapped ks o i = subst (λ zs. In zs (one o)) (sym (objects_mapped ks)) (in_map one (objects_in ks) o i)
+  pub to_mapped : (ks : List Chunk) (o : Located) → In (objects_of_chunks ks) o → In (objects_of_chunks (map chunk ks)) (one o)
+  to_mapped ks o i = subst (λ zs. In zs (one o)) (sym (objects_mapped ks)) (in_map one (objects_of_chunks ks) o i)
 
   pub lies_mapped : (ks : List Chunk) (n : Name) (a : Addr) → Lies ks n a → Lies (map chunk ks) n a
   lies_mapped ks n a q = (one q.0, to_mapped ks q.0 q.1, record { name = same_name q.0 ∙ q.2.name; at = same_at q.0 ∙ q.2.at })
@@ -64,13 +64,13 @@ module _ (one : Located → Located) (same_name : (o : Located) → object_name 
         let p = map_in one q.0.objects o (subst (λ (c : Chunk). In c.objects o) (sym q.2) j) in
         ap (λ (c : Located). c.at.chunk) (sym p.2) ∙ (ap (λ (c : Addr). c.chunk) (same_at p.0) ∙ H.inside q.0 p.0 q.1 p.1 ∙ ap (λ (c : Chunk). c.number) q.2);
     once = λ o p i j e.
-        let a = from_mapped (v.belongings t).chunks o (subst (λ ks. In (objects_in ks) o) ec i) in
-        let b = from_mapped (v.belongings t).chunks p (subst (λ ks. In (objects_in ks) p) ec j) in
+        let a = from_mapped (v.belongings t).chunks o (subst (λ ks. In (objects_of_chunks ks) o) ec i) in
+        let b = from_mapped (v.belongings t).chunks p (subst (λ ks. In (objects_of_chunks ks) p) ec j) in
         let same : a.0 ≡ b.0 = H.once a.0 b.0 a.1 b.1 (sym (same_at a.0) ∙ (ap (λ (c : Located). c.at) a.2 ∙ (e ∙ (ap (λ (c : Located). c.at) (sym b.2) ∙ same_at b.0)))) in
         sym a.2 ∙ (ap one same ∙ b.2);
     named = λ o p i j e.
-        let a = from_mapped (v.belongings t).chunks o (subst (λ ks. In (objects_in ks) o) ec i) in
-        let b = from_mapped (v.belongings t).chunks p (subst (λ ks. In (objects_in ks) p) ec j) in
+        let a = from_mapped (v.belongings t).chunks o (subst (λ ks. In (objects_of_chunks ks) o) ec i) in
+        let b = from_mapped (v.belongings t).chunks p (subst (λ ks. In (objects_of_chunks ks) p) ec j) in
         let same : a.0 ≡ b.0 = H.named a.0 b.0 a.1 b.1 (sym (same_name a.0) ∙ (ap object_name a.2 ∙ (e ∙ (ap object_name (sym b.2) ∙ same_name b.0)))) in
         sym a.2 ∙ (ap one same ∙ b.2);
     laid = subst (λ ks. AreLaidOut ks (heap_of l' t).reserved) (sym ec) (subst (λ (h : Heap). AreLaidOut (map chunk (v.belongings t).chunks) h.reserved) (sym el) (laid_mapped one same_at same_words (v.belongings t).chunks (heap_of l t).reserved H.laid));

@@ -1,13 +1,13 @@
 -- The chunks of one heap in front of those of another.
-use Rattle.refinement.proofs.Common.{◌≡◌, not, List, ◌++◌, map, ap, ap₂, ◌∙◌, flat_map-append, map-append, filter-append, Heap, Chunk, object_name, objects_in, small_chunks, large_chunks, HasNames}
+use Rattle.refinement.proofs.Common.{◌≡◌, not, List, ◌++◌, map, ap, ap₂, ◌∙◌, flat_map-append, map-append, filter-append, Heap, Chunk, object_name, objects_of_chunks, small_chunks, large_chunks, HasNames}
 use Rattle.refinement.specs.Stands.{names_of}
 
 pub small_both : (ks js : List Chunk) (h i : Heap) → HasNames ks h → HasNames js i → map names_of (small_chunks (ks ++ js)) ≡ h.chunks ++ i.chunks
 small_both ks js h i H I =
     ap (map names_of) (filter-append (λ (k : Chunk). not k.large) ks js) ∙ (map-append names_of (small_chunks ks) (small_chunks js) ∙ ap₂ (λ a b. a ++ b) H.small I.small)
 
-pub large_both : (ks js : List Chunk) (h i : Heap) → HasNames ks h → HasNames js i → map object_name (objects_in (large_chunks (ks ++ js))) ≡ h.large ++ i.large
+pub large_both : (ks js : List Chunk) (h i : Heap) → HasNames ks h → HasNames js i → map object_name (objects_of_chunks (large_chunks (ks ++ js))) ≡ h.large ++ i.large
 large_both ks js h i H I =
-    ap (λ zs. map object_name (objects_in zs)) (filter-append (λ (k : Chunk). k.large) ks js)
+    ap (λ zs. map object_name (objects_of_chunks zs)) (filter-append (λ (k : Chunk). k.large) ks js)
     ∙ (ap (map object_name) (flat_map-append (λ (k : Chunk). k.objects) (large_chunks ks) (large_chunks js))
-    ∙ (map-append object_name (objects_in (large_chunks ks)) (objects_in (large_chunks js)) ∙ ap₂ (λ a b. a ++ b) H.large I.large))
+    ∙ (map-append object_name (objects_of_chunks (large_chunks ks)) (objects_of_chunks (large_chunks js)) ∙ ap₂ (λ a b. a ++ b) H.large I.large))

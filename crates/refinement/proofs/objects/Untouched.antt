@@ -1,5 +1,5 @@
 -- Belongings without a remembered field are unchanged when the remembered fields are rewritten.
-use Rattle.refinement.proofs.Common.{◌≡◌, ℕ, suc, ◌==◌, ◌&&◌, false, Option, List, [], ◌∷◌, map, inl, inr, refl, ap, ap₂, option_map, list_any, cond-false, false_from_ne_true, and_parts, eqb-true, in_from_any, in_append_left, in_append_right, Addr, Located, RefField, same_address, Chunk, Belongings, In, objects_in, is_source, rewritten_refs, rewritten, mapped_chunk, rewritten_belongings, put_at}
+use Rattle.refinement.proofs.Common.{◌≡◌, ℕ, suc, ◌==◌, ◌&&◌, false, Option, List, [], ◌∷◌, map, inl, inr, refl, ap, ap₂, option_map, list_any, cond-false, false_from_ne_true, and_parts, eqb-true, in_from_any, in_append_left, in_append_right, Addr, Located, RefField, same_address, Chunk, Belongings, In, objects_of_chunks, is_source, rewritten_refs, rewritten, mapped_chunk, rewritten_belongings, put_at}
 
 module _ (f : Addr → Addr) (ss : List RefField) where
   refs_untouched : (a : Addr) (i : ℕ) (rs : List (Option Addr)) → ((s : RefField) → In ss s → s.object.chunk ≡ a.chunk → ⊥) → rewritten_refs f ss a i rs ≡ rs
@@ -15,13 +15,13 @@ module _ (f : Addr → Addr) (ss : List RefField) where
   objects_untouched (o ∷ os) none =
       ap₂ (λ x xs. x ∷ xs) (ap (λ rs. record o { refs = rs }) (refs_untouched o.at 0 o.refs (λ s. none o s (inl refl)))) (objects_untouched os (λ q s i. none q s (inr i)))
 
-  chunks_untouched : (ks : List Chunk) → ((o : Located) (s : RefField) → In (objects_in ks) o → In ss s → s.object.chunk ≡ o.at.chunk → ⊥) → map (mapped_chunk (rewritten f ss)) ks ≡ ks
+  chunks_untouched : (ks : List Chunk) → ((o : Located) (s : RefField) → In (objects_of_chunks ks) o → In ss s → s.object.chunk ≡ o.at.chunk → ⊥) → map (mapped_chunk (rewritten f ss)) ks ≡ ks
   chunks_untouched [] none = refl
   chunks_untouched (k ∷ ks) none =
-      ap₂ (λ x xs. x ∷ xs) (ap (λ os. record k { objects = os }) (objects_untouched k.objects (λ o s i. none o s (in_append_left k.objects (objects_in ks) o i))))
-      (chunks_untouched ks (λ o s i. none o s (in_append_right k.objects (objects_in ks) o i)))
+      ap₂ (λ x xs. x ∷ xs) (ap (λ os. record k { objects = os }) (objects_untouched k.objects (λ o s i. none o s (in_append_left k.objects (objects_of_chunks ks) o i))))
+      (chunks_untouched ks (λ o s i. none o s (in_append_right k.objects (objects_of_chunks ks) o i)))
 
-  pub belongings_untouched : (h : Belongings) → ((o : Located) (s : RefField) → In (objects_in h.chunks) o → In ss s → s.object.chunk ≡ o.at.chunk → ⊥) → rewritten_belongings f ss h ≡ h
+  pub belongings_untouched : (h : Belongings) → ((o : Located) (s : RefField) → In (objects_of_chunks h.chunks) o → In ss s → s.object.chunk ≡ o.at.chunk → ⊥) → rewritten_belongings f ss h ≡ h
   belongings_untouched h none = ap (λ ks. record h { chunks = ks }) (chunks_untouched h.chunks none)
 
 -- a write into a chunk without objects changes nothing
@@ -32,8 +32,8 @@ module _ (a : Addr) (f : Located → Located) where
       let out : same_address o.at a ≡ false = false_from_ne_true (same_address o.at a) (λ e. none o (inl refl) (eqb-true o.at.chunk a.chunk (and_parts (o.at.chunk == a.chunk) (o.at.offset == a.offset) e).0)) in
       ap₂ (λ x xs. x ∷ xs) (cond-false (same_address o.at a) (f o) o out) (objects_unwritten os (λ q i. none q (inr i)))
 
-  pub chunks_unwritten : (ks : List Chunk) → ((o : Located) → In (objects_in ks) o → o.at.chunk ≡ a.chunk → ⊥) → map (mapped_chunk (put_at a f)) ks ≡ ks
+  pub chunks_unwritten : (ks : List Chunk) → ((o : Located) → In (objects_of_chunks ks) o → o.at.chunk ≡ a.chunk → ⊥) → map (mapped_chunk (put_at a f)) ks ≡ ks
   chunks_unwritten [] none = refl
   chunks_unwritten (k ∷ ks) none =
-      ap₂ (λ x xs. x ∷ xs) (ap (λ os. record k { objects = os }) (objects_unwritten k.objects (λ o i. none o (in_append_left k.objects (objects_in ks) o i))))
-      (chunks_unwritten ks (λ o i. none o (in_append_right k.objects (objects_in ks) o i)))
+      ap₂ (λ x xs. x ∷ xs) (ap (λ os. record k { objects = os }) (objects_unwritten k.objects (λ o i. none o (in_append_left k.objects (objects_of_chunks ks) o i))))
+      (chunks_unwritten ks (λ o i. none o (in_append_right k.objects (objects_of_chunks ks) o i)))

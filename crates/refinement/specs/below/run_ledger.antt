@@ -1,10 +1,10 @@
 -- Re-exports from `run_ledger` for the crates above.
 pub use Rattle.run_ledger.specs.Cuts.{CanBeGiven}
-pub use Rattle.run_ledger.specs.Entries.{after, after_kind, chunk_units, counted, ends_as, is_fuel, is_out, is_pool_enough, is_ready, kind_refusal, long_at, on_due, on_running, on_waiting, out_from, refusal, refused_holding, refused_if, refused_unless, with_chunk}
-pub use Rattle.run_ledger.specs.Heaps.{begun_in, by_birth, chunk_words, collected, emptied, end_numbers, forked_heap, fresh, heap_at, heap_of, held, held_in, in_snapshot, in_use, insert_name, is_last_empty, is_small, lacks_room, laid_onto, large_survivors, lay, left_in, let_go, marked_in, merged, name_le, or_fresh, placed, put_last, room_behind, small_in, small_survivors, sweep_number, swept_heap, take_of, units, units_in, units_sum, with_heap, with_heap_at, within, without_empty, words_at, words_in, words_of, words_sum}
+pub use Rattle.run_ledger.specs.Entries.{after, after_kind, chunk_units, unless_wrong_number, ends_as, is_fuel, is_out, is_pool_enough, is_ready, kind_refusal, long_at, on_due, on_running, on_waiting, out_from, refusal, refused_holding, refused_if, refused_unless, with_chunk}
+pub use Rattle.run_ledger.specs.Heaps.{begun_in, by_birth, chunk_words, collected, emptied, end_numbers, forked_heap, fresh, heap_at, heap_of, held, held_in, in_snapshot, in_use, insert_name, is_last_empty, is_small_size, lacks_room, laid_onto, large_survivors, lay, left_in, let_go, marked_in, merged, name_le, or_fresh, with_allocation, put_last, room_behind, small_in, small_survivors, sweep_number, swept_heap, take_of, units, units_in, units_sum, with_heap, with_heap_at, within, without_empty, words_at, words_in, object_words_of, words_sum}
 pub use Rattle.run_ledger.specs.Journals.{IsPrefix, after_all, end_of, first_refused, first_refused_from, is_legal, is_legal_from, ledger_of, opening, refused_or, tasks_of}
 pub use Rattle.run_ledger.specs.Laws.{AreByBirth, HoldsOnce, LeavesTask, TasksAreOut}
-pub use Rattle.run_ledger.specs.Pace.{fork_of, gives, idle, is_paced, is_to_mark, is_under_way, is_unmarked, marked_at_once, more_of, noted, or_idle, owed, owed_after, owed_to_marks, pace_after, pace_after_all, pace_at_end, pace_of, pace_opening, previous_by, waits_on, waits_since}
+pub use Rattle.run_ledger.specs.Pace.{fork_of, gives, idle, is_paced, is_to_mark, is_under_way, is_unmarked, marked_at_once, more_of, pace_noted, or_idle, owed, owed_after, owed_to_marks, pace_after, pace_after_all, pace_at_end, pace_of, pace_opening, previous_by, waits_on, waits_since}
 pub use Rattle.run_ledger.specs.Reachable.{holds_name, is_name}
 pub use Rattle.run_ledger.specs.Report.{held_not_running, held_not_running_from, lost, report_of}
 pub use Rattle.run_ledger.specs.Sound.{InHeaps, Keeps, Sound, SoundAt, SoundLedger, collecting, names_of, snapshot_at}

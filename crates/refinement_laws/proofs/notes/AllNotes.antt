@@ -1,5 +1,5 @@
 -- The invariant of what is noted of all heaps holds after each entry.
-use Rattle.refinement_laws.proofs.Common.{◌≡◌, ◌⊎◌, ℕ, ℤ, Bool, true, false, ◌++◌, Option, Some, None, List, length, slice_get, inl, inr, refl, ap, ap₂, sym, subst, ◌∙◌, ◌&&◌, not, both_ways, cases_eq, false≢true, Addr, Located, Name, Object, MachineState, TaskStatus, Running, Waiting, Ended, Joined, Task, is_waiting, is_joined, is_over, waits, runs_idle, Heap, Ledger, heap_of, within, SoundLedger, Belongings, In, Memory, object_name, objects, objects_in, put_at, rewritten, sources, in_append_right, CallFrame, ref_of, Rests, StepsAlone, ChangesHeap, TasksCanJoin, ForksTask, JoinsTasks, StoresOne, StoresNumber, Stands, AreRoots, IsRoot, NotedAt, SameNotes, AllNoted, NotesStay, Noting, ForksNotes, JoinsNotes, OthersNotes, StoresNotes, KeepsJust, Moves, ForksBelongings, JoinsBelongings, StoresAt, StoresNumberAt, WritesAt, with_number, to_mapped, in_chunk, in_objects, noted_by, rewritten_at, root_apart, root_by, root_kept, root_same, notes_stay, notes_with, same_whole, moves_whole, numbers_whole, no_notes, fork_notes, store_notes, number_name, number_at, number_refs}
+use Rattle.refinement_laws.proofs.Common.{◌≡◌, ◌⊎◌, ℕ, ℤ, Bool, true, false, ◌++◌, Option, Some, None, List, length, slice_get, inl, inr, refl, ap, ap₂, sym, subst, ◌∙◌, ◌&&◌, not, both_ways, cases_eq, false≢true, Addr, Located, Name, Object, MachineState, TaskStatus, Running, Waiting, Ended, Joined, Task, is_waiting, is_joined, is_over, waits, runs_idle, Heap, Ledger, heap_of, within, SoundLedger, Belongings, In, Memory, object_name, objects, objects_of_chunks, put_at, rewritten, sources, in_append_right, CallFrame, ref_of, Rests, StepsAlone, ChangesHeap, TasksCanJoin, ForksTask, JoinsTasks, StoresOne, StoresNumber, Stands, AreRoots, IsRoot, NotedAt, SameNotes, AllNoted, NotesStay, Noting, ForksNotes, JoinsNotes, OthersNotes, StoresNotes, KeepsJust, Moves, ForksBelongings, JoinsBelongings, StoresAt, StoresNumberAt, WritesAt, with_int_field, to_mapped, in_chunk, in_objects, noted_by, rewritten_at, root_apart, root_by, root_kept, root_same, notes_stay, notes_with, same_whole, moves_whole, numbers_whole, no_notes, fork_notes, store_notes, number_name, number_at, number_refs}
 
 -- the accounts of u's heap are unchanged
 same_notes : (v v' : Memory) (l l' : Ledger) (u : ℕ) → NotesStay v v' u → ((k : ℕ) → v'.owner k ≡ Some u → v.owner k ≡ Some u) → is_waiting (slice_get l'.machine.tasks u) ≡ is_waiting (slice_get l.machine.tasks u) → (heap_of l' u).swept ≡ (heap_of l u).swept → (heap_of l' u).snapshot ≡ (heap_of l u).snapshot
@@ -28,7 +28,7 @@ forks_root v v' l l' t a b g h x V runs F C u oa ob c r =
     let nt = root_apart v l V t (runs_idle x F.task runs) u c r in
     let na = root_apart v l V a (ap is_waiting F.unmade_left) u c r in
     let nb = root_apart v l V b (ap is_waiting F.unmade_right) u c r in
-    root_same v v' l l' u (noted_by v v' u (C.sources u oa ob)) (λ k o. C.owner k ∙ o) c r (ap (λ (z : Heap). z.worker) (F.heaps r.task nt na nb) ∙ r.rests) (ap (λ (z : Belongings). objects_in z.chunks) (C.others r.task nt na nb))
+    root_same v v' l l' u (noted_by v v' u (C.sources u oa ob)) (λ k o. C.owner k ∙ o) c r (ap (λ (z : Heap). z.worker) (F.heaps r.task nt na nb) ∙ r.rests) (ap (λ (z : Belongings). objects_of_chunks z.chunks) (C.others r.task nt na nb))
 
 pub forks_note : (v v' : Memory) (l l' : Ledger) (t a b g h : ℕ) (x : Task) (roots : List Addr) → SoundLedger l → Stands v l → x.status ≡ Running → Rests l t → ((u : ℕ) → is_waiting (slice_get l.machine.tasks u) ≡ true → Rests l u)
     → (F : ForksTask l l' t a b g h x) → ForksBelongings v v' t a b g h → AreRoots v l t roots → F.names ≡ within l t → ForksNotes v v' t a b → AllNoted v l → AllNoted v' l'
@@ -42,7 +42,7 @@ forks_note v v' l l' t a b g h x roots S V runs rests at_rest F C R names N H u 
           let heap = F.heaps u nt na nb in
           notes_stay v v' l l' u (same_notes v v' l l' u (N.others u nt na nb) (λ k g. sym (C.owner k) ∙ g) (ap is_waiting (F.tasks u nt na nb)) (ap (λ (z : Heap). z.swept) heap) (ap (λ (z : Heap). z.snapshot) heap)
           (ap (λ (z : Belongings). z.frames) (C.others u nt na nb)) (forks_root v v' l l' t a b g h x V runs F C u na nb)) (N.others u nt na nb).marked (ap (λ (z : Heap). z.marked) heap)
-          (same_whole v v' u (ap (λ (z : Belongings). objects_in z.chunks) (C.others u nt na nb)) (ap (λ (z : Belongings). length z.chunks) (C.others u nt na nb))) (H u)
+          (same_whole v v' u (ap (λ (z : Belongings). objects_of_chunks z.chunks) (C.others u nt na nb)) (ap (λ (z : Belongings). length z.chunks) (C.others u nt na nb))) (H u)
     ]
   ]
 ]
@@ -62,7 +62,7 @@ joins_root v v' l l' p c d x rl rr al ar V J K C u np nc nd b r =
           r.object (subst (λ z. In (objects v' z) r.object) (sym e) (in_objects (v'.belongings p).chunks k.0 r.object k' k.2)) refl r.holds
       | inr rp ↦
           root_same v v' l l' u (noted_by v v' u (C.sources u np nc nd)) (λ k o. C.owners k u nc nd o) b r (ap (λ (z : Heap). z.worker) (J.heaps r.task rp rc rd) ∙ r.rests)
-          (ap (λ (z : Belongings). objects_in z.chunks) (C.others r.task rp rc rd))
+          (ap (λ (z : Belongings). objects_of_chunks z.chunks) (C.others r.task rp rc rd))
     ]
 
 pub joins_note : (v v' : Memory) (l l' : Ledger) (p c d : ℕ) (x : Task) (rl rr : ℤ × Option Name) (al ar : ℤ × Option Addr) → Stands v l → JoinsTasks l l' p c d x rl rr → TasksCanJoin l p c d x → JoinsBelongings v v' p c d al ar → JoinsNotes v v' p c d → AllNoted v l → AllNoted v' l'
@@ -76,7 +76,7 @@ joins_note v v' l l' p c d x rl rr al ar V J K C N H u = elim (cases_eq u p) [
           let heap = J.heaps u np nc nd in
           notes_stay v v' l l' u (same_notes v v' l l' u (N.others u np nc nd) (λ k g. elim (C.owned k u g) [ inl old ↦ old | inr new ↦ absurd (np new.0) ]) (ap is_waiting (J.tasks u np nc nd)) (ap (λ (z : Heap). z.swept) heap) (ap (λ (z : Heap). z.snapshot) heap)
           (ap (λ (z : Belongings). z.frames) (C.others u np nc nd)) (joins_root v v' l l' p c d x rl rr al ar V J K C u np nc nd)) (N.others u np nc nd).marked (ap (λ (z : Heap). z.marked) heap)
-          (same_whole v v' u (ap (λ (z : Belongings). objects_in z.chunks) (C.others u np nc nd)) (ap (λ (z : Belongings). length z.chunks) (C.others u np nc nd))) (H u)
+          (same_whole v v' u (ap (λ (z : Belongings). objects_of_chunks z.chunks) (C.others u np nc nd)) (ap (λ (z : Belongings). length z.chunks) (C.others u np nc nd))) (H u)
     ]
   ]
 ]
@@ -87,7 +87,7 @@ sweeps_root v v' l l' t V L C u nt b r = elim (cases_eq r.task t) [
       let i = C.stays r.object (subst (λ z. In (objects v z) r.object) e r.there) (subst (λ z. In (heap_of l z).snapshot (object_name r.object)) e (root_kept v l V u b r)) in
       root_by v v' l l' u (noted_by v v' u (C.sources u)) (λ k o. C.owners k u nt o) b r (subst (Rests l') (sym e) (L.worker ∙ subst (Rests l) e r.rests)) r.object (subst (λ z. In (objects v' z) r.object) (sym e) i) refl r.holds
   | inr ne ↦
-      root_same v v' l l' u (noted_by v v' u (C.sources u)) (λ k o. C.owners k u nt o) b r (ap (λ (z : Heap). z.worker) (L.others r.task ne) ∙ r.rests) (ap (λ (z : Belongings). objects_in z.chunks) (C.others r.task ne))
+      root_same v v' l l' u (noted_by v v' u (C.sources u)) (λ k o. C.owners k u nt o) b r (ap (λ (z : Heap). z.worker) (L.others r.task ne) ∙ r.rests) (ap (λ (z : Belongings). objects_of_chunks z.chunks) (C.others r.task ne))
 ]
 
 pub sweeps_note : (v v' : Memory) (l l' : Ledger) (t : ℕ) → Stands v l → ChangesHeap l l' t → (heap_of l' t).swept ≡ true → KeepsJust v v' l l' t (heap_of l t).snapshot → OthersNotes v v' t → AllNoted v l → AllNoted v' l'
@@ -97,7 +97,7 @@ sweeps_note v v' l l' t V L swept C N H u = elim (cases_eq u t) [
       let heap = L.others u nt in
       notes_stay v v' l l' u (same_notes v v' l l' u (N.others u nt) (λ k g. C.owned k u g) (ap (λ (m : MachineState). is_waiting (slice_get m.tasks u)) L.machine) (ap (λ (z : Heap). z.swept) heap) (ap (λ (z : Heap). z.snapshot) heap)
       (ap (λ (z : Belongings). z.frames) (C.others u nt)) (sweeps_root v v' l l' t V L C u nt)) (N.others u nt).marked (ap (λ (z : Heap). z.marked) heap)
-      (same_whole v v' u (ap (λ (z : Belongings). objects_in z.chunks) (C.others u nt)) (ap (λ (z : Belongings). length z.chunks) (C.others u nt))) (H u)
+      (same_whole v v' u (ap (λ (z : Belongings). objects_of_chunks z.chunks) (C.others u nt)) (ap (λ (z : Belongings). length z.chunks) (C.others u nt))) (H u)
 ]
   where
     sweeps_note_by_cases : (a b : Bool) → b ≡ true → (a && not b) ≡ false
@@ -110,7 +110,7 @@ ends_root : (v v' : Memory) (l l' : Ledger) (t : ℕ) (names : List Name) (f : A
 ends_root v v' l l' t names f V idle L C u nt b r =
     let ne = root_apart v l V t idle u b r in
     root_by v v' l l' u (noted_by v v' u (C.sources u)) (λ k o. C.owners k u nt o) b r (ap (λ (z : Heap). z.worker) (L.others r.task ne) ∙ r.rests) (rewritten f (sources v t) r.object)
-    (subst (λ (h : Belongings). In (objects_in h.chunks) (rewritten f (sources v t) r.object)) (sym (C.others r.task ne)) (to_mapped (rewritten f (sources v t)) (λ o. refl) (λ o. refl) (v.belongings r.task).chunks r.object r.there)) refl
+    (subst (λ (h : Belongings). In (objects_of_chunks h.chunks) (rewritten f (sources v t) r.object)) (sym (C.others r.task ne)) (to_mapped (rewritten f (sources v t)) (λ o. refl) (λ o. refl) (v.belongings r.task).chunks r.object r.there)) refl
     (rewritten_at f (sources v t) r.object.at 0 r.object.refs r.source.field b (C.same b u nt r.into) r.holds)
 
 pub ends_note : (v v' : Memory) (l l' : Ledger) (t : ℕ) (names : List Name) (f : Addr → Addr) → Stands v l → is_waiting (slice_get l.machine.tasks t) ≡ false → ChangesHeap l l' t → Moves v v' l l' t names f → OthersNotes v v' t → AllNoted v l → AllNoted v' l'
@@ -132,8 +132,8 @@ steps_note v v' l l' t idle A C owner same apart N H u = elim (cases_eq u t) [
       let heap = A.heaps u nt in
       notes_stay v v' l l' u (same_notes v v' l l' u (N.others u nt) (λ k g. sym (owner k) ∙ g) (A.tree.waits u) (ap (λ (z : Heap). z.swept) heap) (ap (λ (z : Heap). z.snapshot) heap)
       (ap (λ (z : Belongings). z.frames) (C u nt))
-      (λ b r. let ne = apart u b r in root_same v v' l l' u (noted_by v v' u (same u)) (λ k o. owner k ∙ o) b r (ap (λ (z : Heap). z.worker) (A.heaps r.task ne) ∙ r.rests) (ap (λ (z : Belongings). objects_in z.chunks) (C r.task ne)))) (N.others u nt).marked (ap (λ (z : Heap). z.marked) heap)
-      (same_whole v v' u (ap (λ (z : Belongings). objects_in z.chunks) (C u nt)) (ap (λ (z : Belongings). length z.chunks) (C u nt))) (H u)
+      (λ b r. let ne = apart u b r in root_same v v' l l' u (noted_by v v' u (same u)) (λ k o. owner k ∙ o) b r (ap (λ (z : Heap). z.worker) (A.heaps r.task ne) ∙ r.rests) (ap (λ (z : Belongings). objects_of_chunks z.chunks) (C r.task ne)))) (N.others u nt).marked (ap (λ (z : Heap). z.marked) heap)
+      (same_whole v v' u (ap (λ (z : Belongings). objects_of_chunks z.chunks) (C u nt)) (ap (λ (z : Belongings). length z.chunks) (C u nt))) (H u)
 ]
 
 -- an entry that moves nothing
@@ -158,13 +158,13 @@ quiet_notes v v' l l' m rest frames owner noted swept snapshot same chunks taken
     quiet_notes_by_cases true e (inl n) = notes_stay v v' l l' u (same_notes v v' l l' u n.0 (none_new e) waits (swept u) (snapshot u) (frames u) rooted) n.0.marked n.1 (same_whole v v' u (same u) (chunks u e)) (H u)
     quiet_notes_by_cases true e (inr (inr n)) = notes_with v v' l l' u (record { keeps = n.keeps; kept = n.kept; waits = waits; swept = swept u; snapshot = snapshot u; none_new = none_new e; frames = frames u; rooted = rooted }) (same_whole v v' u (same u) (chunks u e)) (λ g. n.marks) (H u)
 
-numbers_root : (v v' : Memory) (l l' : Ledger) (w : ℕ) (a : Addr) (i : ℕ) (k : ℤ) → WritesAt v v' w a (with_number i k) → ((z : ℕ) → (heap_of l' z).worker ≡ (heap_of l z).worker) → (u : ℕ) (b : Addr) → IsRoot v l u b → IsRoot v' l' u b
+numbers_root : (v v' : Memory) (l l' : Ledger) (w : ℕ) (a : Addr) (i : ℕ) (k : ℤ) → WritesAt v v' w a (with_int_field i k) → ((z : ℕ) → (heap_of l' z).worker ≡ (heap_of l z).worker) → (u : ℕ) (b : Addr) → IsRoot v l u b → IsRoot v' l' u b
 numbers_root v v' l l' w a i k C rest u b r =
     root_by v v' l l' u (C.noted u) (λ c o. C.owner c ∙ o) b r (rest r.task ∙ r.rests) (one r.object)
-    (subst (λ ks. In (objects_in ks) (one r.object)) (sym (C.chunks r.task)) (to_mapped one (number_name a i k) (number_at a i k) (v.belongings r.task).chunks r.object r.there)) (number_at a i k r.object) (ap (λ rs. slice_get rs r.source.field) (number_refs a i k r.object) ∙ r.holds)
+    (subst (λ ks. In (objects_of_chunks ks) (one r.object)) (sym (C.chunks r.task)) (to_mapped one (number_name a i k) (number_at a i k) (v.belongings r.task).chunks r.object r.there)) (number_at a i k r.object) (ap (λ rs. slice_get rs r.source.field) (number_refs a i k r.object) ∙ r.holds)
   where
     one : Located → Located
-    one q = put_at a (with_number i k) q
+    one q = put_at a (with_int_field i k) q
 
 pub numbers_note : (v v' : Memory) (l l' : Ledger) (t : ℕ) (x : Task) (n : Name) (y : Object) (o w i : ℕ) (f : CallFrame) (fs : List CallFrame) (a : Addr) → StoresNumber l l' t x n y o w i → StoresNumberAt v v' t f fs a w i → OthersNotes v v' t → AllNoted v l → AllNoted v' l'
 numbers_note v v' l l' t x n y o w i f fs a L C N H u = elim (cases_eq u t) [

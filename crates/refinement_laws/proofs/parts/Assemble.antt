@@ -1,6 +1,6 @@
 -- Two parts that fit a memory fit it together: with the belongings of both in it, it stands for the accounts in which
 -- both tasks rest.
-use Rattle.refinement_laws.proofs.Common.{◌≡◌, ℕ, true, false, Some, slice_get, ◌⊎◌, inl, inr, ap, sym, subst, ◌∙◌, cases_eq, both_ways, same_Some, Addr, Located, Name, Object, Task, object_at, is_waiting, is_joined, is_on_path, Heap, Ledger, SoundLedger, RefField, Belongings, Memory, In, object_name, objects, objects_in, sources, Lies, shown_at, IsModelObject, TaskIsRead, own, Rests, StepsAlone, GivesLevel, Place, BelongingsStand, IsSource, Stands, IsShown, SameBut, object_kept, task_kept, object_both, task_both, belongings_own, belongings_kept, refers, gives_kept, leaf_alone, source_alone}
+use Rattle.refinement_laws.proofs.Common.{◌≡◌, ℕ, true, false, Some, slice_get, ◌⊎◌, inl, inr, ap, sym, subst, ◌∙◌, cases_eq, both_ways, same_Some, Addr, Located, Name, Object, Task, object_at, is_waiting, is_joined, is_on_path, Heap, Ledger, SoundLedger, RefField, Belongings, Memory, In, object_name, objects, objects_of_chunks, sources, Lies, shown_at, IsModelObject, TaskIsRead, own, Rests, StepsAlone, GivesLevel, Place, BelongingsStand, IsSource, Stands, IsShown, SameBut, object_kept, task_kept, object_both, task_both, belongings_own, belongings_kept, refers, gives_kept, leaf_alone, source_alone}
 
 -- v1 has t's belongings, v2 has u's, and v has both; l1 and l2 are the accounts for them. What the tasks own is
 -- disjoint: from l1 to l only what u owns changes, from l2 to l only what t owns.
@@ -59,10 +59,10 @@ module _ (v v1 v2 : Memory) (l l1 l2 : Ledger) (t u : ℕ) (apart : t ≡ u → 
   not_t a (inr h) e = apart (leaf_alone l2 S2 t u (sym (A2.tree.waits t) ∙ idle_t) (sym (A2.tree.joins u) ∙ live_u) (ap (λ z. is_on_path l2.machine.tasks z u) (sym e) ∙ h))
 
   from1 : (z : ℕ) (o : Located) → (z ≡ u → ⊥) → In (objects v z) o → In (objects v1 z) o
-  from1 z o ne i = subst (λ (h : Belongings). In (objects_in h.chunks) o) (C1.belongings z ne) i
+  from1 z o ne i = subst (λ (h : Belongings). In (objects_of_chunks h.chunks) o) (C1.belongings z ne) i
 
   from2 : (z : ℕ) (o : Located) → (z ≡ t → ⊥) → In (objects v z) o → In (objects v2 z) o
-  from2 z o ne i = subst (λ (h : Belongings). In (objects_in h.chunks) o) (C2.belongings z ne) i
+  from2 z o ne i = subst (λ (h : Belongings). In (objects_of_chunks h.chunks) o) (C2.belongings z ne) i
 
   belongings : (z : ℕ) → Rests l z → BelongingsStand v l z
   belongings z r = elim (cases_eq z u) [

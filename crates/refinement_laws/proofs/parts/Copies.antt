@@ -1,5 +1,5 @@
 -- A copied part fits only for the end of its collection, and fits after it.
-use Rattle.refinement_laws.proofs.Common.{◌≡◌, ℕ, Option, Some, None, map, length, slice_get, refl, ap, sym, subst, ◌∙◌, arith, is_some, same_Some, Addr, ProgramText, SettingsValue, Running, Task, MachineState, row_of, is_joined, Heap, Ledger, heap_of, or_fresh, let_go, collected, with_heap, SoundLedger, heap_machine, Belongings, Memory, In, object_name, objects_in, sources, copied_object, rewritten_belongings, led_frame, AreLaidOut, small_chunks, large_chunks, BelongingsStand, Stands, Part, FitsAt, with_belongings, ahead, rested, ChangesHeap, Moves, BegunBy, PartFits, before, CopyFits, EndsAt, with_at, heap_then, rested_changes, rested_worker, rested_view, rested_sound, end_changes, Begun, at_belongings, off_belongings}
+use Rattle.refinement_laws.proofs.Common.{◌≡◌, ℕ, Option, Some, None, map, length, slice_get, refl, ap, sym, subst, ◌∙◌, arith, is_some, same_Some, Addr, ProgramText, SettingsValue, Running, Task, MachineState, row_of, is_joined, Heap, Ledger, heap_of, or_fresh, let_go, collected, with_heap, SoundLedger, heap_machine, Belongings, Memory, In, object_name, objects_of_chunks, sources, copied_object, rewritten_belongings, led_frame, AreLaidOut, small_chunks, large_chunks, BelongingsStand, Stands, Part, FitsAt, with_belongings, ahead, rested, ChangesHeap, Moves, BegunBy, PartFits, part_before, CopyFits, EndsAt, with_at, heap_then, rested_changes, rested_worker, rested_view, rested_sound, end_changes, Begun, at_belongings, off_belongings}
 use Rattle.std.specs.Option.{option_map}
 use Rattle.refinement.specs.Stands.{names_of}
 use Rattle.refinement_laws.proofs.notes.Begun.{begun_stays}
@@ -67,7 +67,7 @@ module _ (p : ProgramText) (s : SettingsValue) (t : ℕ) (h h' : Belongings) (f 
   belongings = record {
     names = record {
       small = ap (λ (z : Belongings). map names_of (small_chunks z.chunks)) new_belongings ∙ (C.copy.names.small ∙ (ap (λ (z : Heap). z.chunks) (sym heap') ∙ sym (rested_view (λ z. z.chunks) (λ z. refl) l' t)));
-      large = ap (λ (z : Belongings). map object_name (objects_in (large_chunks z.chunks))) new_belongings ∙ (C.copy.names.large ∙ (ap (λ (z : Heap). z.large) (sym heap') ∙ sym (rested_view (λ z. z.large) (λ z. refl) l' t)));
+      large = ap (λ (z : Belongings). map object_name (objects_of_chunks (large_chunks z.chunks))) new_belongings ∙ (C.copy.names.large ∙ (ap (λ (z : Heap). z.large) (sym heap') ∙ sym (rested_view (λ z. z.large) (λ z. refl) l' t)));
     };
     room = ap (λ (z : Belongings). z.room) new_belongings ∙ (C.copy.room ∙ (ap (λ (z : Heap). z.room) (sym heap') ∙ sym (rested_view (λ z. z.room) (λ z. refl) l' t)));
     since = ap (λ (z : Belongings). z.since) new_belongings ∙ (C.copy.since ∙ (ap (λ (z : Heap). z.since) (sym heap') ∙ sym (rested_view (λ z. z.since) (λ z. refl) l' t)));
@@ -76,18 +76,18 @@ module _ (p : ProgramText) (s : SettingsValue) (t : ℕ) (h h' : Belongings) (f 
         ∙ (C.copy.count ∙ (sym (ap (λ (z : Belongings). z.count) old_belongings) ∙ (H.count (sym (ap (λ (m : MachineState). is_joined (slice_get m.tasks t)) rested_ends.machine) ∙ live) ∙ sym (ap (λ (m : MachineState). length (row_of (slice_get m.store t))) rested_ends.machine))));
     owned = λ c i. E.mine c (subst (λ (z : Belongings). In z.chunks c) new_belongings i);
     inside = λ c o i j. C.copy.inside c o (subst (λ (z : Belongings). In z.chunks c) new_belongings i) j;
-    once = λ o q i j e. C.copy.once o q (subst (λ (z : Belongings). In (objects_in z.chunks) o) new_belongings i) (subst (λ (z : Belongings). In (objects_in z.chunks) q) new_belongings j) e;
-    named = λ o q i j e. C.copy.named o q (subst (λ (z : Belongings). In (objects_in z.chunks) o) new_belongings i) (subst (λ (z : Belongings). In (objects_in z.chunks) q) new_belongings j) e;
+    once = λ o q i j e. C.copy.once o q (subst (λ (z : Belongings). In (objects_of_chunks z.chunks) o) new_belongings i) (subst (λ (z : Belongings). In (objects_of_chunks z.chunks) q) new_belongings j) e;
+    named = λ o q i j e. C.copy.named o q (subst (λ (z : Belongings). In (objects_of_chunks z.chunks) o) new_belongings i) (subst (λ (z : Belongings). In (objects_of_chunks z.chunks) q) new_belongings j) e;
     laid = subst (λ (z : Belongings). AreLaidOut z.chunks (heap_of lt' t).reserved) (sym new_belongings) (subst (AreLaidOut h'.chunks) (sym (rested_view (λ z. z.reserved) (λ z. refl) l' t ∙ ap (λ (z : Heap). z.reserved) heap')) C.copy.laid);
   }
 
   pub moves : Moves V V' lt lt' t (heap_of lt t).survivors f
   moves = record {
     belongings = belongings;
-    copied = λ o i j. subst (λ (z : Belongings). In (objects_in z.chunks) (copied_object f o)) (sym new_belongings) (C.copy.copied o (subst (λ (z : Belongings). In (objects_in z.chunks) o) old_belongings i) (subst (λ ns. In ns (object_name o)) survivors j));
+    copied = λ o i j. subst (λ (z : Belongings). In (objects_of_chunks z.chunks) (copied_object f o)) (sym new_belongings) (C.copy.copied o (subst (λ (z : Belongings). In (objects_of_chunks z.chunks) o) old_belongings i) (subst (λ ns. In ns (object_name o)) survivors j));
     only = λ o i.
-        let r = C.copy.only o (subst (λ (z : Belongings). In (objects_in z.chunks) o) new_belongings i) in
-        (r.0, subst (λ (z : Belongings). In (objects_in z.chunks) r.0) (sym old_belongings) r.1, subst (λ ns. In ns (object_name r.0)) (sym survivors) r.2, r.3);
+        let r = C.copy.only o (subst (λ (z : Belongings). In (objects_of_chunks z.chunks) o) new_belongings i) in
+        (r.0, subst (λ (z : Belongings). In (objects_of_chunks z.chunks) r.0) (sym old_belongings) r.1, subst (λ ns. In ns (object_name r.0)) (sym survivors) r.2, r.3);
     frames = ap (λ (z : Belongings). z.frames) new_belongings ∙ (C.copy.frames ∙ ap (λ (z : Belongings). map (led_frame (option_map f)) z.frames) (sym old_belongings));
     view = ap (λ (z : Belongings). z.view) new_belongings ∙ (C.copy.view ∙ ap (λ (z : Belongings). z.view) (sym old_belongings));
     others = λ u nu. off_belongings v' t h' u nu ∙ (E.others u nu ∙ ap (rewritten_belongings f (sources v t)) (sym (off_belongings v t h u nu)));
@@ -108,7 +108,7 @@ module _ (p : ProgramText) (s : SettingsValue) (t : ℕ) (h h' : Belongings) (f 
       }) rested_ends moves
 
   -- after the end it fits, and has begun no collection
-  pub copy_fits : h'.begun ≡ None → PartFits p s (before s t h') v' l'
+  pub copy_fits : h'.begun ≡ None → PartFits p s (part_before s t h') v' l'
   copy_fits none = record {
     fits = record { worker = C.old.fits.worker; out = ends.worker ∙ C.old.fits.out; few = omega arith; private = tt; stands = stands };
     begun = subst (BegunBy V' lt' t) (sym none) (rested_view (λ z. z.begun) (λ z. refl) l' t ∙ ap (λ (z : Heap). z.begun) heap');

@@ -1,5 +1,5 @@
 -- The frame law: an entry of one worker keeps what another holds fitting.
-use Rattle.refinement_laws.proofs.Common.{◌≡◌, ℕ, true, false, Some, slice_get, refl, ap, sym, subst, ◌∙◌, both_ways, same_Some, Addr, Located, Task, MachineState, is_waiting, is_joined, runs_idle, runs_live, Heap, Ledger, heap_of, SoundLedger, RefField, Belongings, Memory, In, objects, objects_in, sources, own, Rests, StepsAlone, ChangesHeap, Stands, with_belongings, KeepsJust, Moves, EndsBeside, in_chunk, steps_alone, swept, released, at_belongings, off_belongings, with_both, heap_with, keeps_with, moves_with}
+use Rattle.refinement_laws.proofs.Common.{◌≡◌, ℕ, true, false, Some, slice_get, refl, ap, sym, subst, ◌∙◌, both_ways, same_Some, Addr, Located, Task, MachineState, is_waiting, is_joined, runs_idle, runs_live, Heap, Ledger, heap_of, SoundLedger, RefField, Belongings, Memory, In, objects, objects_of_chunks, sources, own, Rests, StepsAlone, ChangesHeap, Stands, with_belongings, KeepsJust, Moves, EndsBeside, in_chunk, steps_alone, swept, released, at_belongings, off_belongings, with_both, heap_with, keeps_with, moves_with}
 use Rattle.refinement.proofs.changes.Collect.{collected}
 use Rattle.refinement_laws.proofs.parts.Assemble.{assembled}
 
@@ -39,11 +39,11 @@ module _ (v v' : Memory) (lt lt' k k' K K' : Ledger) (t u w : ℕ) (g g' h : Bel
       (record { belongings = λ z ne. with_both v t u g h E.apart z ∙ off_belongings (with_belongings v u h) t g z ne; owner = λ i. refl; sources = λ z. refl })
       idle_t E.idle live_t E.live
 
-  none : (o : Located) (s : RefField) → In (objects_in h.chunks) o → In (sources v t) s → s.object.chunk ≡ o.at.chunk → ⊥
+  none : (o : Located) (s : RefField) → In (objects_of_chunks h.chunks) o → In (sources v t) s → s.object.chunk ≡ o.at.chunk → ⊥
   none o s i j e =
       let q = before.sources t s j in
       let H = before.belongings u E.rests in
-      let there : In (objects both u) o = subst (λ (y : Belongings). In (objects_in y.chunks) o) (sym (at_belongings (with_belongings v t g) u h)) i in
+      let there : In (objects both u) o = subst (λ (y : Belongings). In (objects_of_chunks y.chunks) o) (sym (at_belongings (with_belongings v t g) u h)) i in
       let c = in_chunk (both.belongings u).chunks o there in
       let mine : v.owner o.at.chunk ≡ Some u = ap v.owner (H.inside c.0 o c.1 c.2) ∙ H.owned c.0 c.1 in
       let same : own K q.name ≡ u = same_Some (own K q.name) u (sym q.place.chunk ∙ (ap v.owner e ∙ mine)) in

@@ -1,6 +1,6 @@
 -- A step after which its worker goes on with the task keeps the parts of others fitting: a store of a reference or of a
 -- number.
-use Rattle.refinement_laws.proofs.Common.{◌≡◌, ℕ, ℤ, false, Option, Some, List, slice_get, inl, inr, refl, ap, sym, subst, ◌∙◌, cases_eq, same_Some, Addr, Located, ProgramText, SettingsValue, Name, Object, Running, Task, MachineState, is_waiting, is_joined, is_on_path, task_names, Heap, Ledger, heap_of, or_fresh, let_go, task_steps, heap_machine, CallFrame, ref_of, Belongings, Memory, In, objects, objects_in, own, Rests, ArePrivate, rested, StepsAlone, AlikeFor, Knows, StoresOne, StoresNumber, Stands, Part, FitsAt, ahead, with_belongings, StoresAt, StoresNumberAt, IsSteady, RunsWithPart, Beside, SameOf, with_off, rested_worker, rested_knows, leaf_alone, stores_too, stores_with, numbers_too, numbers_with, in_chunk, released, at_belongings, off_belongings, with_both, steady_same}
+use Rattle.refinement_laws.proofs.Common.{◌≡◌, ℕ, ℤ, false, Option, Some, List, slice_get, inl, inr, refl, ap, sym, subst, ◌∙◌, cases_eq, same_Some, Addr, Located, ProgramText, SettingsValue, Name, Object, Running, Task, MachineState, is_waiting, is_joined, is_on_path, task_names, Heap, Ledger, heap_of, or_fresh, let_go, task_steps, heap_machine, CallFrame, ref_of, Belongings, Memory, In, objects, objects_of_chunks, own, Rests, ArePrivate, rested, StepsAlone, AlikeFor, Knows, StoresOne, StoresNumber, Stands, Part, FitsAt, ahead, with_belongings, StoresAt, StoresNumberAt, IsSteady, RunsWithPart, Beside, SameOf, with_off, rested_worker, rested_knows, leaf_alone, stores_too, stores_with, numbers_too, numbers_with, in_chunk, released, at_belongings, off_belongings, with_both, steady_same}
 use Rattle.refinement_laws.proofs.parts.Beside.{alike_writes}
 use Rattle.refinement_laws.proofs.parts.Pair.{beside}
 use Rattle.refinement_laws.proofs.parts.Parts.{ahead_alone, ahead_same}
@@ -88,11 +88,11 @@ module _ (p : ProgramText) (s : SettingsValue) (q r : Part) (v : Memory) (l l' :
         off (leaf_alone lq BB.sound_t r.task q.task (sym (BB.steps_t.tree.waits r.task) ∙ BB.idle_u) live
         (ap (λ k. is_on_path lq.machine.tasks k q.task) (sym e) ∙ (BB.sound_t.apart.of_task q.task z n is holds).1))
 
-    none_there : (a : Addr) → v.owner a.chunk ≡ Some (own lq n) → (o : Located) → In (objects_in r.belongings.chunks) o → o.at.chunk ≡ a.chunk → ⊥
+    none_there : (a : Addr) → v.owner a.chunk ≡ Some (own lq n) → (o : Located) → In (objects_of_chunks r.belongings.chunks) o → o.at.chunk ≡ a.chunk → ⊥
     none_there a owns o i e =
         let rests_r : Rests both r.task = rested_worker (task_steps p lq r.task r.fresh) r.task in
         let H = before.belongings r.task rests_r in
-        let there : In (objects (with_belongings (with_belongings v q.task q.belongings) r.task r.belongings) r.task) o = subst (λ (h : Belongings). In (objects_in h.chunks) o) (sym (at_belongings (with_belongings v q.task q.belongings) r.task r.belongings)) i in
+        let there : In (objects (with_belongings (with_belongings v q.task q.belongings) r.task r.belongings) r.task) o = subst (λ (h : Belongings). In (objects_of_chunks h.chunks) o) (sym (at_belongings (with_belongings v q.task q.belongings) r.task r.belongings)) i in
         let c = in_chunk ((with_belongings (with_belongings v q.task q.belongings) r.task r.belongings).belongings r.task).chunks o there in
         let mine : v.owner o.at.chunk ≡ Some r.task = ap v.owner (H.inside c.0 o c.1 c.2) ∙ H.owned c.0 c.1 in
         not_own (same_Some (own lq n) r.task (sym owns ∙ (ap v.owner (sym e) ∙ mine)))

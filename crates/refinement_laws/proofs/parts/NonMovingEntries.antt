@@ -1,5 +1,5 @@
 -- Entries that move nothing, and those by which a worker takes a task, keep each part fitting.
-use Rattle.refinement_laws.proofs.Common.{◌≡◌, ℕ, false, Some, None, length, slice_get, inl, inr, refl, ap, sym, subst, ◌∙◌, cases_eq, none_some, ProgramText, SettingsValue, MachineState, row_of, is_joined, is_waiting, Heap, Ledger, heap_of, or_fresh, task_steps, Sound, SoundLedger, Belongings, Memory, objects_in, Rests, aside, ArePrivate, StepsAlone, WorkerTakes, SameTasks, Halts, BelongingsStand, StillFits, Part, FitsAt, ahead, with_belongings, SameBut, SameObjects, IsSteady, SameOf, rested_worker, belongings_kept, released, renewed, at_belongings, off_belongings, steady_same}
+use Rattle.refinement_laws.proofs.Common.{◌≡◌, ℕ, false, Some, None, length, slice_get, inl, inr, refl, ap, sym, subst, ◌∙◌, cases_eq, none_some, ProgramText, SettingsValue, MachineState, row_of, is_joined, is_waiting, Heap, Ledger, heap_of, or_fresh, task_steps, Sound, SoundLedger, Belongings, Memory, objects_of_chunks, Rests, aside, ArePrivate, StepsAlone, WorkerTakes, SameTasks, Halts, BelongingsStand, StillFits, Part, FitsAt, ahead, with_belongings, SameBut, SameObjects, IsSteady, SameOf, rested_worker, belongings_kept, released, renewed, at_belongings, off_belongings, steady_same}
 use Rattle.refinement_laws.proofs.parts.Parts.{ahead_alone, ahead_same}
 
 module _ (p : ProgramText) (s : SettingsValue) (q : Part) (v : Memory) (l l' : Ledger) (S : SoundLedger l) (S' : SoundLedger l') (c : IsSteady q l) (E : SameOf q.task l l') (F : FitsAt p s q v l) where
@@ -91,7 +91,7 @@ module _ (p : ProgramText) (s : SettingsValue) (q : Part) (v : Memory) (l l' : L
         (record { machine = then_.1.machine; worker = λ z. heap_too (λ h. h.worker) z (L.worker z); snapshot = λ z. heap_too (λ h. h.snapshot) z (L.snapshot z) })
         (record {
           belongings = belongings;
-          objects = λ z. seen (λ h. objects_in h.chunks) z (C.objects z);
+          objects = λ z. seen (λ h. objects_of_chunks h.chunks) z (C.objects z);
           chunks = λ z e. seen (λ h. length h.chunks) z (C.chunks z (sym (N.tree.waits z) ∙ e));
           frames = λ z. seen (λ h. h.frames) z (C.frames z);
           result = λ z. seen (λ h. h.result) z (C.result z);

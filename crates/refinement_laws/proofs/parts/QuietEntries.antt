@@ -1,5 +1,5 @@
 -- What an entry leaves unchanged that moves no object and keeps each task with its worker.
-use Rattle.refinement_laws.proofs.Common.{◌≡◌, ◌⊎◌, ◌+◌, ◌++◌, ◌∷◌, [], ℕ, Bool, true, false, cond, Option, Some, nat_lt, slice_get, inl, inr, refl, ap, sym, ◌∙◌, both_ways, cases_eq, ProgramText, SettingsValue, Kind, Took, Ran, Chunk, Begin, End as EndOf, PutOff, Mark, More, Sweep, Fuel, asked, is_waiting, Heap, Ledger, Pool, chunk_words, is_small, in_use, heap_of, or_fresh, with_heap, on_asked, after_kind, chunk_units, with_chunk, kind_refusal, wait_tells, heap_view, is_none, SameTasks, with_off, same_tasks, IsQuiet, IsMarked, IsBy}
+use Rattle.refinement_laws.proofs.Common.{◌≡◌, ◌⊎◌, ◌+◌, ◌++◌, ◌∷◌, [], ℕ, Bool, true, false, cond, Option, Some, nat_lt, slice_get, inl, inr, refl, ap, sym, ◌∙◌, both_ways, cases_eq, ProgramText, SettingsValue, Kind, Took, Ran, Chunk, Begin, End as EndOf, PutOff, Mark, More, Sweep, Fuel, asked, is_waiting, Heap, Ledger, Pool, chunk_words, is_small_size, in_use, heap_of, or_fresh, with_heap, on_asked, after_kind, chunk_units, with_chunk, kind_refusal, wait_tells, heap_view, is_none, SameTasks, with_off, same_tasks, IsQuiet, IsMarked, IsBy}
 use Rattle.refinement_laws.proofs.whole.Counts.{chunk_worker, chunk_snapshot}
 
 module _ (p : ProgramText) (s : SettingsValue) (l : Ledger) where
@@ -11,7 +11,7 @@ module _ (p : ProgramText) (s : SettingsValue) (l : Ledger) where
   quiet_heap t f w n q = (same_tasks l t f w n, heap_view (λ h. h.swept) l t f q)
 
   chunk_swept : (o : Option ℕ) (h : Heap) → (with_chunk o h).swept ≡ h.swept
-  chunk_swept o h = chunk_swept_by_cases (on_asked o is_small)
+  chunk_swept o h = chunk_swept_by_cases (on_asked o is_small_size)
     where
       chunk_swept_by_cases : (b : Bool) → (cond b (record h { chunks = h.chunks ++ [] ∷ []; room = chunk_words }) (record h { reserved = chunk_units o })).swept ≡ h.swept
       chunk_swept_by_cases true = refl
@@ -63,7 +63,7 @@ module _ (p : ProgramText) (s : SettingsValue) (l : Ledger) where
   marked_or w (Chunk t) q u = inr ((λ e. e), marked_or_by_cases (nat_lt s.chunks (in_use l + chunk_units (asked p l.machine t))))
     where
       chunk_marked : (o : Option ℕ) (h : Heap) → (with_chunk o h).marked ≡ h.marked
-      chunk_marked o h = chunk_marked_by_cases (on_asked o is_small)
+      chunk_marked o h = chunk_marked_by_cases (on_asked o is_small_size)
         where
           chunk_marked_by_cases : (b : Bool) → (cond b (record h { chunks = h.chunks ++ [] ∷ []; room = chunk_words }) (record h { reserved = chunk_units o })).marked ≡ h.marked
           chunk_marked_by_cases true = refl

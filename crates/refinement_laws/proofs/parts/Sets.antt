@@ -1,5 +1,5 @@
 -- A step that goes on and sets at most a number register: the part of its worker fits after it.
-use Rattle.refinement_laws.proofs.Common.{◌≡◌, ℕ, ℤ, false, Some, List, ◌∷◌, length, slice_get, slice_set, refl, ap, sym, subst, ◌∙◌, same_Some, got_same, Addr, Located, ProgramText, SettingsValue, Name, Object, Running, Task, MachineState, object_at, row_of, is_waiting, Frame as ModelFrame, Ledger, heap_of, or_fresh, let_go, task_steps, SoundLedger, Rests, StepsAlone, rested, onward_with, stepped_by, both_rested, rest_heaps, rested_worker, rested_sound, Belongings, Memory, In, object_name, objects, objects_in, Lies, IsModelObject, FrameIsRead, FramesAreRead, HoldsRead, TaskIsRead, Place, FitsAt, with_belongings, part_for, StepsInBelongings, gone_on, object_kept, task_kept, belongings_alike, StepsTo, heap_machine, CallFrame, place_own, at_belongings, off_belongings, FramesGo, NumbersGo}
+use Rattle.refinement_laws.proofs.Common.{◌≡◌, ℕ, ℤ, false, Some, List, ◌∷◌, length, slice_get, slice_set, refl, ap, sym, subst, ◌∙◌, same_Some, got_same, Addr, Located, ProgramText, SettingsValue, Name, Object, Running, Task, MachineState, object_at, row_of, is_waiting, Frame as ModelFrame, Ledger, heap_of, or_fresh, let_go, task_steps, SoundLedger, Rests, StepsAlone, rested, onward_with, stepped_by, both_rested, rest_heaps, rested_worker, rested_sound, Belongings, Memory, In, object_name, objects, objects_of_chunks, Lies, IsModelObject, FrameIsRead, FramesAreRead, HoldsRead, TaskIsRead, Place, FitsAt, with_belongings, part_for, StepsInBelongings, gone_on, object_kept, task_kept, belongings_alike, StepsTo, heap_machine, CallFrame, place_own, at_belongings, off_belongings, FramesGo, NumbersGo}
 use Rattle.refinement_laws.proofs.whole.HandedBack.{alive_machine}
 use Rattle.refinement_laws.proofs.parts.Workers.{part_now}
 use Rattle.refinement.proofs.below.ledger_step_laws.BeforeLast as before_last
@@ -89,7 +89,7 @@ module _ (p : ProgramText) (s : SettingsValue) (t k : ℕ) (h : Belongings) (v :
 
   content : (o : Located) → In (objects vt' t) o → (y : Object) × (object_at lt'.machine.store (object_name o) ≡ Some y) × IsModelObject (Place vt' lt') o y
   content o i =
-      let q = F.stands.contents t o rests (subst (λ ks. In (objects_in ks) o) chunks_same i) in
+      let q = F.stands.contents t o rests (subst (λ ks. In (objects_of_chunks ks) o) chunks_same i) in
       (q.0, store_same (object_name o) ∙ q.1, object_kept (Place vt lt) (Place vt' lt') o q.0 (λ n j. place n) q.2)
 
   pub frames_step : StepsTo v l' t h g

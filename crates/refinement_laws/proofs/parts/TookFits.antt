@@ -1,5 +1,5 @@
 -- The belongings of a task that a worker takes fit.
-use Rattle.refinement_laws.proofs.Common.{length, ◌≡◌, ℕ, Some, None, is_none, slice_get, inl, inr, refl, ap, sym, subst, ◌∙◌, and_parts, cases_eq, none_is, ProgramText, EntryValue, SettingsValue, Took, is_running, MachineState, runs_tell, Ledger, heap_of, or_fresh, after, is_ready, ledger_of, none_unless, entry_tells, legal_sound, accepted_on, heap_of_task, running_at, Rests, rested, heap_then, with_at, took_takes, rested_view, legal_alive, Belongings, Memory, objects_in, Part, FitsAt, part_for, ahead, with_belongings, SameBut, PartFits, StandsFor, belongings_kept, renewed, took_fits, at_belongings, off_belongings, TookFits}
+use Rattle.refinement_laws.proofs.Common.{length, ◌≡◌, ℕ, Some, None, is_none, slice_get, inl, inr, refl, ap, sym, subst, ◌∙◌, and_parts, cases_eq, none_is, ProgramText, EntryValue, SettingsValue, Took, is_running, MachineState, runs_tell, Ledger, heap_of, or_fresh, after, is_ready, ledger_of, none_unless, entry_tells, legal_sound, accepted_on, heap_of_task, running_at, Rests, rested, heap_then, with_at, took_takes, rested_view, legal_alive, Belongings, Memory, objects_of_chunks, Part, FitsAt, part_for, ahead, with_belongings, SameBut, PartFits, StandsFor, belongings_kept, renewed, took_fits, at_belongings, off_belongings, TookFits}
 use Rattle.refinement_laws.proofs.whole.HandedBack.{handed_on}
 use Rattle.refinement_laws.proofs.whole.Past.{legal_rests, none_begun_by_ledger}
 use Rattle.refinement_laws.proofs.parts.NonMovingEntries.{aside_is}
@@ -25,7 +25,7 @@ module _ (p : ProgramText) (s : SettingsValue) (q : Part) (v v' : Memory) (l : L
     stands = renewed (with_belongings v q.task q.belongings) (with_belongings v' q.task q.belongings) k k F.stands (record { machine = refl; worker = λ u. refl; snapshot = λ u. refl })
         (record {
           belongings = λ u r. belongings_kept (with_belongings v q.task q.belongings) (with_belongings v' q.task q.belongings) k k u (same_belongings u) (λ i e. C.owner i ∙ e) refl refl refl (F.stands.belongings u r);
-          objects = λ u. ap (λ (z : Belongings). objects_in z.chunks) (same_belongings u);
+          objects = λ u. ap (λ (z : Belongings). objects_of_chunks z.chunks) (same_belongings u);
           chunks = λ u e. ap (λ (z : Belongings). length z.chunks) (same_belongings u);
           frames = λ u. ap (λ (z : Belongings). z.frames) (same_belongings u);
           result = λ u. ap (λ (z : Belongings). z.result) (same_belongings u);

@@ -1,5 +1,5 @@
 -- An entry without steps changes the tree and the counts as it changes the accounts.
-use Rattle.refinement_laws.proofs.Common.{◌≡◌, ℕ, ◌+◌, Bool, true, false, Option, Some, None, List, [], ◌∷◌, ◌++◌, cond, slice_get, nat_lt, option_map, is_none, inl, inr, refl, ap, ap₂, sym, subst, ◌∙◌, arith, cases_eq, and_parts, ProgramText, IsProgram, SettingsValue, EntryValue, Kind, Took, Ran, Chunk, Begin, End as EndOf, PutOff, Mark, More, Sweep, Fuel, TaskStatus, Running, Waiting, Ended, Joined, MachineState, Task, asked, is_running, runs, Heap, Ledger, Pool, chunk_words, is_small, take_of, heap_of, heap_at, with_heap, with_heap_at, in_use, collected, swept_heap, on_asked, refusal, after, after_kind, chunk_units, with_chunk, is_ready, out_from, ledger_of, is_legal, ChunkGoes, UseGoes, none_unless, entry_tells, legal_sound, heap_of_task, entries_use, none_holding, SameTasks, WorkerTakes, same_tasks, took_takes, same_Some, ◌↔◌, none_is, TaskNode, TreeCounts, TreeCountsStand, state_by, SameCounts, TakesNode, AsksUnits, CountsGo}
+use Rattle.refinement_laws.proofs.Common.{◌≡◌, ℕ, ◌+◌, Bool, true, false, Option, Some, None, List, [], ◌∷◌, ◌++◌, cond, slice_get, nat_lt, option_map, is_none, inl, inr, refl, ap, ap₂, sym, subst, ◌∙◌, arith, cases_eq, and_parts, ProgramText, IsProgram, SettingsValue, EntryValue, Kind, Took, Ran, Chunk, Begin, End as EndOf, PutOff, Mark, More, Sweep, Fuel, TaskStatus, Running, Waiting, Ended, Joined, MachineState, Task, asked, is_running, runs, Heap, Ledger, Pool, chunk_words, is_small_size, take_of, heap_of, heap_at, with_heap, with_heap_at, in_use, collected, swept_heap, on_asked, refusal, after, after_kind, chunk_units, with_chunk, is_ready, out_from, ledger_of, is_legal, ChunkGoes, UseGoes, none_unless, entry_tells, legal_sound, heap_of_task, entries_use, none_holding, SameTasks, WorkerTakes, same_tasks, took_takes, same_Some, ◌↔◌, none_is, TaskNode, TreeCounts, TreeCountsStand, state_by, SameCounts, TakesNode, AsksUnits, CountsGo}
 use Rattle.refinement.specs.below.run_ledger.{Fuel as FuelEnd}
 use Rattle.refinement_laws.proofs.whole.TasksOut.{none_held}
 use Rattle.refinement.specs.below.heap_tree.{Out}
@@ -34,14 +34,14 @@ with_steps l t f = with_steps_by_cases (heap_at l t)
     with_steps_by_cases (Some h) = (refl, refl)
 
 pub chunk_worker : (o : Option ℕ) (h : Heap) → (with_chunk o h).worker ≡ h.worker
-chunk_worker o h = chunk_worker_by_cases (on_asked o is_small)
+chunk_worker o h = chunk_worker_by_cases (on_asked o is_small_size)
   where
     chunk_worker_by_cases : (b : Bool) → (cond b (record h { chunks = h.chunks ++ [] ∷ []; room = chunk_words }) (record h { reserved = chunk_units o })).worker ≡ h.worker
     chunk_worker_by_cases true = refl
     chunk_worker_by_cases false = refl
 
 pub chunk_snapshot : (o : Option ℕ) (h : Heap) → (with_chunk o h).snapshot ≡ h.snapshot
-chunk_snapshot o h = chunk_snapshot_by_cases (on_asked o is_small)
+chunk_snapshot o h = chunk_snapshot_by_cases (on_asked o is_small_size)
   where
     chunk_snapshot_by_cases : (b : Bool) → (cond b (record h { chunks = h.chunks ++ [] ∷ []; room = chunk_words }) (record h { reserved = chunk_units o })).snapshot ≡ h.snapshot
     chunk_snapshot_by_cases true = refl

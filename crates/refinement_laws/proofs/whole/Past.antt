@@ -1,5 +1,5 @@
 -- The whole relation after each accepted entry without steps.
-use Rattle.refinement_laws.proofs.Common.{◌≡◌, ◌&&◌, not, ℕ, true, false, Option, Some, None, List, [], ◌∷◌, ◌++◌, slice_get, is_none, is_some, inl, inr, refl, ap, ap₂, sym, subst, ◌∙◌, false≢true, cases_eq, and_parts, and_from, none_of, none_some, Addr, ProgramText, IsProgram, SettingsValue, EntryValue, Took, End as EndOf, Sweep, MachineState, is_running, is_waiting, runs, can_step, goes_on, runs_is, runs_tell, waiting_stops, Heap, Ledger, heap_of, or_fresh, with_heap, collected, swept_heap, let_go, refusal, after, is_ready, is_out, ledger_of, is_legal, is_legal_from, after_all, opening, SoundLedger, tasks_are_out_once, none_unless, entry_tells, wait_tells, legal_sound, accepted_on, heap_of_task, running_at, heap_view, heap_machine, Rests, StepsAlone, WorkerTakes, rested, with_at, heap_then, took_takes, sweep_changes, end_changes, legal_knows, legal_alive, legal_idle, rested_changes, machine_alone, Begun, Belongings, Memory, Stands, AllNoted, MarksOn, NotesStay, OthersNotes, SameBut, SameObjects, KeepsJust, TreeCounts, BegunBy, StandsFor, CountsGo, IsQuiet, IsMarked, root_apart, ran_stands, CopyFits, EndsAt, before, with_belongings, released, renewed, swept}
+use Rattle.refinement_laws.proofs.Common.{◌≡◌, ◌&&◌, not, ℕ, true, false, Option, Some, None, List, [], ◌∷◌, ◌++◌, slice_get, is_none, is_some, inl, inr, refl, ap, ap₂, sym, subst, ◌∙◌, false≢true, cases_eq, and_parts, and_from, none_of, none_some, Addr, ProgramText, IsProgram, SettingsValue, EntryValue, Took, End as EndOf, Sweep, MachineState, is_running, is_waiting, runs, can_step, goes_on, runs_is, runs_tell, waiting_stops, Heap, Ledger, heap_of, or_fresh, with_heap, collected, swept_heap, let_go, refusal, after, is_ready, is_out, ledger_of, is_legal, is_legal_from, after_all, opening, SoundLedger, tasks_are_out_once, none_unless, entry_tells, wait_tells, legal_sound, accepted_on, heap_of_task, running_at, heap_view, heap_machine, Rests, StepsAlone, WorkerTakes, rested, with_at, heap_then, took_takes, sweep_changes, end_changes, legal_knows, legal_alive, legal_idle, rested_changes, machine_alone, Begun, Belongings, Memory, Stands, AllNoted, MarksOn, NotesStay, OthersNotes, SameBut, SameObjects, KeepsJust, TreeCounts, BegunBy, StandsFor, CountsGo, IsQuiet, IsMarked, root_apart, ran_stands, CopyFits, EndsAt, part_before, with_belongings, released, renewed, swept}
 use Rattle.refinement_laws.proofs.notes.AllNotes.{sweeps_note, ends_note, steps_note, quiet_notes}
 use Rattle.refinement_laws.proofs.whole.Counts.{counts_stand}
 use Rattle.refinement_laws.proofs.parts.QuietEntries.{quiet_by, marked_or}
@@ -116,8 +116,8 @@ module _ (p : ProgramText) (s : SettingsValue) (journal : List EntryValue) (prog
       let rest_idle : is_waiting (slice_get (rested l t).machine.tasks t) ≡ false = ap (λ (m : MachineState). is_waiting (slice_get m.tasks t)) (heap_machine l t let_go) ∙ idle in
       let M = copies_end p s t h h' f v v' l x.0 g.0 S x.1 (runs_is x.0.status x.2) g.1 K E none in
       let can : can_step l.machine t ≡ true = ap₂ goes_on (legal_alive p s journal legal (none_of l.end tells.0)) run in
-      let before_notes = notes_ahead p s (before s t h) v l x.0 (legal_knows p s journal legal) K.old.fits (record { task = x.1; runs = x.2; can = can; steady = inl refl }) (whole_notes v c l W) in
-      put_together e accepted W (ran_stands p s (before s t h') v' l' M.1.fits.worker M.1.fits M.1.fits.out idle')
+      let before_notes = notes_ahead p s (part_before s t h) v l x.0 (legal_knows p s journal legal) K.old.fits (record { task = x.1; runs = x.2; can = can; steady = inl refl }) (whole_notes v c l W) in
+      put_together e accepted W (ran_stands p s (part_before s t h') v' l' M.1.fits.worker M.1.fits M.1.fits.out idle')
       (notes_back t h' v' l' idle' M.1.fits.stands
       (ends_note (with_belongings v t h) (with_belongings v' t h') (rested l t) (rested l' t) t (heap_of (rested l t) t).survivors f K.old.fits.stands rest_idle (rested_changes l l' t L) M.0
       (record { none = N.none; others = λ u ne. record { keeps = (N.others u ne).keeps; kept = (N.others u ne).kept; marked = (N.others u ne).marked } }) before_notes))

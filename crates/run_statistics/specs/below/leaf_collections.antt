@@ -1,2 +1,2 @@
 -- Re-exports from `leaf_collections` for the crates above.
-pub use Rattle.shared_tree.specs.below.leaf_collections.{FitsCopied, end_entry, ended}
+pub use Rattle.shared_tree.specs.below.leaf_collections.{FitsCopied, end_entry, without_collection}

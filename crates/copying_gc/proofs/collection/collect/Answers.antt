@@ -1,4 +1,4 @@
-use Rattle.copying_gc.proofs.Common.{◌≡◌, ℕ, ◌+◌, ◌*◌, ◌/◌, ◌≤◌, List, length, fold, reverse, refl, sym, ap, ◌∙◌, subst, arith, Option, All, length-map, length-reverse, length_permutation, Addr, ChunkValue, IsClosed, IsSoundReference, once_from, AreCounted, LeafHeapValue, IsPermutation, contains_from_in, Survivor, olds, outside, with_chunks, CollectorValue, led_chunk, ArePacked, laying_of, moves_of, redirection, CollectorBegins, IsEvacuated, counted32, named, unit_count, CanName, before, smalls}
+use Rattle.copying_gc.proofs.Common.{◌≡◌, ℕ, ◌+◌, ◌*◌, ◌/◌, ◌≤◌, List, length, fold, reverse, refl, sym, ap, ◌∙◌, subst, arith, Option, All, length-map, length-reverse, length_permutation, Addr, ChunkValue, IsClosed, IsSoundReference, once_from, AreCounted, LeafHeapValue, IsPermutation, contains_from_in, Survivor, olds, outside, with_chunks, CollectorValue, led_chunk, ArePacked, laying_of, moves_of, redirection, CollectorBegins, IsEvacuated, counted32, with_birth_name, unit_count, CanName, nothing_laid, smalls}
 use Rattle.copying_gc.proofs.Collecting as collecting
 use Rattle.address_laws.proofs.Numbers as nums
 use Rattle.copying_gc.proofs.NewNumbers as new_numbers
@@ -108,7 +108,7 @@ exchange-are_large-requires-clause-spare c =
     let r : Option ℕ = c.reserved-reserved.result in
     let s = e.survivors in
     let same : length laid ≡ length (laying_of h ss (reverse news)).laid = ap (λ (ks : List ChunkValue). length ks) e.laid ∙ length-map (laying_of h ss (reverse news)).laid (led_chunk (redirection h ss (reverse news))) in
-    let count = places.count_laid (before (reverse news)) h (smalls h (olds ss)) in
+    let count = places.count_laid (nothing_laid (reverse news)) h (smalls h (olds ss)) in
     let turned = length-reverse news in
     let kept = ap (λ (x : LeafHeapValue). x.spare) e.heap in
     let room = c.requires.reserved.spare in
@@ -132,7 +132,7 @@ give_rest-requires c =
     let count = c.exchange-are_large.ensures.back_count in
     let same = c.exchange-are_large.ensures.back_room in
     let rest = ap (λ (ks : List ChunkValue). length ks) e.spare in
-    let all = places.count_laid (before (reverse news)) h (smalls h (olds ss)) in
+    let all = places.count_laid (nothing_laid (reverse news)) h (smalls h (olds ss)) in
     let turned = length-reverse news in
     let turned_rest = length-reverse c.collector.inside.spare.items in
     omega arith
@@ -166,8 +166,8 @@ name_larges-requires-clause-none c =
     let r : Option ℕ = c.reserved-reserved.result in
     let s = e.survivors in
     let chunks = ap (λ (x : LeafHeapValue). x.chunks) c.exchange-are_large.ensures.heap in
-    λ no. ap (λ (xs : List Survivor). fold named c.exchange-are_large.new.heap.chunks xs) c.deref-3.ensures.value
-    ∙ (ap (λ (ks : List ChunkValue). fold named ks ss) chunks ∙ (collecting.none_named h g.chunks ss news r laid e.vacated c.requires.tidy c.requires.apart c.requires.new (once_from (olds ss) s.once) s.names c.reserved-reserved.ensures.empty e.laid (c.exchange-are_large.ensures.none no) ∙ sym chunks))
+    λ no. ap (λ (xs : List Survivor). fold with_birth_name c.exchange-are_large.new.heap.chunks xs) c.deref-3.ensures.value
+    ∙ (ap (λ (ks : List ChunkValue). fold with_birth_name ks ss) chunks ∙ (collecting.none_named h g.chunks ss news r laid e.vacated c.requires.tidy c.requires.apart c.requires.new (once_from (olds ss) s.once) s.names c.reserved-reserved.ensures.empty e.laid (c.exchange-are_large.ensures.none no) ∙ sym chunks))
 
 pub returns-clause-collected : goal.returns-clause-collected
 returns-clause-collected c =
@@ -187,10 +187,10 @@ returns-clause-collected c =
       survivors = ss;
       are = s;
       heap = collecting.heap_is h g.chunks ss news r laid e.vacated c.requires.tidy c.requires.apart c.requires.new (once_from (olds ss) s.once) s.names c.reserved-reserved.ensures.empty e.laid c.args.heap r_is refl c.exchange-are_large.new.heap c.name_larges.new.heap c.reset_since.new.self g c.exchange-are_large.ensures.heap
-          (c.name_larges.ensures ∙ ap (λ (xs : List Survivor). with_chunks c.exchange-are_large.new.heap (fold named c.exchange-are_large.new.heap.chunks xs)) c.deref-3.ensures.value) c.reset_since.ensures;
+          (c.name_larges.ensures ∙ ap (λ (xs : List Survivor). with_chunks c.exchange-are_large.new.heap (fold with_birth_name c.exchange-are_large.new.heap.chunks xs)) c.deref-3.ensures.value) c.reset_since.ensures;
       frames = e.frames;
       moved = permuted;
-      order = orders.moved_in_order (before (reverse news)) h (smalls h (olds ss)) c.sort.new.list.items permuted c.sort.ensures.sorted (moves.once_smalls h (olds ss) (once_from (olds ss) s.once))
+      order = orders.moved_in_order (nothing_laid (reverse news)) h (smalls h (olds ss)) c.sort.new.list.items permuted c.sort.ensures.sorted (moves.once_smalls h (olds ss) (once_from (olds ss) s.once))
           (λ a i. orders.survivor_place h (outside c.args.frames.now c.args.roots.now) c.requires.closed c.requires.outside a ((s.exactly a).0 (contains_from_in (olds ss) a (moves.in_smalls h (olds ss) a i).0)));
       taken = c.count_of-taken.ensures ∙ ap (λ (ks : List ChunkValue). counted32 (length ks)) (c.deref.ensures.value ∙ e.laid);
       given = c.units_of.ensures ∙ ap (λ (ks : List ChunkValue). counted32 (unit_count ks)) c.deref-4.ensures.value;
@@ -212,4 +212,4 @@ returns-clause-settled c =
     let s = e.survivors in
     collecting.settled_now h g.chunks ss news r laid e.vacated c.requires.tidy c.requires.apart c.requires.new (once_from (olds ss) s.once) s.names c.reserved-reserved.ensures.empty e.laid
     c.exchange-are_large.new.heap c.name_larges.new.heap c.reset_since.new.self (ap (λ (x : LeafHeapValue). x.chunks) c.exchange-are_large.ensures.heap)
-    (c.name_larges.ensures ∙ ap (λ (xs : List Survivor). with_chunks c.exchange-are_large.new.heap (fold named c.exchange-are_large.new.heap.chunks xs)) c.deref-3.ensures.value) c.reset_since.ensures
+    (c.name_larges.ensures ∙ ap (λ (xs : List Survivor). with_chunks c.exchange-are_large.new.heap (fold with_birth_name c.exchange-are_large.new.heap.chunks xs)) c.deref-3.ensures.value) c.reset_since.ensures

@@ -1,5 +1,5 @@
 use Rattle.copying_gc.proofs.Common.{◌≤◌, ◌∙◌, arith, take, take_more, All-push, ChunkValue, words_in, used_words}
-use Rattle.leaf_heap.proofs.HeapLemmas as heap
+use Rattle.leaf_heap.proofs.ChunkAdded as added
 use Rattle.copying_gc.proofs.Packing as packing
 use Rattle.copying_gc.proofs.packed.used_words.Goals as goal
 
@@ -10,7 +10,7 @@ loop-chunk-preserved c =
     let k : ChunkValue = c.chunk-item.result in
     let next = take_more ks i k c.loop-chunk-test.true in
     let more = packing.used_more ks i k c.loop-chunk-test.true c.chunk-item.is in
-    let sum = heap.counted_more (used_words (take i ks)) (words_in k.cells) in
+    let sum = added.counted_more (used_words (take i ks)) (words_in k.cells) in
     let words = c.used.ensures.words in
     let most = c.used.ensures.within in
     let inside : words_in k.cells ≤ k.size = omega arith in

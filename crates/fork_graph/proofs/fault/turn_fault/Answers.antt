@@ -23,7 +23,7 @@ returns-then-not-take_turn c =
     let does : Does (tasks_in rows) c.args.task c.loop-index.index c.at-turn.result.now =
     ap (λ (turns : List GraphTurn). slice_get turns c.loop-index.index) row ∙ c.at-turn.ensures in
     let refused : after_turn c.loop-index.states c.args.task c.at-turn.result.now ≡ None = c.if-not-take_turn.ensures.0 in
-    subst (λ (cause : StrandCause). IsFirstFault rows c.args.extent (record { strand = strand c.args.task c.loop-index.index; cause = cause })) (sym c.cause_of.ensures)
+    subst (λ (cause : StrandCause). IsFirstFault rows c.args.extent (record { strand = strand c.args.task c.loop-index.index; cause = cause })) (sym c.cause_of_turn.ensures)
     (refused_first rows c.args.extent c.args.task c.loop-index.index c.at-turn.result.now c.loop-index.states c.requires.there
     c.loop-index.invariant.states c.loop-index.invariant.none does refused)
 

@@ -1,10 +1,10 @@
-use Rattle.program_reader.proofs.Common.{◌≡◌, ◌++◌, ap, ◌∙◌, codes, Fun, whole_code, left_code, right_code, function_of, loop_from, number_of}
+use Rattle.program_reader.proofs.Common.{◌≡◌, ◌++◌, ap, ◌∙◌, codes, Fun, whole_code, left_code, right_code, function_of, loop_from, function_number}
 use Rattle.program_reader.proofs.LoopFunctions.{three_added}
 use Rattle.program_reader.proofs.loops.add_named.Goals as goal
 
 pub returns : goal.returns
 returns c =
-    let a : Fun = function_of (c.args.name.now ++ codes "?") c.args.number (whole_code (loop_from (number_of c.args.outline.now c.args.name.now) c.args.first)) in
+    let a : Fun = function_of (c.args.name.now ++ codes "?") c.args.number (whole_code (loop_from (function_number c.args.outline.now c.args.name.now) c.args.first)) in
     let b : Fun = function_of (c.args.name.now ++ codes "<") c.args.number (left_code c.args.first) in
     let d : Fun = function_of (c.args.name.now ++ codes ">") c.args.number (right_code c.args.first) in
     let whole : c.in_ok-whole_function.field-0 ≡ function_of (c.args.name.now ++ codes "?") c.args.number (whole_code (loop_from c.number_in-function.result c.args.first)) = c.in_ok-whole_function.ensures in

@@ -1,4 +1,4 @@
-use Rattle.race_groups.proofs.Common.{◌∙◌, ap, sym, arith, take, [], fold, slice_get, length-take, take_all, fold_more, with_race}
+use Rattle.race_groups.proofs.Common.{◌∙◌, ap, sym, arith, take, [], fold, slice_get, length-take, take_all, fold_more, with_grouped_race}
 use Rattle.race_groups.proofs.Gathering.{all_gathered, most_fields}
 use Rattle.race_groups.proofs.groups.group_races.Goals as goal
 
@@ -15,5 +15,5 @@ pub returns : goal.returns
 returns c =
     c.into_vec.ensures
     ∙ c.loop-race.invariant
-    ∙ ap (fold with_race []) (take_all c.loop-race.race-index c.args.races.now c.loop-race-test.false)
+    ∙ ap (fold with_grouped_race []) (take_all c.loop-race.race-index c.args.races.now c.loop-race-test.false)
     ∙ all_gathered c.args.races.now

@@ -9,7 +9,7 @@ pub returns-then-number-wanted : goal.returns-then-number-wanted
 returns-then-number-wanted c =
     let inside : c.loop-low.low + (c.loop-low.high - c.loop-low.low) / 2 < length c.args.moved.now = let w = c.loop-low.invariant.within in omega arith in
     sym (lemma.new_of-found c.args.moved.now c.requires c.args.old _ _ inside
-    (lemma.same_from_number _ c.args.old c.number_of-number.ensures.offset c.number_of-wanted.ensures.offset (omega arith)))
+    (lemma.same_from_number _ c.args.old c.address_key-number.ensures.offset c.address_key-wanted.ensures.offset (omega arith)))
 
 pub loop-low-preserved-then-number-wanted-2 : goal.loop-low-preserved-then-number-wanted-2
 loop-low-preserved-then-number-wanted-2 c =
@@ -18,7 +18,7 @@ loop-low-preserved-then-number-wanted-2 c =
     record {
       ordered = omega arith;
       within = omega arith;
-      below = λ i d l. lemma.below_more c.args.moved.now c.requires (c.loop-low.low + (c.loop-low.high - c.loop-low.low) / 2) c.number_of-wanted.result none inside (omega arith) i d l;
+      below = λ i d l. lemma.below_more c.args.moved.now c.requires (c.loop-low.low + (c.loop-low.high - c.loop-low.low) / 2) c.address_key-wanted.result none inside (omega arith) i d l;
       above = c.loop-low.invariant.above;
     }
 
@@ -30,7 +30,7 @@ loop-low-preserved c =
       ordered = omega arith;
       within = omega arith;
       below = c.loop-low.invariant.below;
-      above = λ i d l k. lemma.above_more c.args.moved.now c.requires (c.loop-low.low + (c.loop-low.high - c.loop-low.low) / 2) c.number_of-wanted.result none inside (omega arith) i d l k;
+      above = λ i d l k. lemma.above_more c.args.moved.now c.requires (c.loop-low.low + (c.loop-low.high - c.loop-low.low) / 2) c.address_key-wanted.result none inside (omega arith) i d l k;
     }
 
 pub returns : goal.returns

@@ -1,4 +1,4 @@
-use Rattle.remembered_set.proofs.Common.{◌≡◌, ◌+◌, ◌-◌, ◌≤◌, drop, fold, filter, nat_eq, not, vec_capacity, vec_len, contains, spare, RefField, noted, same_source, KnowsJust}
+use Rattle.remembered_set.proofs.Common.{◌≡◌, ◌+◌, ◌-◌, ◌≤◌, drop, fold, filter, nat_eq, not, vec_capacity, vec_len, contains, spare, RefField, with_noted_source, same_source, KnowsJust}
 use Rattle.remembered_set.proofs.table.note_all.Given as goal
 
 abbrev pub invariant-loop-source : goal.invariant-loop-source
@@ -7,6 +7,6 @@ invariant-loop-source l = record {
   spare : spare l.fn.known ≤ spare l.known + l.source-index;
   kept : KnowsJust l.sources.items (contains same_source l.known);
   rest :
-      fold noted l.fn.sources.items (filter (λ (s : RefField). not (contains nat_eq l.numbers s.object.chunk)) l.from)
-      ≡ fold noted l.sources.items (filter (λ (s : RefField). not (contains nat_eq l.numbers s.object.chunk)) (drop l.source-index l.from));
+      fold with_noted_source l.fn.sources.items (filter (λ (s : RefField). not (contains nat_eq l.numbers s.object.chunk)) l.from)
+      ≡ fold with_noted_source l.sources.items (filter (λ (s : RefField). not (contains nat_eq l.numbers s.object.chunk)) (drop l.source-index l.from));
 }

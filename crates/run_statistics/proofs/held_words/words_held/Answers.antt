@@ -1,4 +1,4 @@
-use Rattle.run_statistics.proofs.Common.{◌≡◌, ◌≤◌, false, Option, None, List, arith, length, option_map, slice_get, ap, sym, ◌∙◌, option_flatten, got_past, Name, is_running, words_sum, counted, ParkedTask, SharedValue, accounts, rest_at, is_state_running, nothing_kept, runs_is}
+use Rattle.run_statistics.proofs.Common.{◌≡◌, ◌≤◌, false, Option, None, List, arith, length, option_map, slice_get, ap, sym, ◌∙◌, option_flatten, got_past, Name, is_running, words_sum, saturating_words, ParkedTask, SharedValue, accounts, rest_at, is_state_running, nothing_kept, runs_is}
 use Rattle.run_statistics.proofs.held_words.words_held.Goals as goal
 
 pub returns-else-t-len : goal.returns-else-t-len
@@ -11,4 +11,4 @@ returns-else-t-len c =
     let idle : is_running (slice_get (accounts w).machine.tasks c.args.t) ≡ false =
     sym (runs_is w I c.args.t) ∙ ap (λ o. is_state_running (option_map (λ m. m.state) o)) (got_past w.tree c.args.t past_tree) in
     let none : rest_at w.rests c.args.t ≡ None = ap option_flatten (got_past w.rests c.args.t past) in
-    sym (ap (λ (ns : List Name). counted (words_sum (accounts w).machine ns)) (nothing_kept w I c.args.t idle none))
+    sym (ap (λ (ns : List Name). saturating_words (words_sum (accounts w).machine ns)) (nothing_kept w I c.args.t idle none))

@@ -1,4 +1,4 @@
-use Rattle.run_timeline.proofs.Common.{◌++◌, ◌+◌, Err, ap, subst, sym, length, ◌∙◌, IfErr, flat_map, err_from_is_err_and, further, end_of, first_refused, refused_as_run, BookValue, ReplayFails, events_of, beginning, ending}
+use Rattle.run_timeline.proofs.Common.{◌++◌, ◌+◌, Err, ap, subst, sym, length, ◌∙◌, IfErr, flat_map, err_from_is_err_and, further, end_of, first_refused, refused_as_run, BookValue, ReplayFails, events_of, beginning, event_ending}
 use Rattle.run_timeline.proofs.Loops.{timeline_made, fails_whole}
 use Rattle.run_timeline.proofs.timeline.timeline_text.Goals as goal
 
@@ -12,7 +12,7 @@ returns-in_err-enter_all-clause-fails c =
 pub returns-clause-text : goal.returns-clause-text
 returns-clause-text c =
     c.in_ok-end.ensures
-    ∙ ap (λ x. x ++ ending)
+    ∙ ap (λ x. x ++ event_ending)
     (c.in_ok-enter_all.ensures.events
     ∙ (λ j. (c.in_ok-text.ensures ∙ ap beginning c.workers.ensures.value) j ++ flat_map further (events_of (c.in_ok-book.ensures j).program (c.in_ok-book.ensures j).settings c.args.journal.now)))
     ∙ timeline_made c.args.program.now c.args.settings c.args.journal.now

@@ -1,4 +1,4 @@
-use Rattle.task_table.proofs.Common.{◌≡◌, ◌++◌, ◌+◌, Err, ap, length, subst, sym, ◌∙◌, IfErr, err_from_is_err_and, end_of, first_refused, opening, ledger_of, refused_as_run, BookValue, ReplayFails, fails_whole, rows_from, first_line, lines_from, rows_of}
+use Rattle.task_table.proofs.Common.{◌≡◌, ◌++◌, ◌+◌, Err, ap, length, subst, sym, ◌∙◌, IfErr, err_from_is_err_and, end_of, first_refused, opening, ledger_of, refused_as_run, BookValue, ReplayFails, fails_whole, rows_from, first_line, task_row_lines, rows_of}
 use Rattle.task_table.proofs.table.table_text.Goals as goal
 
 pub returns-in_err-enter_all-clause-fails : goal.returns-in_err-enter_all-clause-fails
@@ -17,4 +17,4 @@ returns-clause-text c =
     let rows : c.as_slice.result.now ≡ rows_of p c.args.settings journal =
     c.as_slice.ensures ∙ c.in_ok-enter_all.ensures.rows
     ∙ (λ j. rows_from (c.in_ok-book.ensures j).program (c.in_ok-book.ensures j).settings (opening (c.in_ok-book.ensures j).program (c.in_ok-book.ensures j).settings) (c.in_ok-rows.ensures j) journal) in
-    c.in_ok-text_of.ensures ∙ (λ j. first_line ++ lines_from p (ledger j) 0 (rows j))
+    c.in_ok-text_of.ensures ∙ (λ j. first_line ++ task_row_lines p (ledger j) 0 (rows j))

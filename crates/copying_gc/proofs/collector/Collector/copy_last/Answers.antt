@@ -1,4 +1,4 @@
-use Rattle.copying_gc.proofs.Common.{◌≡◌, List, ◌∷◌, [], ◌++◌, length, reverse, arith, sym, ap, ◌∙◌, with_items, Cell, Moved, with_mark, cell_of, put_object, ChunkValue, Addr, length-put, with_chunks, next_place, placed, survivor_cell}
+use Rattle.copying_gc.proofs.Common.{◌≡◌, List, ◌∷◌, [], ◌++◌, length, reverse, arith, sym, ap, ◌∙◌, with_items, Cell, Moved, with_mark, cell_of, put_object, ChunkValue, Addr, length-put, with_chunks, next_place, placed_behind, survivor_cell}
 use Rattle.object_layout.proofs.ChunkLaws as laws
 use Rattle.copying_gc.proofs.Evacuated as evacuated
 use Rattle.copying_gc.proofs.Places as places
@@ -15,9 +15,9 @@ returns c =
     let address : c.move_last-address.result ≡ next_place was = c.move_last-address.ensures.address ∙ ap next_place c.deref_mut.ensures.value in
     rw (← c.self.view_is)
     (places.same_collection c.self.inside.found.items (reverse c.self.inside.spare.items) c.move_last-address.new.heap (with_chunks c.self.inside.heap (put_object h old (with_mark (cell_of h old) (Moved (next_place was)))))
-    (with_items c.self.inside.laid now).items (placed was (survivor_cell h c.args.survivor)) c.push_reserved.new.self.items (c.self.inside.moved.items ++ (old, next_place was) ∷ [])
+    (with_items c.self.inside.laid now).items (placed_behind was (survivor_cell h c.args.survivor)) c.push_reserved.new.self.items (c.self.inside.moved.items ++ (old, next_place was) ∷ [])
     (c.move_last-address.ensures.left ∙ ap (λ (a : Addr). with_chunks c.self.inside.heap (put_object h old (with_mark (cell_of h old) (Moved a)))) address)
-    (put ∙ (c.move_last-address.ensures.laid ∙ ap (λ (ks : List ChunkValue). placed ks (survivor_cell h c.args.survivor)) c.deref_mut.ensures.value))
+    (put ∙ (c.move_last-address.ensures.laid ∙ ap (λ (ks : List ChunkValue). placed_behind ks (survivor_cell h c.args.survivor)) c.deref_mut.ensures.value))
     (c.push_reserved.ensures.items ∙ ap (λ (a : Addr). c.self.inside.moved.items ++ (old, a) ∷ []) address))
 
 pub invariant_of-self : goal.invariant_of-self

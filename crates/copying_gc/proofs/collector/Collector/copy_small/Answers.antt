@@ -1,4 +1,4 @@
-use Rattle.copying_gc.proofs.Common.{◌≡◌, ◌<◌, true, length, sym, ap, ◌∙◌, subst, size_of, IsObject, cell_of, place_in, CollectorValue, copied, is_small, ObjectFits}
+use Rattle.copying_gc.proofs.Common.{◌≡◌, ◌<◌, true, length, sym, ap, ◌∙◌, subst, size_of, IsObject, cell_of, place_in, CollectorValue, copied, is_moved, ObjectFits}
 use Rattle.copying_gc.proofs.collector.Collector.copy_small.Goals as goal
 
 pub copy_if_small-requires-clause-place : goal.copy_if_small-requires-clause-place
@@ -11,7 +11,7 @@ copy_if_small-requires-clause-object c =
 
 pub copy_if_small-requires-clause-room : goal.copy_if_small-requires-clause-room
 copy_if_small-requires-clause-room c =
-    subst (λ (z : CollectorValue). is_small z.heap.chunks c.args.survivor.old ≡ true → ObjectFits z.laying (size_of (cell_of z.heap.chunks c.args.survivor.old))) (sym c.place_of-place.ensures.same) c.requires.room
+    subst (λ (z : CollectorValue). is_moved z.heap.chunks c.args.survivor.old ≡ true → ObjectFits z.laying (size_of (cell_of z.heap.chunks c.args.survivor.old))) (sym c.place_of-place.ensures.same) c.requires.room
 
 pub copy_if_small-requires-clause-list : goal.copy_if_small-requires-clause-list
 copy_if_small-requires-clause-list c =

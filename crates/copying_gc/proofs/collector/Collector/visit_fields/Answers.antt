@@ -1,4 +1,4 @@
-use Rattle.copying_gc.proofs.Common.{◌≡◌, List, Some, Option, slice_get, sym, ap, ◌∙◌, subst, all_at, Addr, IsObject, cell_of, place_in, ChunkValue, CollectorValue, visited, IsTarget}
+use Rattle.copying_gc.proofs.Common.{◌≡◌, List, Some, Option, slice_get, sym, ap, ◌∙◌, subst, all_at, Addr, IsObject, cell_of, place_in, ChunkValue, CollectorValue, visited_reference, IsTarget}
 use Rattle.copying_gc.proofs.FoundLemmas as founds
 use Rattle.copying_gc.proofs.ListLemmas as lists
 use Rattle.copying_gc.proofs.collector.Collector.visit_fields.Goals as goal
@@ -8,12 +8,12 @@ loop-field-preserved c =
     let s : CollectorValue = c.loop-field.self in
     let r : Option Addr = c.ref_in-reference.result in
     let h : List ChunkValue = c.args.self.now.heap.chunks in
-    let heap : c.visit.new.self.heap.chunks ≡ (visited s r).heap.chunks = ap (λ (t : CollectorValue). t.heap.chunks) c.visit.ensures in
+    let heap : c.visit.new.self.heap.chunks ≡ (visited_reference s r).heap.chunks = ap (λ (t : CollectorValue). t.heap.chunks) c.visit.ensures in
     let now : slice_get (cell_of s.heap.chunks c.args.object).refs c.loop-field.field ≡ Some r =
     subst (λ (z : CollectorValue). slice_get (cell_of z.heap.chunks c.args.object).refs c.loop-field.field ≡ Some r) c.self-in-loop-field.view_is c.ref_in-reference.ensures.value in
     let got : slice_get (cell_of h c.args.object).refs c.loop-field.field ≡ Some r = subst (λ (rs : List (Option Addr)). slice_get rs c.loop-field.field ≡ Some r) c.loop-field.invariant.refs now in
     record {
-      visited = c.visit.ensures ∙ (ap (λ (t : CollectorValue). visited t r) c.loop-field.invariant.visited ∙ sym (lists.fold_got visited c.args.self.now (cell_of h c.args.object).refs c.loop-field.field r got));
+      visited = c.visit.ensures ∙ (ap (λ (t : CollectorValue). visited_reference t r) c.loop-field.invariant.visited ∙ sym (lists.fold_got visited_reference c.args.self.now (cell_of h c.args.object).refs c.loop-field.field r got));
       place = ap (λ (k : List ChunkValue). place_in k c.args.object.chunk) heap ∙ (founds.visited_place s r c.args.object.chunk ∙ c.loop-field.invariant.place);
       object = subst (λ (k : List ChunkValue). IsObject (cell_of k c.args.object).mark) (sym heap) (founds.visited_object s r c.args.object c.loop-field.invariant.object);
       refs = ap (λ (k : List ChunkValue). (cell_of k c.args.object).refs) heap ∙ (founds.visited_refs s r c.args.object ∙ c.loop-field.invariant.refs);

@@ -1,4 +1,4 @@
-use Rattle.copying_gc.proofs.Common.{◌≡◌, ◌<◌, length, List, Option, sym, ap, ◌∙◌, subst, fold, All, arith, length-append, all_from, read_in, Addr, frames_of, references_of, frame_references, CollectorValue, visited, IsTarget}
+use Rattle.copying_gc.proofs.Common.{◌≡◌, ◌<◌, length, List, Option, sym, ap, ◌∙◌, subst, fold, All, arith, length-append, all_from, read_in, Addr, frames_of, references_of, frame_references, CollectorValue, visited_reference, IsTarget}
 use Rattle.copying_gc.proofs.FoundLemmas as founds
 use Rattle.copying_gc.proofs.ListLemmas as lists
 use Rattle.copying_gc.proofs.collector.Collector.visit_frames.Goals as goal
@@ -15,9 +15,9 @@ loop-frame-preserved c =
     let s : CollectorValue = c.loop-frame.self in
     let fs = frames_of c.args.frames.now in
     let refs = references_of fs c.loop-frame.frame in
-    let step : c.visit_all.new.self ≡ fold visited s refs = c.visit_all.ensures ∙ ap (fold visited s) c.references_in-references.ensures in
+    let step : c.visit_all.new.self ≡ fold visited_reference s refs = c.visit_all.ensures ∙ ap (fold visited_reference s) c.references_in-references.ensures in
     let within : c.loop-frame.frame < length fs = omega (arith, length-append c.args.frames.now.below) in
     record {
-      visited = step ∙ (ap (λ (t : CollectorValue). fold visited t refs) c.loop-frame.invariant.visited ∙ sym (lists.fold_frames visited c.args.self.now fs c.loop-frame.frame within));
+      visited = step ∙ (ap (λ (t : CollectorValue). fold visited_reference t refs) c.loop-frame.invariant.visited ∙ sym (lists.fold_frames visited_reference c.args.self.now fs c.loop-frame.frame within));
       targets = founds.fold_all_targets s refs c.visit_all.new.self.heap.chunks (ap (λ (t : CollectorValue). t.heap.chunks) step) (frame_references fs) c.loop-frame.invariant.targets;
     }

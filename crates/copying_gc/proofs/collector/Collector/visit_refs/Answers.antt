@@ -1,4 +1,4 @@
-use Rattle.copying_gc.proofs.Common.{fold, sym, ap, ◌∙◌, subst, All, IsObject, cell_of, place_in, CollectorValue, visited, IsTarget}
+use Rattle.copying_gc.proofs.Common.{fold, sym, ap, ◌∙◌, subst, All, IsObject, cell_of, place_in, CollectorValue, visited_reference, IsTarget}
 use Rattle.copying_gc.proofs.collector.Collector.visit_refs.Goals as goal
 
 pub visit_fields-requires-clause-place : goal.visit_fields-requires-clause-place
@@ -14,4 +14,4 @@ visit_fields-requires-clause-targets c =
     subst (λ (z : CollectorValue). All (IsTarget z.heap.chunks) (cell_of z.heap.chunks c.args.object).refs) (sym c.place_of-place.ensures.same) c.requires.targets
 
 pub returns : goal.returns
-returns c = c.visit_fields.ensures ∙ ap (λ (z : CollectorValue). fold visited z (cell_of z.heap.chunks c.args.object).refs) c.place_of-place.ensures.same
+returns c = c.visit_fields.ensures ∙ ap (λ (z : CollectorValue). fold visited_reference z (cell_of z.heap.chunks c.args.object).refs) c.place_of-place.ensures.same

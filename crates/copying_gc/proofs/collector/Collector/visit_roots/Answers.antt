@@ -1,4 +1,4 @@
-use Rattle.copying_gc.proofs.Common.{Some, Option, get_or, map, sym, ap, ◌∙◌, in_map, in_read, read_in, Addr, as_reference, CollectorValue, visited, IsTarget}
+use Rattle.copying_gc.proofs.Common.{Some, Option, get_or, map, sym, ap, ◌∙◌, in_map, in_read, read_in, Addr, as_reference, CollectorValue, visited_reference, IsTarget}
 use Rattle.copying_gc.proofs.FoundLemmas as founds
 use Rattle.copying_gc.proofs.ListLemmas as lists
 use Rattle.copying_gc.proofs.collector.Collector.visit_roots.Goals as goal
@@ -18,6 +18,6 @@ loop-root-preserved c =
     let s : CollectorValue = c.loop-root.self in
     let r : Option Addr = Some (get_or c.args.roots.now c.loop-root.root-index nowhere) in
     record {
-      visited = c.visit.ensures ∙ (ap (λ (t : CollectorValue). visited t r) c.loop-root.invariant.visited ∙ sym (lists.fold_map_read visited as_reference c.args.self.now c.args.roots.now c.loop-root.root-index nowhere c.loop-root-test.true));
+      visited = c.visit.ensures ∙ (ap (λ (t : CollectorValue). visited_reference t r) c.loop-root.invariant.visited ∙ sym (lists.fold_map_read visited_reference as_reference c.args.self.now c.args.roots.now c.loop-root.root-index nowhere c.loop-root-test.true));
       targets = founds.visited_all_targets s r c.visit.new.self.heap.chunks (ap (λ (t : CollectorValue). t.heap.chunks) c.visit.ensures) (map as_reference c.args.roots.now) c.loop-root.invariant.targets;
     }

@@ -1,6 +1,7 @@
-use Rattle.leaf_heap.proofs.Common.{◌≡◌, ◌+◌, ◌++◌, arith, length, refl, nat_eq, get, hash_map_len, chunk_at, one_each, small_part, counted}
+use Rattle.leaf_heap.proofs.Common.{◌≡◌, ◌+◌, ◌++◌, arith, length, refl, nat_eq, get, hash_map_len, chunk_at, one_each, small_part, saturating_words}
 use Rattle.frozen_views.proofs.PieceLists as lists
 use Rattle.leaf_heap.proofs.HeapLemmas as heap
+use Rattle.leaf_heap.proofs.ChunkAdded as added
 use Rattle.leaf_heap.proofs.contents.Contents.merge.Goals as goal
 
 pub index_chunks-requires-clause-apart : goal.index_chunks-requires-clause-apart
@@ -9,7 +10,7 @@ index_chunks-requires-clause-apart c =
     let rs = c.right.inside.chunks.items in
     let ks = c.self.inside.chunks.items in
     let apart = rw (← c.left.view_is, ← c.right.view_is, ← c.self.view_is) at c.requires.apart in
-    rw c.as_slice.ensures (heap.apart_front rs ks (heap.apart_behind ls (rs ++ ks) apart))
+    rw c.as_slice.ensures (added.apart_front rs ks (added.apart_behind ls (rs ++ ks) apart))
 
 pub index_chunks-requires-clause-new : goal.index_chunks-requires-clause-new
 index_chunks-requires-clause-new c = λ i l.
@@ -19,7 +20,7 @@ index_chunks-requires-clause-new c = λ i l.
     let apart = rw (← c.left.view_is, ← c.right.view_is, ← c.self.view_is) at c.requires.apart in
     let inside = rw c.as_slice.ensures at l in
     rw c.as_slice.ensures
-    (heap.none_kept ks c.self.inside.base (chunk_at rs i).number _ (c.self.invariant.table (chunk_at rs i).number) (heap.apart_across rs ks (heap.apart_behind ls (rs ++ ks) apart) i inside))
+    (added.none_kept ks c.self.inside.base (chunk_at rs i).number _ (c.self.invariant.table (chunk_at rs i).number) (added.apart_across rs ks (added.apart_behind ls (rs ++ ks) apart) i inside))
 
 pub index_chunks-requires-2-clause-apart : goal.index_chunks-requires-2-clause-apart
 index_chunks-requires-2-clause-apart c =
@@ -27,7 +28,7 @@ index_chunks-requires-2-clause-apart c =
     let rs = c.right.inside.chunks.items in
     let ks = c.self.inside.chunks.items in
     let apart = rw (← c.left.view_is, ← c.right.view_is, ← c.self.view_is) at c.requires.apart in
-    rw c.as_slice-2.ensures (heap.apart_front ls (rs ++ ks) apart)
+    rw c.as_slice-2.ensures (added.apart_front ls (rs ++ ks) apart)
 
 pub index_chunks-requires-2-clause-new : goal.index_chunks-requires-2-clause-new
 index_chunks-requires-2-clause-new c = λ i l.
@@ -38,9 +39,9 @@ index_chunks-requires-2-clause-new c = λ i l.
     let right : c.len-3.result ≡ length c.right.inside.chunks.items = omega arith in
     let first = rw (c.as_slice.ensures, right) at c.index_chunks.ensures.places in
     let inside = rw c.as_slice-2.ensures at l in
-    let half = heap.table_front rs ks c.self.inside.base _ (get nat_eq c.index_chunks.new.table) c.self.invariant.table first in
+    let half = added.table_front rs ks c.self.inside.base _ (get nat_eq c.index_chunks.new.table) c.self.invariant.table first in
     rw c.as_slice-2.ensures
-    (heap.none_kept (rs ++ ks) (c.self.inside.base + length rs) (chunk_at ls i).number _ (half (chunk_at ls i).number) (heap.apart_across ls (rs ++ ks) apart i inside))
+    (added.none_kept (rs ++ ks) (c.self.inside.base + length rs) (chunk_at ls i).number _ (half (chunk_at ls i).number) (added.apart_across ls (rs ++ ks) apart i inside))
 
 pub invariant_of-self : goal.invariant_of-self
 invariant_of-self c =
@@ -60,7 +61,7 @@ invariant_of-self c =
     let lefts = rw c.as_slice-4.ensures at c.note_changes-2.ensures in
     let shown = lists.three c.self.inside.pieces _ _ c.left.inside.chunks.items c.right.inside.chunks.items c.self.inside.chunks.items rights lefts c.self.invariant.shown in
     rw (c.put_before-2.ensures.items, c.take-2.ensures.taken, c.put_before.ensures.items, c.take.ensures.taken, c.behind-self-inside.ensures, c.behind-self-inside-2.ensures, before, before-2, right, left)
-    (heap.merged_kept c.left.inside.chunks.items c.right.inside.chunks.items c.self.inside.chunks.items _ _ _ _ _ _ _ _ c.self.inside.base _ _ c.self.invariant
+    (added.merged_kept c.left.inside.chunks.items c.right.inside.chunks.items c.self.inside.chunks.items _ _ _ _ _ _ _ _ c.self.inside.base _ _ c.self.invariant
     c.left.invariant.words c.right.invariant.words c.left.invariant.within c.right.invariant.within (get nat_eq c.index_chunks.new.table) (get nat_eq c.index_chunks-2.new.table) _ _ _ refl first second each words _ _ objects small _ shown)
 
 pub returns : goal.returns
@@ -69,6 +70,6 @@ returns c =
     let right : c.len-2.result ≡ length c.right.inside.chunks.items = omega arith in
     let both = c.saturating_add.ensures in
     let all = c.saturating_add-self-inside.ensures in
-    let since : c.saturating_add-self-inside.result ≡ counted (c.self.inside.since + (c.left.inside.since + c.right.inside.since)) = omega arith in
+    let since : c.saturating_add-self-inside.result ≡ saturating_words (c.self.inside.since + (c.left.inside.since + c.right.inside.since)) = omega arith in
     rw (← c.left.view_is, ← c.right.view_is, ← c.self.view_is, c.put_before-2.ensures.items, c.take-2.ensures.taken, c.put_before.ensures.items, c.take.ensures.taken, c.behind-self-inside.ensures, c.behind-self-inside-2.ensures, left, right, since)
     (record { merged = refl })

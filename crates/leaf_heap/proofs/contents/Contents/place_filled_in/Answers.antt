@@ -1,4 +1,4 @@
-use Rattle.leaf_heap.proofs.Common.{◌≡◌, ◌+◌, ◌∙◌, ap, arith, refl, small_part, ChunkValue, filled_cell, size_of, counted, the_view}
+use Rattle.leaf_heap.proofs.Common.{◌≡◌, ◌+◌, ◌∙◌, ap, arith, refl, small_part, ChunkValue, filled_cell, size_of, saturating_words, the_view}
 use Rattle.frozen_views.proofs.PieceLists as lists
 use Rattle.leaf_heap.proofs.HeapLemmas as heap
 use Rattle.leaf_heap.proofs.Settled as settled
@@ -17,14 +17,14 @@ invariant_of-self c =
           let sum = rw w.self-inside-is at c.saturating_add-self-inside-2.ensures in
           rw (w.self-inside-is, c.write_filled.ensures)
           (heap.placed_kept (the_view c.self.inside) _ _ _ _ _ _ _ c.self.invariant c.args.i c.at_mut-chunk.result.now c.at_mut-chunk.ensures.value (filled_cell c.args.new.header c.args.new.birth c.args.refs.now c.args.ints.now) (λ n. refl) fits
-          _ (λ l. absurd (omega arith)) (λ l. refl) _ _ _ (rw size (sum ∙ omega arith)) (rw w.self-inside-is at c.saturating_add-self-inside-3.ensures) (rw w.self-inside-is at c.saturating_add-self-inside-4.ensures ∙ ap (λ n. counted (c.self.inside.small + n)) part)
+          _ (λ l. absurd (omega arith)) (λ l. refl) _ _ _ (rw size (sum ∙ omega arith)) (rw w.self-inside-is at c.saturating_add-self-inside-3.ensures) (rw w.self-inside-is at c.saturating_add-self-inside-4.ensures ∙ ap (λ n. saturating_words (c.self.inside.small + n)) part)
           _ (lists.changed _ _ c.self.inside.chunks.items c.args.i c.number-number.result _ c.at_mut-chunk.result.now (ap (λ (x : ChunkValue). x.number) c.at_mut-chunk.ensures.value) c.number-number.ensures c.note_change.ensures.noted c.self.invariant.shown))
       | else-words-gt-SMALL w ↦
           let less = w.if-words-gt-SMALL.false in
           let sum = rw w.self-inside-is at c.saturating_add-self-inside-2.ensures in
           rw (w.self-inside-is, c.write_filled.ensures)
           (heap.placed_kept (the_view c.self.inside) _ _ _ _ _ _ _ c.self.invariant c.args.i c.at_mut-chunk.result.now c.at_mut-chunk.ensures.value (filled_cell c.args.new.header c.args.new.birth c.args.refs.now c.args.ints.now) (λ n. refl) fits
-          _ (λ l. refl) (λ l. absurd (omega arith)) _ _ _ (rw size (sum ∙ omega arith)) (rw w.self-inside-is at c.saturating_add-self-inside-3.ensures) (rw w.self-inside-is at c.saturating_add-self-inside-4.ensures ∙ ap (λ n. counted (c.self.inside.small + n)) part)
+          _ (λ l. refl) (λ l. absurd (omega arith)) _ _ _ (rw size (sum ∙ omega arith)) (rw w.self-inside-is at c.saturating_add-self-inside-3.ensures) (rw w.self-inside-is at c.saturating_add-self-inside-4.ensures ∙ ap (λ n. saturating_words (c.self.inside.small + n)) part)
           _ (lists.changed _ _ c.self.inside.chunks.items c.args.i c.number-number.result _ c.at_mut-chunk.result.now (ap (λ (x : ChunkValue). x.number) c.at_mut-chunk.ensures.value) c.number-number.ensures c.note_change.ensures.noted c.self.invariant.shown))
     ]
 

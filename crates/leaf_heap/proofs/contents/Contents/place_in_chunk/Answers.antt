@@ -1,4 +1,4 @@
-use Rattle.leaf_heap.proofs.Common.{◌≡◌, ◌+◌, ◌∙◌, ap, arith, refl, small_part, new_cell, size_of, size_of-new, counted, the_view}
+use Rattle.leaf_heap.proofs.Common.{◌≡◌, ◌+◌, ◌∙◌, ap, arith, refl, small_part, new_cell, size_of, size_of-new, saturating_words, the_view}
 use Rattle.frozen_views.proofs.PieceLists as lists
 use Rattle.leaf_heap.proofs.HeapLemmas as heap
 use Rattle.leaf_heap.proofs.Settled as settled
@@ -17,14 +17,14 @@ invariant_of-self c =
           let sum = rw w.self-inside-is at c.saturating_add-self-inside-2.ensures in
           rw (w.self-inside-is, c.write_new.ensures)
           (heap.placed_kept (the_view c.self.inside) _ _ _ _ _ _ _ c.self.invariant c.args.i c.at_mut-chunk.result.now c.at_mut-chunk.ensures.value (new_cell c.args.new.header c.args.new.birth) (λ n. refl) fits
-          _ (λ l. absurd (omega arith)) (λ l. refl) _ _ _ (rw size (sum ∙ omega arith)) (rw w.self-inside-is at c.saturating_add-self-inside-3.ensures) (rw w.self-inside-is at c.saturating_add-self-inside-4.ensures ∙ ap (λ n. counted (c.self.inside.small + n)) part)
+          _ (λ l. absurd (omega arith)) (λ l. refl) _ _ _ (rw size (sum ∙ omega arith)) (rw w.self-inside-is at c.saturating_add-self-inside-3.ensures) (rw w.self-inside-is at c.saturating_add-self-inside-4.ensures ∙ ap (λ n. saturating_words (c.self.inside.small + n)) part)
           _ (lists.placed_shown _ _ c.self.inside.chunks.items c.self.invariant.shown c.args.i c.at_mut-chunk.result.now c.at_mut-chunk.ensures.value (new_cell c.args.new.header c.args.new.birth) c.number-number.result c.number-number.ensures c.args.new.header.mutable c.note_write.ensures refl))
       | else-words-gt-SMALL w ↦
           let less = w.if-words-gt-SMALL.false in
           let sum = rw w.self-inside-is at c.saturating_add-self-inside-2.ensures in
           rw (w.self-inside-is, c.write_new.ensures)
           (heap.placed_kept (the_view c.self.inside) _ _ _ _ _ _ _ c.self.invariant c.args.i c.at_mut-chunk.result.now c.at_mut-chunk.ensures.value (new_cell c.args.new.header c.args.new.birth) (λ n. refl) fits
-          _ (λ l. refl) (λ l. absurd (omega arith)) _ _ _ (rw size (sum ∙ omega arith)) (rw w.self-inside-is at c.saturating_add-self-inside-3.ensures) (rw w.self-inside-is at c.saturating_add-self-inside-4.ensures ∙ ap (λ n. counted (c.self.inside.small + n)) part)
+          _ (λ l. refl) (λ l. absurd (omega arith)) _ _ _ (rw size (sum ∙ omega arith)) (rw w.self-inside-is at c.saturating_add-self-inside-3.ensures) (rw w.self-inside-is at c.saturating_add-self-inside-4.ensures ∙ ap (λ n. saturating_words (c.self.inside.small + n)) part)
           _ (lists.placed_shown _ _ c.self.inside.chunks.items c.self.invariant.shown c.args.i c.at_mut-chunk.result.now c.at_mut-chunk.ensures.value (new_cell c.args.new.header c.args.new.birth) c.number-number.result c.number-number.ensures c.args.new.header.mutable c.note_write.ensures refl))
     ]
 

@@ -1,4 +1,4 @@
-use Rattle.mark_sweep_gc.proofs.Common.{◌≡◌, ◌∙◌, ◌++◌, ◌≤◌, ap, arith, filter, length, map, sym, subst, ℕ, List, Option, Addr, ChunkValue, AreCounted, HaveDistinctNumbers, LeafHeapValue, IsCurrent, IsReserved, IsSettled, number_at, place_at, stays, swept_chunk}
+use Rattle.mark_sweep_gc.proofs.Common.{◌≡◌, ◌∙◌, ◌++◌, ◌≤◌, ap, arith, filter, length, map, sym, subst, ℕ, List, Option, Addr, ChunkValue, AreCounted, HaveDistinctNumbers, LeafHeapValue, IsCurrent, IsReserved, IsSettled, chunk_number_at, place_at, stays, swept_chunk}
 use Rattle.mark_sweep_gc.proofs.Kept as kept
 use Rattle.mark_sweep_gc.proofs.marking.Marking.sweep_keeping.Goals as goal
 
@@ -28,10 +28,10 @@ put_chunks-requires-clause-current c =
     let o : Option ℕ = c.current.result in
     let place = c.place_of-filled.ensures
     ∙ (ap (λ (xs : List ChunkValue). place_at xs c.number_of-current.result) (c.deref.ensures.value ∙ is)
-    ∙ ap (place_at left) (c.number_of-current.ensures ∙ ap (λ (xs : List ChunkValue). number_at xs o) (c.chunks.ensures ∙ sym c.take_chunks-chunks.ensures.chunks))) in
+    ∙ ap (place_at left) (c.number_of-current.ensures ∙ ap (λ (xs : List ChunkValue). chunk_number_at xs o) (c.chunks.ensures ∙ sym c.take_chunks-chunks.ensures.chunks))) in
     let was = subst (λ (xs : List ChunkValue). IsCurrent xs o) (sym c.take_chunks-chunks.ensures.chunks) c.current.ensures.small in
     subst (λ (p : Option ℕ). IsCurrent c.part-units.new.left.items p) (sym place)
-    (subst (λ (xs : List ChunkValue). IsCurrent xs (place_at left (number_at ks o))) (sym is) (kept.now_current found reserved ks settled o was))
+    (subst (λ (xs : List ChunkValue). IsCurrent xs (place_at left (chunk_number_at ks o))) (sym is) (kept.now_current found reserved ks settled o was))
 
 pub put_chunks-requires-clause-reserved : goal.put_chunks-requires-clause-reserved
 put_chunks-requires-clause-reserved c =
@@ -45,10 +45,10 @@ put_chunks-requires-clause-reserved c =
     let o : Option ℕ = c.reserved.result in
     let place = c.place_of-kept.ensures
     ∙ (ap (λ (xs : List ChunkValue). place_at xs c.number_of-reserved.result) (c.deref-2.ensures.value ∙ is)
-    ∙ ap (place_at left) (c.number_of-reserved.ensures ∙ ap (λ (xs : List ChunkValue). number_at xs o) (c.chunks-2.ensures ∙ sym c.take_chunks-chunks.ensures.chunks))) in
+    ∙ ap (place_at left) (c.number_of-reserved.ensures ∙ ap (λ (xs : List ChunkValue). chunk_number_at xs o) (c.chunks-2.ensures ∙ sym c.take_chunks-chunks.ensures.chunks))) in
     let was = subst (λ (xs : List ChunkValue). IsReserved xs o) (sym c.take_chunks-chunks.ensures.chunks) c.reserved.ensures.empty in
     subst (λ (p : Option ℕ). IsReserved c.part-units.new.left.items p) (sym place)
-    (subst (λ (xs : List ChunkValue). IsReserved xs (place_at left (number_at ks o))) (sym is) (kept.now_reserved found reserved ks settled o was))
+    (subst (λ (xs : List ChunkValue). IsReserved xs (place_at left (chunk_number_at ks o))) (sym is) (kept.now_reserved found reserved ks settled o was))
 
 pub put_chunks-requires-clause-spare : goal.put_chunks-requires-clause-spare
 put_chunks-requires-clause-spare c =

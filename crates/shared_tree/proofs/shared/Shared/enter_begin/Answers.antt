@@ -1,8 +1,8 @@
-use Rattle.shared_tree.proofs.Common.{refl, ◌≡◌, ℕ, ◌-◌, ◌++◌, ◌∷◌, [], List, None, Some, map, arith, ap, sym, subst, ◌∙◌, ◌<◌, ReservedVecValue, EntryValue, Begin, small_words, ChunkValue, number_of, PoolValue, counted, with_places, Private, SharedValue, IsSharedValue, Fits, OthersFit, take_by, refused, HasBegun, roots_of, journal_by, begin_count, begin_few, begin_free, begins_apart, begins_fit, begins_idle, begins_with, begins_world, places_fit, the_view}
+use Rattle.shared_tree.proofs.Common.{refl, ◌≡◌, ℕ, ◌-◌, ◌++◌, ◌∷◌, [], List, None, Some, map, arith, ap, sym, subst, ◌∙◌, ◌<◌, ReservedVecValue, EntryValue, Begin, small_words, ChunkValue, number_of, PoolValue, saturating_words, with_places, Private, SharedValue, IsSharedValue, Fits, OthersFit, take_by, refused, HasBegun, roots_of, journal_by, begin_count, begin_few, begin_free, begins_apart, begins_fit, begins_idle, begins_with, begins_world, places_fit, the_view}
 use Rattle.shared_tree.proofs.shared.Shared.enter_begin.Goals as goal
 
 -- how many chunks the code takes
-counts : (n words : ℕ) (p : Private) → n ≡ take_by words → words ≡ counted (small_words p.heap.chunks) → n ≡ take_by (counted (small_words p.heap.chunks))
+counts : (n words : ℕ) (p : Private) → n ≡ take_by words → words ≡ saturating_words (small_words p.heap.chunks) → n ≡ take_by (saturating_words (small_words p.heap.chunks))
 counts n words p a b = a ∙ ap take_by b
 
 pub overflow_cast-count : goal.overflow_cast-count

@@ -1,4 +1,4 @@
-use Rattle.shared_tree.proofs.Common.{◌≡◌, ℕ, All, None, Option, fold, is_some, slice_get, true, refl, ap, sym, subst, ◌∙◌, ◌<◌, IsSome, ReservedVecValue, all_from, EntryValue, ChunkValue, PoolValue, slot_at, redirected, AreInOrder, ArePlaces, StandOnce, Moved, AreGiven, Private, Heaps, Resting, refs_in, with_ref_in, with_resting, SharedValue, IsSharedValue, Fits, OthersFit, Enters, refused, heaps_of, sources_of, journal_by, FitsCopied, end_entry, ended, are_fields, back_in_use, fits_so, has_slot, others_so, pool_same, world_so, the_view}
+use Rattle.shared_tree.proofs.Common.{◌≡◌, ℕ, All, None, Option, fold, is_some, slice_get, true, refl, ap, sym, subst, ◌∙◌, ◌<◌, IsSome, ReservedVecValue, all_from, EntryValue, ChunkValue, PoolValue, slot_at, redirected, AreInOrder, ArePlaces, StandOnce, Moved, AreGiven, Private, Heaps, Resting, resting_references, with_ref_in, with_resting, SharedValue, IsSharedValue, Fits, OthersFit, Enters, refused, heaps_of, sources_of, journal_by, FitsCopied, end_entry, without_collection, are_fields, back_in_use, fits_so, has_slot, others_so, pool_same, world_so, the_view}
 use Rattle.shared_tree.proofs.shared.Shared.enter_leaf_end.Goals as goal
 
 some_is : {A : Type 0} (o : Option A) → is_some o ≡ true → IsSome o
@@ -6,7 +6,7 @@ some_is o e = e
 
 -- the heaps after the fields are updated
 abbrev led_heaps : SharedValue → Private → Moved → Resting
-led_heaps w p m = fold (redirected refs_in with_ref_in m.moved.items) (heaps_of w) (sources_of (slice_get w.sets p.task))
+led_heaps w p m = fold (redirected resting_references with_ref_in m.moved.items) (heaps_of w) (sources_of (slice_get w.sets p.task))
 
 pub lead-requires-clause-made : goal.lead-requires-clause-made
 lead-requires-clause-made c =
@@ -36,7 +36,7 @@ give_all-requires-clause-in_use c =
     let m : Moved = c.args.moved in
     let F : FitsCopied w k p m = subst (λ (z : SharedValue). FitsCopied z k p m) (sym c.self.view_is) c.requires.fits in
     let free : refused w (end_entry k p m) ≡ None = subst (λ (z : SharedValue). refused z (end_entry k p m) ≡ None) (sym c.self.view_is) c.requires.free in
-    let led : c.lead.new.heaps ≡ with_resting c.self.inside.heaps (led_heaps w p m) = c.lead.ensures.led ∙ ap (λ ms. with_resting c.self.inside.heaps (fold (redirected refs_in with_ref_in ms) (heaps_of w) (sources_of (slice_get w.sets p.task)))) c.deref.ensures.value in
+    let led : c.lead.new.heaps ≡ with_resting c.self.inside.heaps (led_heaps w p m) = c.lead.ensures.led ∙ ap (λ ms. with_resting c.self.inside.heaps (fold (redirected resting_references with_ref_in ms) (heaps_of w) (sources_of (slice_get w.sets p.task)))) c.deref.ensures.value in
     let once : StandOnce (sources_of (slice_get w.sets p.task)) = c.lead.ensures.once in
     let pool : c.lead.new.heaps.pool ≡ w.pool = ap (λ (h : Heaps). h.pool) led in
     subst (λ (z : PoolValue). All (λ (b : ChunkValue). IsSome (slot_at z b.number)) m.back.items) (sym pool) (all_from (λ (b : ChunkValue). IsSome (slot_at w.pool b.number)) m.back.items (λ b i. some_is (slot_at w.pool b.number) (back_in_use w k p m c.self.invariant F free b i)))
@@ -49,7 +49,7 @@ invariant_of-self c =
     let m : Moved = c.args.moved in
     let F : FitsCopied w k p m = subst (λ (z : SharedValue). FitsCopied z k p m) (sym c.self.view_is) c.requires.fits in
     let free : refused w (end_entry k p m) ≡ None = subst (λ (z : SharedValue). refused z (end_entry k p m) ≡ None) (sym c.self.view_is) c.requires.free in
-    let led : c.lead.new.heaps ≡ with_resting c.self.inside.heaps (led_heaps w p m) = c.lead.ensures.led ∙ ap (λ ms. with_resting c.self.inside.heaps (fold (redirected refs_in with_ref_in ms) (heaps_of w) (sources_of (slice_get w.sets p.task)))) c.deref.ensures.value in
+    let led : c.lead.new.heaps ≡ with_resting c.self.inside.heaps (led_heaps w p m) = c.lead.ensures.led ∙ ap (λ ms. with_resting c.self.inside.heaps (fold (redirected resting_references with_ref_in ms) (heaps_of w) (sources_of (slice_get w.sets p.task)))) c.deref.ensures.value in
     let once : StandOnce (sources_of (slice_get w.sets p.task)) = c.lead.ensures.once in
     let given : AreGiven (led_heaps w p m).pool c.give_all.new.pool m.back.items = subst (λ (z : PoolValue). AreGiven z c.give_all.new.pool m.back.items) (ap (λ (h : Heaps). h.pool) led ∙ sym (pool_same w k p m c.self.invariant F free (led_heaps w p m) refl once)) c.give_all.ensures in
     subst (λ (h : Heaps). IsSharedValue (record w { pool = c.give_all.new.pool; rests = h.task_slots.rests; sets = h.task_slots.sets; marks = h.task_slots.marks; journal = c.push_reserved.new.self })) (sym led)
@@ -63,10 +63,10 @@ returns-clause-fits c =
     let m : Moved = c.args.moved in
     let F : FitsCopied w k p m = subst (λ (z : SharedValue). FitsCopied z k p m) (sym c.self.view_is) c.requires.fits in
     let free : refused w (end_entry k p m) ≡ None = subst (λ (z : SharedValue). refused z (end_entry k p m) ≡ None) (sym c.self.view_is) c.requires.free in
-    let led : c.lead.new.heaps ≡ with_resting c.self.inside.heaps (led_heaps w p m) = c.lead.ensures.led ∙ ap (λ ms. with_resting c.self.inside.heaps (fold (redirected refs_in with_ref_in ms) (heaps_of w) (sources_of (slice_get w.sets p.task)))) c.deref.ensures.value in
+    let led : c.lead.new.heaps ≡ with_resting c.self.inside.heaps (led_heaps w p m) = c.lead.ensures.led ∙ ap (λ ms. with_resting c.self.inside.heaps (fold (redirected resting_references with_ref_in ms) (heaps_of w) (sources_of (slice_get w.sets p.task)))) c.deref.ensures.value in
     let once : StandOnce (sources_of (slice_get w.sets p.task)) = c.lead.ensures.once in
     let given : AreGiven (led_heaps w p m).pool c.give_all.new.pool m.back.items = subst (λ (z : PoolValue). AreGiven z c.give_all.new.pool m.back.items) (ap (λ (h : Heaps). h.pool) led ∙ sym (pool_same w k p m c.self.invariant F free (led_heaps w p m) refl once)) c.give_all.ensures in
-    subst (λ (h : Heaps). Fits (record w { pool = c.give_all.new.pool; rests = h.task_slots.rests; sets = h.task_slots.sets; marks = h.task_slots.marks; journal = c.push_reserved.new.self }) k (ended p)) (sym led)
+    subst (λ (h : Heaps). Fits (record w { pool = c.give_all.new.pool; rests = h.task_slots.rests; sets = h.task_slots.sets; marks = h.task_slots.marks; journal = c.push_reserved.new.self }) k (without_collection p)) (sym led)
     (fits_so w k p m c.self.invariant F free (led_heaps w p m) refl once c.give_all.new.pool given c.push_reserved.new.self (journal_by w.journal _ _ (end_entry k p m) c.new.ensures c.push_reserved.ensures))
 
 pub returns-clause-others : goal.returns-clause-others
@@ -77,7 +77,7 @@ returns-clause-others c =
     let m : Moved = c.args.moved in
     let F : FitsCopied w k p m = subst (λ (z : SharedValue). FitsCopied z k p m) (sym c.self.view_is) c.requires.fits in
     let free : refused w (end_entry k p m) ≡ None = subst (λ (z : SharedValue). refused z (end_entry k p m) ≡ None) (sym c.self.view_is) c.requires.free in
-    let led : c.lead.new.heaps ≡ with_resting c.self.inside.heaps (led_heaps w p m) = c.lead.ensures.led ∙ ap (λ ms. with_resting c.self.inside.heaps (fold (redirected refs_in with_ref_in ms) (heaps_of w) (sources_of (slice_get w.sets p.task)))) c.deref.ensures.value in
+    let led : c.lead.new.heaps ≡ with_resting c.self.inside.heaps (led_heaps w p m) = c.lead.ensures.led ∙ ap (λ ms. with_resting c.self.inside.heaps (fold (redirected resting_references with_ref_in ms) (heaps_of w) (sources_of (slice_get w.sets p.task)))) c.deref.ensures.value in
     let once : StandOnce (sources_of (slice_get w.sets p.task)) = c.lead.ensures.once in
     let given : AreGiven (led_heaps w p m).pool c.give_all.new.pool m.back.items = subst (λ (z : PoolValue). AreGiven z c.give_all.new.pool m.back.items) (ap (λ (h : Heaps). h.pool) led ∙ sym (pool_same w k p m c.self.invariant F free (led_heaps w p m) refl once)) c.give_all.ensures in
     subst (λ (z : SharedValue). OthersFit z (record w { pool = c.give_all.new.pool; rests = c.lead.new.heaps.task_slots.rests; sets = c.lead.new.heaps.task_slots.sets; marks = c.lead.new.heaps.task_slots.marks; journal = c.push_reserved.new.self }) k) c.self.view_is

@@ -97,9 +97,10 @@ module _ (c : goal.After-part-1) where
       let noted = c.in_ok-write_reference.ensures.noted target foreign.rest foreign.place.chunk foreign.there in
       let space : ReservedVecValue EntryValue = record { items = []; room = v.journal.room - 1 } in
       along v k part _ _ c.enter_alone.ensures.steps c.enter_alone.ensures.journal (λ n j. IsSharedValue (with_heaps v h n j) × GoesAlone v (with_heaps v h n j) k part went)
-      (subst (λ (z : SharedValue). IsSharedValue z × GoesAlone v z k part went) (written_by v (v.steps + (part.fresh + 1)) (entered v k part) h _ h.task_slots.sets c.write_reference.ensures.pool c.write_reference.ensures.marks rests refl)
-      (entries.store_world (asks b) c.args.swap c.args.object c.args.field c.args.value (stores b).0 (stores b).1 h.task_slots.sets c.write_reference.ensures.many noted space,
-      entries.store_goes (asks b) c.args.swap c.args.object c.args.field c.args.value (stores b).0 (stores b).1 h.task_slots.sets c.write_reference.ensures.many noted space))
+      (subst (λ (z : SharedValue). IsSharedValue z × GoesAlone v z k part went) (written_by v (v.steps + (part.fresh + 1)) (entered v k part) h _ h.task_slots.sets c.write_reference.ensures.pool c.write_reference.ensures.marks rests refl) (
+        entries.store_world (asks b) c.args.swap c.args.object c.args.field c.args.value (stores b).0 (stores b).1 h.task_slots.sets c.write_reference.ensures.many noted space,
+        entries.store_goes (asks b) c.args.swap c.args.object c.args.field c.args.value (stores b).0 (stores b).1 h.task_slots.sets c.write_reference.ensures.many noted space,
+      ))
 
 pub invariant_of-self-2 : goal.invariant_of-self-2
 invariant_of-self-2 c = (both c).0

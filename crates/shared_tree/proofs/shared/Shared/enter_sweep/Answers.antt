@@ -62,9 +62,10 @@ module _ (c : goal.After-push_reserved) where
   both =
       let many : length new.sets ≡ length w.sets = c.forget_kept.ensures.many ∙ ap length sets in
       let none = c.forget_kept.ensures.none ∙ ap (λ xs. option_map (keeping false) (content_at xs t)) sets in
-      let journal = journal_by w.journal _ _ (record { worker = k; kind = Sweep t n }) c.new.ensures c.push_reserved.ensures in
-      (world_so w k t n c.self.invariant free new.rests c.drop_unmarked.new.heaps.pool swept new.marks marks new.sets many none others c.push_reserved.new.self journal,
-      fits_so w k t n c.self.invariant free new.rests c.drop_unmarked.new.heaps.pool swept new.marks marks new.sets many none others c.push_reserved.new.self journal)
+      let journal = journal_by w.journal _ _ (record { worker = k; kind = Sweep t n }) c.new.ensures c.push_reserved.ensures in (
+        world_so w k t n c.self.invariant free new.rests c.drop_unmarked.new.heaps.pool swept new.marks marks new.sets many none others c.push_reserved.new.self journal,
+        fits_so w k t n c.self.invariant free new.rests c.drop_unmarked.new.heaps.pool swept new.marks marks new.sets many none others c.push_reserved.new.self journal,
+      )
 
 pub invariant_of-self : goal.invariant_of-self
 invariant_of-self c = (both c).0

@@ -1,4 +1,4 @@
-use Rattle.shared_tree.proofs.Common.{◌≡◌, ℕ, true, false, Option, Some, None, is_some, option_copied, refl, ap, sym, subst, ◌∙◌, Bor, Mark, heap_of, words_in, counted, first_cause, refused, SharedValue, accounts, marks_at, IsSharedValue, first_answer, waiting_cause, words_cause, mark_as_marking, mark_as_waiting, mark_as_words, the_view}
+use Rattle.shared_tree.proofs.Common.{◌≡◌, ℕ, true, false, Option, Some, None, is_some, option_copied, refl, ap, sym, subst, ◌∙◌, Bor, Mark, heap_of, words_in, saturating_words, first_cause, refused, SharedValue, accounts, marks_at, IsSharedValue, first_answer, waiting_cause, words_cause, mark_as_marking, mark_as_waiting, mark_as_words, the_view}
 use Rattle.shared_tree.proofs.shared.Shared.mark_refused.Goals as goal
 
 -- a reference exists if what it leads to does
@@ -53,7 +53,7 @@ returns c =
     c.waiting_cause-waiting.ensures ∙ ap (λ (y : SharedValue). waiting_cause y t) c.self.view_is in
     let marks : is_some (marks_at z.marks t) ≡ c.is_some-3.result =
     ap (λ (y : SharedValue). is_some (marks_at y.marks t)) (sym c.self.view_is) ∙ (ap is_some (sym c.marking.ensures) ∙ (some_copied c.marking.result ∙ sym c.is_some-3.ensures)) in
-    let words : ℕ = counted (words_in (accounts z).machine (heap_of (accounts z) t)) in
+    let words : ℕ = saturating_words (words_in (accounts z).machine (heap_of (accounts z) t)) in
     c.words_cause.ensures
     ∙ (ap (words_cause c.self.inside.settings) c.words_at.ensures
     ∙ (ap (λ (y : SharedValue). words_cause y.settings words) c.self.view_is

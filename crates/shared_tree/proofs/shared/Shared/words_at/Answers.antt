@@ -1,4 +1,4 @@
-use Rattle.shared_tree.proofs.Common.{◌≡◌, ℕ, Some, None, option_copied, ap, sym, ◌∙◌, heap_of, words_in, counted, SharedValue, accounts, rest_at, waiting_cause, words_now, the_view}
+use Rattle.shared_tree.proofs.Common.{◌≡◌, ℕ, Some, None, option_copied, ap, sym, ◌∙◌, heap_of, words_in, saturating_words, SharedValue, accounts, rest_at, waiting_cause, words_now, the_view}
 use Rattle.heap_marking.proofs.WaitingSlot.{never_gone}
 use Rattle.shared_tree.proofs.shared.Shared.words_at.Goals as goal
 
@@ -18,5 +18,5 @@ returns c =
     let free : waiting_cause w t ≡ None = ap (λ (z : SharedValue). waiting_cause z t) c.self.view_is ∙ c.requires.waits in
     let there : rest_at w.rests t ≡ Some c.in-Some.rest.now = sym c.rest.ensures ∙ ap option_copied c.in-Some.is in
     c.words.ensures
-    ∙ (ap counted (sym (words_now w c.self.invariant t on free c.in-Some.rest.now there))
-    ∙ ap (λ (z : SharedValue). counted (words_in (accounts z).machine (heap_of (accounts z) t))) c.self.view_is)
+    ∙ (ap saturating_words (sym (words_now w c.self.invariant t on free c.in-Some.rest.now there))
+    ∙ ap (λ (z : SharedValue). saturating_words (words_in (accounts z).machine (heap_of (accounts z) t))) c.self.view_is)

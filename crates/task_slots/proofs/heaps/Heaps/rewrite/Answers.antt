@@ -1,4 +1,4 @@
-use Rattle.task_slots.proofs.Common.{rules, ◌≡◌, ℕ, true, false, Option, Some, List, fold, slice_get, slice_set, ap, subst, sym, ◌∙◌, RefField, redirected, StandOnce, SetOf, bare, Heaps, TaskSlotsValue, sources_of, Resting, refs_in, resting, with_ref_in, with_resting}
+use Rattle.task_slots.proofs.Common.{rules, ◌≡◌, ℕ, true, false, Option, Some, List, fold, slice_get, slice_set, ap, subst, sym, ◌∙◌, RefField, redirected, StandOnce, SetOf, bare, Heaps, TaskSlotsValue, sources_of, Resting, resting_references, resting, with_ref_in, with_resting}
 use Rattle.task_slots.proofs.Led.{led_rest}
 use Rattle.task_slots.proofs.Places.{set_back}
 use Rattle.task_slots.proofs.heaps.Heaps.rewrite.Goals as goal
@@ -20,7 +20,7 @@ returns-then-has_block-clause-led c =
     let e = c.rewrite.ensures.led ∙ led_rest c.args.moved.now H ss in
     let q : TaskSlotsValue → List RefField → Heaps = λ w xs. record {
       task_slots = record w {
-        rests = (fold (redirected refs_in with_ref_in c.args.moved.now) (let r : Resting = record { rests = w.rests; pool = old.pool } in r) xs).rests;
+        rests = (fold (redirected resting_references with_ref_in c.args.moved.now) (let r : Resting = record { rests = w.rests; pool = old.pool } in r) xs).rests;
         sets = slice_set w.sets t set;
       };
       pool = old.pool;
@@ -29,7 +29,7 @@ returns-then-has_block-clause-led c =
     ∙ (ap (λ (h : Heaps). record h { task_slots = record h.task_slots { sets = slice_set h.task_slots.sets t set } }) e
     ∙ (ap (λ (w : TaskSlotsValue). q w ss) c.take_set-set.ensures.task_slots
     ∙ (ap (λ (xs : List SetOf). record (q old.task_slots ss) { task_slots = record (q old.task_slots ss).task_slots { sets = xs } }) (set_back old.task_slots.sets t set (bare false) c.take_set-set.ensures.set)
-    ∙ ap (λ xs. with_resting old (fold (redirected refs_in with_ref_in c.args.moved.now) (resting old) xs)) (sym (ap sources_of c.take_set-set.ensures.set)))))
+    ∙ ap (λ xs. with_resting old (fold (redirected resting_references with_ref_in c.args.moved.now) (resting old) xs)) (sym (ap sources_of c.take_set-set.ensures.set)))))
 
 pub returns-then-has_block-clause-once : goal.returns-then-has_block-clause-once
 returns-then-has_block-clause-once c = subst (λ (s : Option SetOf). StandOnce (sources_of s)) (sym c.take_set-set.ensures.set) c.rewrite.ensures.once

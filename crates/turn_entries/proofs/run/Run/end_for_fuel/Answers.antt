@@ -1,11 +1,11 @@
-use Rattle.turn_entries.proofs.Common.{ap, sym, ◌∙◌, is_some, Fuel, Ledger, not_refused, cause_of, entered_accounts}
+use Rattle.turn_entries.proofs.Common.{ap, sym, ◌∙◌, is_some, Fuel, Ledger, not_refused, refusal_of_result, entered_accounts}
 use Rattle.turn_entries.proofs.Free.{fuel_free}
 use Rattle.turn_entries.proofs.Turning.{one_of_all}
 use Rattle.turn_entries.proofs.run.Run.end_for_fuel.Goals as goal
 
 pub unreachable-requires : goal.unreachable-requires
 unreachable-requires g c =
-    not_refused _ c.in-Err.field-0 (fuel_free (g.P.EntryCalls.value c.args.self.paced) c.args.worker c.stands.ensures.stands c.requires.goes c.requires.worker c.requires.spent) (sym c.fuel.ensures.refused ∙ ap cause_of c.in-Err.is)
+    not_refused _ c.in-Err.field-0 (fuel_free (g.P.EntryCalls.value c.args.self.paced) c.args.worker c.stands.ensures.stands c.requires.goes c.requires.worker c.requires.spent) (sym c.fuel.ensures.refused ∙ ap refusal_of_result c.in-Err.is)
 
 pub returns : goal.returns
 returns g c = λ ready.

@@ -1,4 +1,4 @@
-use Rattle.turn_entries.proofs.Common.{◌≡◌, ap, sym, subst, ◌∙◌, Kind, End, not_refused, Private, Enters, refused, FitsCopied, end_entry, ended, end_free, end_cause}
+use Rattle.turn_entries.proofs.Common.{◌≡◌, ap, sym, subst, ◌∙◌, Kind, End, not_refused, Private, Enters, refused, FitsCopied, end_entry, without_collection, end_free, end_cause}
 use Rattle.turn_entries.proofs.Going.{may_ended}
 use Rattle.turn_entries.proofs.Paying.{pays_nothing}
 use Rattle.turn_entries.proofs.Turning.{one}
@@ -22,7 +22,7 @@ returns g c = λ ready.
     (λ on. (
       on,
       may_ended (g.P.EntryCalls.value c.leaf_end.new.self) c.args.worker c.args.copied.part c.leaf_end.new.part (g.P.EntryCalls.value c.args.self.paced) c.args.copied.moved c.in-Ok.ensures.fits c.requires.fits
-          (subst (λ (q : Private). c.leaf_end.new.part ≡ ended q) c.get_mut.ensures.value c.in-Ok.ensures.part),
+          (subst (λ (q : Private). c.leaf_end.new.part ≡ without_collection q) c.get_mut.ensures.value c.in-Ok.ensures.part),
     ))
 
 pub leaf_end-requires-clause-room : goal.leaf_end-requires-clause-room

@@ -1,11 +1,11 @@
-use Rattle.turn_entries.proofs.Common.{ap, sym, ◌∙◌, Kind, More, not_refused, cause_of}
+use Rattle.turn_entries.proofs.Common.{ap, sym, ◌∙◌, Kind, More, not_refused, refusal_of_result}
 use Rattle.turn_entries.proofs.Free.{more_free}
 use Rattle.turn_entries.proofs.Paying.{pays_more}
 use Rattle.turn_entries.proofs.Turning.{one_of_all}
 use Rattle.turn_entries.proofs.run.Run.pay_more.Goals as goal
 
 pub unreachable-requires : goal.unreachable-requires
-unreachable-requires g c = not_refused _ c.in-Err.field-0 (more_free (g.P.EntryCalls.value c.args.self.paced) c.args.worker c.args.task c.stands.ensures.stands c.requires.enter.free c.requires.enter.owed) (sym c.mark_objects.ensures.refused ∙ ap cause_of c.in-Err.is)
+unreachable-requires g c = not_refused _ c.in-Err.field-0 (more_free (g.P.EntryCalls.value c.args.self.paced) c.args.worker c.args.task c.stands.ensures.stands c.requires.enter.free c.requires.enter.owed) (sym c.mark_objects.ensures.refused ∙ ap refusal_of_result c.in-Err.is)
 
 pub returns : goal.returns
 returns g c =

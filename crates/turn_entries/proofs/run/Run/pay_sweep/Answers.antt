@@ -1,4 +1,4 @@
-use Rattle.turn_entries.proofs.Common.{ℕ, Some, subst, ap, sym, ◌∙◌, Kind, Sweep, not_refused, cause_of, ActsFor}
+use Rattle.turn_entries.proofs.Common.{ℕ, Some, subst, ap, sym, ◌∙◌, Kind, Sweep, not_refused, refusal_of_result, ActsFor}
 use Rattle.turn_entries.proofs.Free.{sweep_free}
 use Rattle.turn_entries.proofs.Paying.{pays_sweep, sweep_is_owed}
 use Rattle.turn_entries.proofs.Turning.{one_of_all}
@@ -15,7 +15,7 @@ would_give-given-requires-clause-none_left g c = (sweep_is_owed (g.P.EntryCalls.
 
 pub unreachable-requires : goal.unreachable-requires
 unreachable-requires g c =
-    not_refused _ c.in-Err.field-0 (sweep_free (g.P.EntryCalls.value c.args.self.paced) c.args.worker c.args.task c.stands.ensures.stands c.requires.enter.free c.would_give-given.result c.requires.enter.owed c.would_give-given.ensures) (sym c.sweep.ensures.refused ∙ ap cause_of c.in-Err.is)
+    not_refused _ c.in-Err.field-0 (sweep_free (g.P.EntryCalls.value c.args.self.paced) c.args.worker c.args.task c.stands.ensures.stands c.requires.enter.free c.would_give-given.result c.requires.enter.owed c.would_give-given.ensures) (sym c.sweep.ensures.refused ∙ ap refusal_of_result c.in-Err.is)
 
 pub returns : goal.returns
 returns g c =

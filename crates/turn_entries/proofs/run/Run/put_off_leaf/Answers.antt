@@ -1,4 +1,4 @@
-use Rattle.turn_entries.proofs.Common.{◌≡◌, ap, sym, subst, ◌∙◌, PutOff, not_refused, Private, cause_of, Enters, refused, Fits}
+use Rattle.turn_entries.proofs.Common.{◌≡◌, ap, sym, subst, ◌∙◌, PutOff, not_refused, Private, refusal_of_result, Enters, refused, Fits}
 use Rattle.turn_entries.proofs.Free.{put_off_free}
 use Rattle.turn_entries.proofs.Going.{may_heap}
 use Rattle.turn_entries.proofs.Paying.{pays_nothing}
@@ -11,7 +11,7 @@ put_off-requires-clause-fits g c = subst (Fits (g.P.EntryCalls.value c.args.self
 pub unreachable-requires : goal.unreachable-requires
 unreachable-requires g c =
     not_refused _ c.in-Err.field-0 (put_off_free (g.P.EntryCalls.value c.args.self.paced) c.args.worker c.args.part c.stands.ensures.stands c.requires.enter.free c.requires.paused.may.fits c.requires.paused.may.idle c.requires.fresh c.requires.enter.goes c.requires.paused c.requires.short)
-    (ap (λ (q : Private). refused (g.P.EntryCalls.value c.args.self.paced) (record { worker = c.args.worker; kind = PutOff q.task })) (sym c.get_mut.ensures.value) ∙ (sym c.put_off.ensures.refused ∙ ap cause_of c.in-Err.is))
+    (ap (λ (q : Private). refused (g.P.EntryCalls.value c.args.self.paced) (record { worker = c.args.worker; kind = PutOff q.task })) (sym c.get_mut.ensures.value) ∙ (sym c.put_off.ensures.refused ∙ ap refusal_of_result c.in-Err.is))
 
 pub returns : goal.returns
 returns g c = λ ready.

@@ -1,4 +1,4 @@
-use Rattle.turn_entries.proofs.Common.{refl, ap, sym, subst, ◌∙◌, is_some, Took, cause_of, MayRun, is_over}
+use Rattle.turn_entries.proofs.Common.{refl, ap, sym, subst, ◌∙◌, is_some, Took, refusal_of_result, MayRun, is_over}
 use Rattle.turn_entries.proofs.Going.{may}
 use Rattle.turn_entries.proofs.Paying.{pays_nothing}
 use Rattle.turn_entries.proofs.Turning.{not_over, one, unchanged}
@@ -16,7 +16,7 @@ returns-in-Err g c = λ ready. (
     ap is_over c.in-Err.ensures.same ∙ not_over (g.P.EntryCalls.value c.args.self.paced) c.requires.enter.on c.requires.enter.goes,
     c.args.task,
     refl,
-    ap is_some (sym c.took.ensures.refused ∙ ap cause_of c.in-Err.is),
+    ap is_some (sym c.took.ensures.refused ∙ ap refusal_of_result c.in-Err.is),
   ),
 )
 
