@@ -8,12 +8,19 @@ use Rattle.copying_gc.proofs.Rebuilt.{marked_chunk, NoneThere, none_at}
 use Rattle.copying_gc.proofs.Naming as naming
 use Rattle.copying_gc.proofs.Tidied as tidied
 
-module _ (h g : List ChunkValue) (ss : List Survivor) (news : List ChunkValue) (r : Option ℕ) (laid : List ChunkValue)
-    (vacated : IsVacated h g (olds ss) (redirection h ss (reverse news))) (tidy : AreTidy h) (apart : HaveDistinctNumbers (h ++ news)) (new : AreNew news)
-    (once : Once (olds ss)) (names : HaveNames h ss) (reserved : IsReserved g r)
-    (is : laid ≡ map (led_chunk (redirection h ss (reverse news))) (laying_of h ss (reverse news)).laid) where
+-- the chunks h after the survivors ss were evacuated to new ones: g of those that were there, and laid
+pub record AreEvacuated (h g : List ChunkValue) (ss : List Survivor) (news laid : List ChunkValue) : Type 0 where
+  pub vacated : IsVacated h g (olds ss) (redirection h ss (reverse news))
+  pub tidy : AreTidy h
+  pub apart : HaveDistinctNumbers (h ++ news)
+  pub new : AreNew news
+  pub once : Once (olds ss)
+  pub names : HaveNames h ss
+  pub placed : laid ≡ map (led_chunk (redirection h ss (reverse news))) (laying_of h ss (reverse news)).laid
+
+module _ {h g : List ChunkValue} {ss : List Survivor} {news laid : List ChunkValue} (are : AreEvacuated h g ss news laid) (r : Option ℕ) (reserved : IsReserved g r) where
   all_once : Distinct (numbers h ++ numbers news)
-  all_once = subst Distinct (nums.numbers_append h news) (nums.apart_distinct (h ++ news) apart)
+  all_once = subst Distinct (nums.numbers_append h news) (nums.apart_distinct (h ++ news) are.apart)
 
   once_h : Distinct (numbers h)
   once_h = nums.distinct_left (numbers h) (numbers news) all_once
@@ -22,7 +29,7 @@ module _ (h g : List ChunkValue) (ss : List Survivor) (news : List ChunkValue) (
   once_news = nums.distinct_reverse news (nums.distinct_right (numbers h) (numbers news) all_once)
 
   laid_numbers : numbers laid ≡ numbers (laying_of h ss (reverse news)).laid
-  laid_numbers = ap numbers is ∙ nums.numbers_of_map (led_chunk (redirection h ss (reverse news))) (λ k. refl) (laying_of h ss (reverse news)).laid
+  laid_numbers = ap numbers are.placed ∙ nums.numbers_of_map (led_chunk (redirection h ss (reverse news))) (λ k. refl) (laying_of h ss (reverse news)).laid
 
   laid_parts : numbers (laying_of h ss (reverse news)).laid ++ numbers (laying_of h ss (reverse news)).spare ≡ numbers (reverse news)
   laid_parts = new_numbers.laid_numbers (nothing_laid (reverse news)) h (smalls h (olds ss))
@@ -37,13 +44,13 @@ module _ (h g : List ChunkValue) (ss : List Survivor) (news : List ChunkValue) (
 
   within_before : (o : Option ℕ) → Within g o → Within h o
   within_before None w = tt
-  within_before (Some i) w = let n = nums.alike_length h g vacated.alike in let l : i < length g = w in omega arith
+  within_before (Some i) w = let n = nums.alike_length h g are.vacated.alike in let l : i < length g = w in omega arith
 
   within : Within h r
   within = within_before r (within_at g r reserved)
 
   reserved_is : reserved_of g r ≡ reserved_of h r
-  reserved_is = rebuilt.reserved_same h g r vacated.alike (none_at g r reserved)
+  reserved_is = rebuilt.reserved_same h g r are.vacated.alike (none_at g r reserved)
 
   none_before : (o : Option ℕ) → reserved_of g o ≡ reserved_of h o → NoneThere g o → NoneThere h o
   none_before None e n = tt
@@ -51,7 +58,7 @@ module _ (h g : List ChunkValue) (ss : List Survivor) (news : List ChunkValue) (
 
   pairs : rebuilt.ArePairs ss (redirection h ss (reverse news)) (unreserved h r) (unreserved g r)
   pairs = rebuilt.pairs_unreserved ss (redirection h ss (reverse news)) h g r
-      (rebuilt.pairs ss (redirection h ss (reverse news)) h g vacated.alike tidy once_h (λ a i. (vacated.large a, vacated.others a)))
+      (rebuilt.pairs ss (redirection h ss (reverse news)) h g are.vacated.alike are.tidy once_h (λ a i. (are.vacated.large a, are.vacated.others a)))
 
   stay_is : filter stays (unreserved g r) ≡ map (marked_chunk ss (redirection h ss (reverse news))) (filter (keeps ss) (unreserved h r))
   stay_is = rebuilt.stay_same ss (redirection h ss (reverse news)) (unreserved h r) (unreserved g r) pairs
@@ -59,20 +66,20 @@ module _ (h g : List ChunkValue) (ss : List Survivor) (news : List ChunkValue) (
   pub go_is : map emptied (filter goes (unreserved g r)) ≡ map emptied (filter (leaves ss) (unreserved h r))
   go_is = rebuilt.go_same ss (redirection h ss (reverse news)) (unreserved h r) (unreserved g r) pairs
 
-  now_is : laid ++ (filter stays (unreserved g r) ++ reserved_of g r) ≡ naming.Now h ss (redirection h ss (reverse news)) r laid tidy once_h once names laid_apart laid_once within (none_before r reserved_is (none_at g r reserved))
+  now_is : laid ++ (filter stays (unreserved g r) ++ reserved_of g r) ≡ naming.Now h ss (redirection h ss (reverse news)) r laid are.tidy once_h are.once are.names laid_apart laid_once within (none_before r reserved_is (none_at g r reserved))
   now_is = ap (λ (xs : List ChunkValue). laid ++ (xs ++ reserved_of g r)) stay_is ∙ ap (λ (xs : List ChunkValue). laid ++ (map (marked_chunk ss (redirection h ss (reverse news))) (filter (keeps ss) (unreserved h r)) ++ xs)) reserved_is
 
   pub now_apart : HaveDistinctNumbers (laid ++ (filter stays (unreserved g r) ++ reserved_of g r))
-  now_apart = subst HaveDistinctNumbers (sym now_is) (nums.distinct_apart _ (naming.now_once h ss (redirection h ss (reverse news)) r laid tidy once_h once names laid_apart laid_once within (none_before r reserved_is (none_at g r reserved))))
+  now_apart = subst HaveDistinctNumbers (sym now_is) (nums.distinct_apart _ (naming.now_once h ss (redirection h ss (reverse news)) r laid are.tidy once_h are.once are.names laid_apart laid_once within (none_before r reserved_is (none_at g r reserved))))
 
   pub can_name : CanName (laid ++ (filter stays (unreserved g r) ++ reserved_of g r)) ss
-  can_name = subst (λ (ks : List ChunkValue). CanName ks ss) (sym now_is) (naming.ready h ss (redirection h ss (reverse news)) r laid tidy once_h once names laid_apart laid_once within (none_before r reserved_is (none_at g r reserved)))
+  can_name = subst (λ (ks : List ChunkValue). CanName ks ss) (sym now_is) (naming.ready h ss (redirection h ss (reverse news)) r laid are.tidy once_h are.once are.names laid_apart laid_once within (none_before r reserved_is (none_at g r reserved)))
 
   pub named_is : fold with_birth_name (laid ++ (filter stays (unreserved g r) ++ reserved_of g r)) ss ≡ laid ++ (map (led_chunk (redirection h ss (reverse news))) (filter (keeps ss) (unreserved h r)) ++ reserved_of h r)
-  named_is = ap (λ (ks : List ChunkValue). fold with_birth_name ks ss) now_is ∙ naming.named_is_goal h ss (redirection h ss (reverse news)) r laid tidy once_h once names laid_apart laid_once within (none_before r reserved_is (none_at g r reserved))
+  named_is = ap (λ (ks : List ChunkValue). fold with_birth_name ks ss) now_is ∙ naming.named_is_goal h ss (redirection h ss (reverse news)) r laid are.tidy once_h are.once are.names laid_apart laid_once within (none_before r reserved_is (none_at g r reserved))
 
   pub small_last : IsCurrent laid (last_place laid)
-  small_last = new_numbers.current_last laid (subst new_numbers.AreSmall (sym is) (new_numbers.small_of_map (led_chunk (redirection h ss (reverse news))) (λ k. refl) (laying_of h ss (reverse news)).laid (new_numbers.laid_small (nothing_laid (reverse news)) h (smalls h (olds ss)) tt (new_numbers.new_reverse news new))))
+  small_last = new_numbers.current_last laid (subst new_numbers.AreSmall (sym are.placed) (new_numbers.small_of_map (led_chunk (redirection h ss (reverse news))) (λ k. refl) (laying_of h ss (reverse news)).laid (new_numbers.laid_small (nothing_laid (reverse news)) h (smalls h (olds ss)) tt (new_numbers.new_reverse news are.new))))
 
   pub kept_count : length (filter stays (unreserved g r)) ≡ length (map (led_chunk (redirection h ss (reverse news))) (filter (keeps ss) (unreserved h r)))
   kept_count =
@@ -87,8 +94,8 @@ module _ (h g : List ChunkValue) (ss : List Survivor) (news : List ChunkValue) (
 
   pub settled : IsSettled (laid ++ (map (led_chunk (redirection h ss (reverse news))) (filter (keeps ss) (unreserved h r)) ++ reserved_of h r))
   settled = record {
-    tidy = tidied.all_tidy (redirection h ss (reverse news)) h ss news r tidy new within laid is;
-    apart = nums.distinct_apart _ (naming.goal_once h ss (redirection h ss (reverse news)) r laid tidy once_h once names laid_apart laid_once within (none_before r reserved_is (none_at g r reserved)));
+    tidy = tidied.all_tidy (redirection h ss (reverse news)) h ss news r are.tidy are.new within laid are.placed;
+    apart = nums.distinct_apart _ (naming.goal_once h ss (redirection h ss (reverse news)) r laid are.tidy once_h are.once are.names laid_apart laid_once within (none_before r reserved_is (none_at g r reserved)));
   }
 
   pub settled_now : (E M N : LeafHeapValue) → E.chunks ≡ laid ++ (filter stays (unreserved g r) ++ reserved_of g r) → M ≡ with_chunks E (fold with_birth_name E.chunks ss) → N ≡ record M { since = 0 } → IsSettled N.chunks
@@ -109,12 +116,12 @@ module _ (h g : List ChunkValue) (ss : List Survivor) (news : List ChunkValue) (
     heap_is h_is E M N G e m n =
         let chunks = ap (λ (x : LeafHeapValue). x.chunks) n ∙ (ap (λ (x : LeafHeapValue). x.chunks) m ∙ (ap (λ (x : LeafHeapValue). fold with_birth_name x.chunks ss) e ∙ (named_is
         ∙ (ap (λ (o : Option ℕ). laid ++ (map (led_chunk (redirection h ss (reverse news))) (filter (keeps ss) (unreserved h o)) ++ reserved_of h o)) r_is
-        ∙ ap (λ (ks : List ChunkValue). ks ++ (map (led_chunk (redirection h ss (reverse news))) (filter (keeps ss) (unreserved h H.reserved)) ++ reserved_of h H.reserved)) is)))) in
-        let current = ap (λ (x : LeafHeapValue). x.current) n ∙ (ap (λ (x : LeafHeapValue). x.current) m ∙ (ap (λ (x : LeafHeapValue). x.current) e ∙ ap last_place is)) in
+        ∙ ap (λ (ks : List ChunkValue). ks ++ (map (led_chunk (redirection h ss (reverse news))) (filter (keeps ss) (unreserved h H.reserved)) ++ reserved_of h H.reserved)) are.placed)))) in
+        let current = ap (λ (x : LeafHeapValue). x.current) n ∙ (ap (λ (x : LeafHeapValue). x.current) m ∙ (ap (λ (x : LeafHeapValue). x.current) e ∙ ap last_place are.placed)) in
         let place = ap (λ (x : LeafHeapValue). x.reserved) n ∙ (ap (λ (x : LeafHeapValue). x.reserved) m ∙ (ap (λ (x : LeafHeapValue). x.reserved) e
         ∙ (ap (λ (k : ℕ). reserved_place (length laid + k) r) kept_count
         ∙ (ap (λ (o : Option ℕ). reserved_place (length laid + length (map (led_chunk (redirection h ss (reverse news))) (filter (keeps ss) (unreserved h o)))) o) r_is
-        ∙ ap (λ (ks : List ChunkValue). reserved_place (length ks + length (map (led_chunk (redirection h ss (reverse news))) (filter (keeps ss) (unreserved h H.reserved)))) H.reserved) is)))) in
+        ∙ ap (λ (ks : List ChunkValue). reserved_place (length ks + length (map (led_chunk (redirection h ss (reverse news))) (filter (keeps ss) (unreserved h H.reserved)))) H.reserved) are.placed)))) in
         let since = ap (λ (x : LeafHeapValue). x.since) n in
         λ i. record { chunks = chunks i; current = current i; reserved = place i; since = since i; slots = N.slots; spare = N.spare }
 
