@@ -1,7 +1,7 @@
 -- The names of lower crates and of the specifications that these proofs use. Declares nothing.
 pub use Rattle.fork_join_commit.specs.ChildEnds.{EndsChild, running_parent, where_running, IsAtEnd, is_last_return, is_last_by, is_last_line}
 pub use Rattle.fork_join_commit.specs.Forks.{nothing_noted, ForksTo, IsAtFork, is_fork, is_fork_by, is_par, SetsFork, ForksOn, RestsFork, waiting_rest, begun_rest, part_child}
-pub use Rattle.fork_join_commit.specs.Joins.{sources_by, RestsJoin, SetsJoin, sources_at, AreSides, CanJoin, HasPlaces, IsRestOf, chunk_count, left_child_of, other_child, own_child, parent_side, right_of, IsSameRest, SameButPlaces, part_result, work_result}
+pub use Rattle.fork_join_commit.specs.Joins.{sources_by, RestsJoin, SetsJoin, sources_at, AreSides, CanJoin, HasPlaces, IsRestOf, chunk_count, left_child_of, other_child, own_child, parent_side, right_of, IsSameRest, SameButPlaces, part_result, work_result, GetsPlaces, HasHeapRoom, HasSetRoom, SameButPlacesOf, chunks_of_both, sources_of_both}
 pub use Rattle.std.proofs.Common.{◌≡◌, ℕ, false, Some, None, slice_get, refl, ap, sym, ◌∙◌, if◌then◌else◌, ℤ, ◌+◌, ◌-◌, ◌<◌, ◌&&◌, arith, not, Bool, true, Option, List, [], ◌∷◌, length, option_map, is_some, subst, ◌⊎◌, zero, suc, ◌++◌, nat_lt, length-set, slice_set, inl, inr, ap₂, length-append, ◌^◌, eqb, eq-eqb, append_assoc, ◌≤◌, ◌*◌, ◌/◌, ◌↔◌, is_none, cond, map, ◌%◌, ◌==◌}
 pub use Rattle.std.proofs.Math.Path.{fun_ext}
 pub use Rattle.std.proofs.lemmas.Bool.{and_parts, cond-false, cond-true, false≢true, cases_eq, cases_lt, lt-ltb, cases_Bool, or_from, both_ways, ltb-true, eqb-false, false_from_ne_true}

@@ -1,5 +1,5 @@
 -- Spare capacity changes nothing of what a shared value holds.
-use Rattle.fork_join_commit.proofs.Common.{◌≡◌, ℕ, ◌+◌, ◌≤◌, ◌++◌, arith, inl, inr, option_map, Option, Some, None, List, [], ◌∷◌, length, slice_get, refl, ap, sym, subst, ◌∙◌, IfSome, cases_eq, same_Some, fun_ext, none_some, LeafHeapValue, with_places, Level, sibling, SetOf, content_at, content_of, Belongings, Noted, Memory, StandsForAll, WorkerFits, Private, ParkedTask, Work, Calls, Result, SharedValue, accounts, marks_at, belongings_by, belongings_in, rest_at, tree_counts_of, value_of, AreMeasured, IsFree, HeapForm, IsSharedValue, Fits, part_of, noted_of, places_form, alone_entry, EndsChild, HasPlaces, IsSameRest, SameButPlaces, chunk_count, sources_at, sources_by}
+use Rattle.fork_join_commit.proofs.Common.{◌≡◌, ℕ, ◌++◌, arith, inl, inr, option_map, Option, Some, None, List, [], ◌∷◌, length, slice_get, refl, ap, sym, subst, ◌∙◌, cases_eq, same_Some, fun_ext, none_some, LeafHeapValue, with_places, Level, sibling, SetOf, content_at, content_of, Belongings, Noted, Memory, StandsForAll, WorkerFits, Private, ParkedTask, Work, Calls, Result, SharedValue, accounts, marks_at, belongings_by, belongings_in, rest_at, tree_counts_of, value_of, AreMeasured, IsFree, HeapForm, IsSharedValue, Fits, part_of, noted_of, places_form, alone_entry, TaskSlotsValue, EndsChild, GetsPlaces, HasHeapRoom, HasPlaces, HasSetRoom, IsSameRest, SameButPlaces, SameButPlacesOf, chunk_count, chunks_of_both, sources_at, sources_by, sources_of_both}
 use Rattle.fork_join_commit.proofs.SetsNoted.{noted_by}
 
 same_belongings : (h : LeafHeapValue) (view : List Level) (n slots spare : ℕ) (x : Work) → belongings_by (with_places h slots spare) view n x ≡ belongings_by h view n x
@@ -84,29 +84,27 @@ same_itself (Some r) o' e = (r.heap.slots, r.heap.spare, e)
 pub same_world : (w : SharedValue) → SameButPlaces w w
 same_world w = record { rest = refl; many = refl; rests = λ u. same_itself (rest_at w.rests u) (rest_at w.rests u) refl; many_sets = refl; sets = λ u. refl }
 
-module _ (w : SharedValue) (rests : List (Option ParkedTask)) (sets : List SetOf) (q : ℕ) (many : length rests ≡ length w.rests) (others : (u : ℕ) → (u ≡ q → ⊥) → rest_at rests u ≡ rest_at w.rests u) (same : IsSameRest (rest_at w.rests q) (rest_at rests q))
-    (many_sets : length sets ≡ length w.sets) (same_sets : (u : ℕ) → content_at sets u ≡ content_at w.sets u) where
-  pub placed_same : SameButPlaces w (record w { rests = rests; sets = sets })
+module _ (w : SharedValue) (h n : TaskSlotsValue) (q : ℕ) (S : SameButPlacesOf h n q) where
+  pub placed_same : SameButPlaces (record w { rests = h.rests; sets = h.sets }) (record w { rests = n.rests; sets = n.sets })
   placed_same = record {
     rest = refl;
-    many = many;
+    many = S.many;
     rests = λ u. elim (cases_eq u q) [
-      | inl e ↦ subst (λ z. IsSameRest (rest_at w.rests z) (rest_at rests z)) (sym e) same
-      | inr ne ↦ same_itself (rest_at w.rests u) (rest_at rests u) (others u ne)
+      | inl e ↦ subst (λ z. IsSameRest (rest_at h.rests z) (rest_at n.rests z)) (sym e) S.same
+      | inr ne ↦ same_itself (rest_at h.rests u) (rest_at n.rests u) (S.others u ne)
     ];
-    many_sets = many_sets;
-    sets = same_sets;
+    many_sets = S.many_sets;
+    sets = S.same_sets;
   }
 
-  pub placed_has : (p : Private) (chunks sources : ℕ) → (q ≡ sibling p.task → ⊥) → chunks ≡ length p.heap.chunks + chunk_count (rest_at w.rests (sibling p.task)) → IfSome (rest_at rests q) (λ r. (chunks ≤ r.heap.slots) × (chunks ≤ r.heap.spare))
-      → sources ≡ length (sources_at w.sets p.task) + length (sources_at w.sets (sibling p.task)) → IfSome (slice_get sets q) (λ s. (sources ≤ s.remembered.slots) × (sources ≤ s.remembered.spare)) → HasPlaces (record w { rests = rests; sets = sets }) p q
-  placed_has p chunks sources ne ec h es s =
-      let other : chunk_count (rest_at rests (sibling p.task)) ≡ chunk_count (rest_at w.rests (sibling p.task)) = ap chunk_count (others (sibling p.task) (λ e. ne (sym e))) in
-      let own_s : length (sources_at sets p.task) ≡ length (sources_at w.sets p.task) = ap (λ o. length (sources_by o)) (same_sets p.task) in
-      let other_s : length (sources_at sets (sibling p.task)) ≡ length (sources_at w.sets (sibling p.task)) = ap (λ o. length (sources_by o)) (same_sets (sibling p.task)) in
-      let c : chunks ≡ length p.heap.chunks + chunk_count (rest_at rests (sibling p.task)) = omega (arith, ec, other) in
-      let d : sources ≡ length (sources_at sets p.task) + length (sources_at sets (sibling p.task)) = omega (arith, es, own_s, other_s) in
-      record { heap = subst (λ n. IfSome (rest_at rests q) (λ r. (n ≤ r.heap.slots) × (n ≤ r.heap.spare))) c h; set = subst (λ n. IfSome (slice_get sets q) (λ s. (n ≤ s.remembered.slots) × (n ≤ s.remembered.spare))) d s }
+  pub placed_has : (p : Private) → (q ≡ sibling p.task → ⊥) → GetsPlaces h n p q → HasPlaces (record w { rests = n.rests; sets = n.sets }) p q
+  placed_has p ne G =
+      let other : chunk_count (rest_at n.rests (sibling p.task)) ≡ chunk_count (rest_at h.rests (sibling p.task)) = ap chunk_count (S.others (sibling p.task) (λ e. ne (sym e))) in
+      let own_s : length (sources_at n.sets p.task) ≡ length (sources_at h.sets p.task) = ap (λ o. length (sources_by o)) (S.same_sets p.task) in
+      let other_s : length (sources_at n.sets (sibling p.task)) ≡ length (sources_at h.sets (sibling p.task)) = ap (λ o. length (sources_by o)) (S.same_sets (sibling p.task)) in
+      let c : chunks_of_both h.rests p ≡ chunks_of_both n.rests p = omega (arith, other) in
+      let d : sources_of_both h.sets p ≡ sources_of_both n.sets p = omega (arith, own_s, other_s) in
+      record { heap = subst (λ k. HasHeapRoom k (rest_at n.rests q)) c G.slot_room; set = subst (λ k. HasSetRoom k (slice_get n.sets q)) d G.set_room }
 
 -- the sources of an existing set
 pub set_sources : (sets : List SetOf) (u : ℕ) (s : SetOf) → slice_get sets u ≡ Some s → s.remembered.sources ≡ sources_at sets u

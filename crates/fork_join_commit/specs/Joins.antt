@@ -2,6 +2,7 @@
 use Rattle.std.specs.Prelude.{◌≡◌, ◌≢◌, ◌⊎◌, ℕ, ℤ, pos, ◌+◌, ◌≤◌, Bool, false, if◌then◌else◌, Option, Some, None, List, [], IfSome, length, slice_get}
 use Rattle.fork_join_commit.specs.Common.{Addr, ChunkValue, PoolValue, HaveDistinctNumbers, LeafHeapValue, merged, FramesValue, int_of, ref_of, sibling, TaskNode, RefField, RememberedValue, lifted, SetOf, Content, content_at, no_heap, EndedChild, Side, AreInUse, HasCapacityForBoth, HaveEnded, Private, ParkedTask, Work, Calls, Result, NotEntered, NoMemory, Refuses, SharedValue, rest_at}
 pub use Rattle.step_commit.specs.below.task_slots.{IsSameRest}
+use Rattle.step_commit.specs.below.task_slots.{TaskSlotsValue}
 use Rattle.fork_join_commit.specs.Forks.{nothing_noted}
 
 -- the result of a task that has ended
@@ -70,10 +71,38 @@ abbrev pub chunk_count : Option ParkedTask → ℕ
 chunk_count None = 0
 chunk_count (Some r) = length r.heap.chunks
 
+-- how many chunks a part and its sibling bring, and how many sources
+abbrev pub chunks_of_both : List (Option ParkedTask) → Private → ℕ
+chunks_of_both rests p = length p.heap.chunks + chunk_count (rest_at rests (sibling p.task))
+
+abbrev pub sources_of_both : List SetOf → Private → ℕ
+sources_of_both sets p = length (sources_at sets p.task) + length (sources_at sets (sibling p.task))
+
+-- a heap has capacity for n more chunks, and a set for n more sources
+abbrev pub HasHeapRoom : ℕ → Option ParkedTask → Type 0
+HasHeapRoom n rest = IfSome rest (λ r. (n ≤ r.heap.slots) × (n ≤ r.heap.spare))
+
+abbrev pub HasSetRoom : ℕ → Option SetOf → Type 0
+HasSetRoom n set = IfSome set (λ s. (n ≤ s.remembered.slots) × (n ≤ s.remembered.spare))
+
 -- the heap and the set of the parent have capacity for all that a part and its sibling bring
 pub record HasPlaces (w : SharedValue) (p : Private) (parent : ℕ) : Type 0 where
-  pub heap : IfSome (rest_at w.rests parent) (λ r. (length p.heap.chunks + chunk_count (rest_at w.rests (sibling p.task)) ≤ r.heap.slots) × (length p.heap.chunks + chunk_count (rest_at w.rests (sibling p.task)) ≤ r.heap.spare))
-  pub set : IfSome (slice_get w.sets parent) (λ s. (length (sources_at w.sets p.task) + length (sources_at w.sets (sibling p.task)) ≤ s.remembered.slots) × (length (sources_at w.sets p.task) + length (sources_at w.sets (sibling p.task)) ≤ s.remembered.spare))
+  pub heap : HasHeapRoom (chunks_of_both w.rests p) (rest_at w.rests parent)
+  pub set : HasSetRoom (sources_of_both w.sets p) (slice_get w.sets parent)
+
+-- the same slots, except for the spare capacities of a task's heap and set
+pub record SameButPlacesOf (slots after : TaskSlotsValue) (t : ℕ) : Type 0 where
+  pub task_slots : after ≡ record slots { rests = after.rests; sets = after.sets }
+  pub many : length after.rests ≡ length slots.rests
+  pub others : (u : ℕ) → u ≢ t → rest_at after.rests u ≡ rest_at slots.rests u
+  pub same : IsSameRest (rest_at slots.rests t) (rest_at after.rests t)
+  pub many_sets : length after.sets ≡ length slots.sets
+  pub same_sets : (u : ℕ) → content_at after.sets u ≡ content_at slots.sets u
+
+-- the parent's have capacity for all that a part and its sibling brought before
+pub record GetsPlaces (slots after : TaskSlotsValue) (p : Private) (parent : ℕ) : Type 0 where
+  pub slot_room : HasHeapRoom (chunks_of_both slots.rests p) (rest_at after.rests parent)
+  pub set_room : HasSetRoom (sources_of_both slots.sets p) (slice_get after.sets parent)
 
 -- ---- BOTH CHILDREN
 

@@ -1,14 +1,13 @@
 // What a join takes out of the shared value, and the capacity that it needs.
 
-ghost use Rattle.std.specs.Prelude.{◌≡◌, ◌<◌, ◌+◌, ◌^◌, ◌↔◌, IsSome, IsTrue, OnOk, IfOk, None, Some, ◌≢◌, ◌≤◌, ◌++◌, ℕ, IfSome, [], false, length, slice_get};
+ghost use Rattle.std.specs.Prelude.{◌≡◌, ◌<◌, ◌^◌, ◌↔◌, IsSome, IsTrue, OnOk, IfOk, None, Some, ◌++◌, [], false};
 ghost use Rattle.step_commit.specs.below.task_frames.{FramesValue};
-ghost use Rattle.step_commit.specs.below.heap_tree.{sibling, is_left};
+ghost use Rattle.step_commit.specs.below.heap_tree.{is_left};
 ghost use Rattle.step_commit.specs.below.remembered_set.{notes_in};
-ghost use Rattle.step_commit.specs.below.write_barrier.{content_at};
 ghost use Rattle.step_commit.specs.below.fork_join.{joined_nodes, with_results, AreRelabelled, JoinsSides};
 ghost use Rattle.step_commit.specs.below.task_slots.{ParkedTask as RestOf};
 ghost use Rattle.step_commit.specs.below.core_invariant.{IsAtWork, rest_at};
-ghost use Rattle.fork_join_commit.specs.Joins.{chunk_count, left_child_of, other_child, own_child, parent_side, right_of, sources_at, work_result, CanJoin, IsRestOf, IsSameRest};
+ghost use Rattle.fork_join_commit.specs.Joins.{chunk_count, chunks_of_both, left_child_of, other_child, own_child, parent_side, right_of, sources_of_both, work_result, CanJoin, GetsPlaces, IsRestOf, SameButPlacesOf};
 
 use std::alloc::{AllocError, Global};
 use step_commit::{
@@ -51,8 +50,8 @@ fn chunks_at(task_slots: &TaskSlots, t: u32) -> usize
 fn places_for(task_slots: &TaskSlots, part: &Private) -> Result<(u32, u32), AllocError>
     requires child { 0 < part.now.task }
     requires few { part.now.task < 2 ^ 31 }
-    ensures chunks { IfOk result (λ n. n.0 ≡ length part.now.heap.chunks + chunk_count (rest_at task_slots.now.rests (sibling part.now.task))) }
-    ensures sources { IfOk result (λ n. n.1 ≡ length (sources_at task_slots.now.sets part.now.task) + length (sources_at task_slots.now.sets (sibling part.now.task))) }
+    ensures chunks { IfOk result (λ n. n.0 ≡ chunks_of_both task_slots.now.rests part.now) }
+    ensures sources { IfOk result (λ n. n.1 ≡ sources_of_both task_slots.now.sets part.now) }
 {
     let other = sibling_of(part.task);
     let chunks = places(part.heap.chunks().len(), chunks_at(task_slots, other))?;
@@ -73,14 +72,8 @@ pub fn make_places(
     requires child { 0 < part.now.task }
     requires few { part.now.task < 2 ^ 31 }
     requires there { IsSome (rest_at task_slots.old.rests parent) }
-    ensures task_slots { task_slots.new ≡ record task_slots.old { rests = task_slots.new.rests; sets = task_slots.new.sets } }
-    ensures many { length task_slots.new.rests ≡ length task_slots.old.rests }
-    ensures others { (u : ℕ) → u ≢ parent → rest_at task_slots.new.rests u ≡ rest_at task_slots.old.rests u }
-    ensures same { IsSameRest (rest_at task_slots.old.rests parent) (rest_at task_slots.new.rests parent) }
-    ensures many_sets { length task_slots.new.sets ≡ length task_slots.old.sets }
-    ensures same_sets { (u : ℕ) → content_at task_slots.new.sets u ≡ content_at task_slots.old.sets u }
-    ensures slot_room { OnOk result (IfSome (rest_at task_slots.new.rests parent) (λ r. (length part.now.heap.chunks + chunk_count (rest_at task_slots.old.rests (sibling part.now.task)) ≤ r.heap.slots) × (length part.now.heap.chunks + chunk_count (rest_at task_slots.old.rests (sibling part.now.task)) ≤ r.heap.spare))) }
-    ensures set_room { OnOk result (IfSome (slice_get task_slots.new.sets parent) (λ s. (length (sources_at task_slots.old.sets part.now.task) + length (sources_at task_slots.old.sets (sibling part.now.task)) ≤ s.remembered.slots) × (length (sources_at task_slots.old.sets part.now.task) + length (sources_at task_slots.old.sets (sibling part.now.task)) ≤ s.remembered.spare))) }
+    ensures same { SameButPlacesOf task_slots.old task_slots.new parent }
+    ensures places { OnOk result (GetsPlaces task_slots.old task_slots.new part.now parent) }
 {
     let (chunks, sources) = places_for(task_slots, part)?;
     task_slots.make_heap_room(parent, chunks)?;

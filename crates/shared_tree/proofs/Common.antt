@@ -13,7 +13,7 @@ pub use Rattle.fork_join_commit.proofs.NextStepForks.{AsksFork, asks_fork, few_t
 pub use Rattle.fork_join_commit.proofs.below.step_commit.{runs_on, fits_machine, machine_same, alone_answer, alone_small, slot_there, next_small, set_there, AsksAlone, asks_alone, halt_world, halts_alone, printed_goes, printed_world, some_line, is_safe, tells, child_beyond, other_beyond, trap_is, finishes_alone, finished_world, node_there}
 pub use Rattle.fork_join_commit.specs.ChildEnds.{IsAtEnd, is_last_return, is_last_by, is_last_line, EndsChild}
 pub use Rattle.fork_join_commit.specs.Forks.{ForkAnswered, IsAtFork, is_fork, is_fork_by, is_par, ForksOn, ForksTo, RestsFork, SetsFork, begun_rest, part_child, waiting_rest}
-pub use Rattle.fork_join_commit.specs.Joins.{IsUnchanged, SameButPlaces, CanJoin, HasPlaces, parent_side, chunk_count, sources_at}
+pub use Rattle.fork_join_commit.specs.Joins.{IsUnchanged, SameButPlaces, CanJoin, HasPlaces, parent_side}
 pub use Rattle.fork_join_commit.specs.NoTask.{HoldsNone, GivesTaskUp}
 pub use Rattle.fork_join_commit.specs.below.step_commit.{IsShared, alone_entry, machine_after, HaltsAlone, then_accounts, GoesAlone, Tells, FinishesAlone, ended_rest, IsBeyond}
 pub use Rattle.fork_join_commit.specs.declared.fork.Forking.{Forking}

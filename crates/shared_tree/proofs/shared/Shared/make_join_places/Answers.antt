@@ -1,4 +1,4 @@
-use Rattle.shared_tree.proofs.Common.{◌≡◌, ◌+◌, ℕ, arith, Option, Some, None, List, length, refl, ap, sym, subst, ◌∙◌, Result, Ok, Err, OnOk, Ended, parent_of, state_of, sibling, MarkingValue, Private, TaskSlotsValue, SharedValue, rest_at, IsSharedValue, Fits, refused, alone_entry, IsAtEnd, HasPlaces, SameButPlaces, chunk_count, sources_at, own_made, parent_low, few_tasks, parent_slot, parent_is, parent_other, placed_has, placed_same, places_world, MayBeEntered, the_view}
+use Rattle.shared_tree.proofs.Common.{◌≡◌, ℕ, arith, Option, Some, None, List, refl, ap, sym, subst, ◌∙◌, Result, Ok, Err, OnOk, Ended, parent_of, state_of, sibling, MarkingValue, Private, TaskSlotsValue, SharedValue, IsSharedValue, Fits, refused, alone_entry, IsAtEnd, HasPlaces, SameButPlaces, own_made, parent_low, few_tasks, parent_slot, parent_is, parent_other, placed_has, placed_same, places_world, MayBeEntered, the_view}
 use Rattle.shared_tree.proofs.shared.Shared.make_join_places.Goals as goal
 
 pub make_places-requires-clause-child : goal.make_places-requires-clause-child
@@ -38,21 +38,21 @@ pub invariant_of-self : goal.invariant_of-self
 invariant_of-self c =
     let w : SharedValue = the_view c.self.inside in
     let n : TaskSlotsValue = c.make_places.new.task_slots in
-    subst IsSharedValue (placed w c.self.inside.heaps.task_slots n refl c.make_places.ensures.task_slots)
-    (places_world w (record w { rests = n.rests; sets = n.sets }) (placed_same w n.rests n.sets c.args.parent c.make_places.ensures.many c.make_places.ensures.others c.make_places.ensures.same c.make_places.ensures.many_sets c.make_places.ensures.same_sets) c.self.invariant)
+    subst IsSharedValue (placed w c.self.inside.heaps.task_slots n refl c.make_places.ensures.same.task_slots)
+    (places_world w (record w { rests = n.rests; sets = n.sets }) (placed_same w c.self.inside.heaps.task_slots n c.args.parent c.make_places.ensures.same) c.self.invariant)
 
 pub returns-clause-same : goal.returns-clause-same
 returns-clause-same c =
     let w : SharedValue = the_view c.self.inside in
     let n : TaskSlotsValue = c.make_places.new.task_slots in
-    let S : SameButPlaces w (record w { rests = n.rests; sets = n.sets }) = placed_same w n.rests n.sets c.args.parent c.make_places.ensures.many c.make_places.ensures.others c.make_places.ensures.same c.make_places.ensures.many_sets c.make_places.ensures.same_sets in
+    let S : SameButPlaces w (record w { rests = n.rests; sets = n.sets }) = placed_same w c.self.inside.heaps.task_slots n c.args.parent c.make_places.ensures.same in
     subst (λ (z : SharedValue). SameButPlaces z (record w { rests = n.rests; sets = n.sets; marks = n.marks })) c.self.view_is
-    (subst (SameButPlaces w) (placed w c.self.inside.heaps.task_slots n refl c.make_places.ensures.task_slots) S)
+    (subst (SameButPlaces w) (placed w c.self.inside.heaps.task_slots n refl c.make_places.ensures.same.task_slots) S)
 
--- if both hold of a call that succeeded, what follows holds
-both_done : {A E : Type 0} (P Q S : Type 0) (r : Result A E) → (P → Q → S) → OnOk r P → OnOk r Q → OnOk r S
-both_done P Q S (Ok x) f p q = f p q
-both_done P Q S (Err e) f p q = tt
+-- what follows from the success of a call holds if it succeeds
+on_success : {A E : Type 0} (P Q : Type 0) (r : Result A E) → (P → Q) → OnOk r P → OnOk r Q
+on_success P Q (Ok x) f p = f p
+on_success P Q (Err e) f p = tt
 
 pub returns-clause-places : goal.returns-clause-places
 returns-clause-places c =
@@ -68,9 +68,9 @@ returns-clause-places c =
     let par : parent_of w.tree p.task ≡ Some c.args.parent = subst (λ (z : SharedValue). parent_of z.tree p.task ≡ Some c.args.parent) (sym c.self.view_is) c.requires.parent in
     let e = parent_is (record { I = I; F = F; at_end = at; free = free }) ended c.args.parent par in
     let n : TaskSlotsValue = c.make_places.new.task_slots in
-    let same = placed w c.self.inside.heaps.task_slots n refl c.make_places.ensures.task_slots in
-    both_done _ _ _ c.make_places.result
-    (λ h s. subst (λ (z : SharedValue). HasPlaces z p c.args.parent) same (placed_has w n.rests n.sets c.args.parent c.make_places.ensures.many c.make_places.ensures.others c.make_places.ensures.same c.make_places.ensures.many_sets c.make_places.ensures.same_sets p
-    (length p.heap.chunks + chunk_count (rest_at w.rests (sibling p.task))) (length (sources_at w.sets p.task) + length (sources_at w.sets (sibling p.task)))
-    (λ f. parent_other (record { I = I; F = F; at_end = at; free = free }) ended (e ∙ f)) refl h refl s))
-    c.make_places.ensures.slot_room c.make_places.ensures.set_room
+    let same = placed w c.self.inside.heaps.task_slots n refl c.make_places.ensures.same.task_slots in
+    on_success _ _ c.make_places.result
+    (λ G. subst (λ (z : SharedValue). HasPlaces z p c.args.parent) same
+    (placed_has w c.self.inside.heaps.task_slots n c.args.parent c.make_places.ensures.same p
+    (λ f. parent_other (record { I = I; F = F; at_end = at; free = free }) ended (e ∙ f)) G))
+    c.make_places.ensures.places
