@@ -4,6 +4,7 @@ pub mod Machine
 pub mod Held
 pub mod Sound
 pub mod Moves
+pub mod JoinKeepsHeaps
 pub mod Steps
 pub mod Journals
 pub mod Cuts
