@@ -1,5 +1,6 @@
 mod Puts
 mod Tells
 mod Roots
-mod Holds
+mod StepsGiveHoldings
+mod JournalsGiveHoldings
 mod Common

@@ -1,4 +1,4 @@
-use Rattle.delta_laws.proofs.Holds as proved
+use Rattle.delta_laws.proofs.JournalsGiveHoldings as proved
 use Rattle.delta_laws.proofs.laws.deltas_give_holdings.Goals as goal
 
 pub returns : goal.returns
