@@ -3,23 +3,14 @@
 ghost use Rattle.std.specs.Prelude.{◌≡◌, ◌∷◌, ◌++◌, [], OnOk};
 ghost use Rattle.std.specs.List.{flat_map};
 ghost use Rattle.text_lines.specs.Lines.{lines_of};
-ghost use Rattle.trace_input.specs.Cut.{is_trace_line, lines_above};
+ghost use Rattle.trace_input.specs.Cut.{lines_above};
 ghost use Rattle.quoted_text.specs.Guarded.{guarded};
 ghost use Rattle.page_frame.specs.Frame.{beginning, listed, program_lines, title_line};
 
 use quoted_text::add_guarded;
 use std::alloc::AllocError;
-use text_lines::{next_line, next_word};
-
-// Whether the first word of a line is `trace`.
-fn begins_trace(line: &[u8]) -> bool
-    ensures { result ≡ is_trace_line line.now }
-{
-    match next_word(line) {
-        Some((word, _)) => word == b"trace".as_slice(),
-        None => false,
-    }
-}
+use text_lines::next_line;
+use trace_input::begins_trace;
 
 // Adds a line of the program.
 fn add_line(text: &mut Vec<u8>, line: &[u8]) -> Result<(), AllocError>

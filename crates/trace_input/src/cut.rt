@@ -6,8 +6,8 @@ ghost use Rattle.trace_input.specs.Cut.{is_trace_line, program_part, CutsTrace};
 
 use text_lines::{next_line, next_word};
 
-// Whether the first word of a line is `trace`.
-fn begins_trace(line: &[u8]) -> bool
+/// Whether the first word of a line is `trace`.
+pub fn begins_trace(line: &[u8]) -> bool
     ensures { result ≡ is_trace_line line.now }
 {
     match next_word(line) {

@@ -6,4 +6,5 @@ mod cut;
 mod input;
 mod newer;
 
+pub use cut::begins_trace;
 pub use input::{InputError, InputFault, TOO_LONG, TraceInput, read_trace_input};
