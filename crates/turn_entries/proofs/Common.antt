@@ -27,7 +27,7 @@ pub use Rattle.std.proofs.Common.{◌≡◌, ℕ, ◌<◌, ◌==◌, ◌||◌, B
 pub use Rattle.std.proofs.lemmas.Bool.{false≢true, or_right}
 pub use Rattle.turn_entries.specs.Acts.{Acts, ActsFor, after_end, EndsHalted, ComesNext, Goes, WhyNone}
 pub use Rattle.turn_entries.specs.Next.{after_steps, brought_kind, due_kind, going_kind, is_out_of_memory, next_kind, owing_kind, paused_kind}
-pub use Rattle.turn_entries.specs.Parts.{IsPaused, MayRun, AtSome, HasGrown, BringsTo, next_after}
+pub use Rattle.turn_entries.specs.Parts.{IsPaused, MayRun, AtSome, HasGrown, BringsTo, next_after, MayCopy}
 pub use Rattle.turn_entries.specs.Values.{is_over, EntersOne, NoEntryMade, MayEnter}
 pub use Rattle.turn_entries.specs.declared.act.TurnOutcome.{TurnOutcome}
 pub use Rattle.turn_entries.specs.declared.act.TurnOutcome.TheVariants.{Entered, Same}

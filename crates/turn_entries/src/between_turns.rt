@@ -10,15 +10,17 @@ use std::snapshot::Snapshot;
 #[derive(Drop)]
 pub struct Collecting {
     pub part: PartInBlock,
-    pub roots: Vec<Addr>,
+    pub roots: BoxedSlot<Vec<Addr>>,
     pub to_chunks: BoxedSlot<ToChunks>,
+    /// A block for the result of copying.
+    pub block: BoxedSlot<Moved>,
 }
 
 /// A part whose heap was copied, with the result of copying.
 #[derive(Drop)]
 pub struct Copied {
     pub part: PartInBlock,
-    pub moved: Moved,
+    pub moved: BoxedSlot<Moved>,
     /// The part as it was when its collection had begun.
     pub begun: Snapshot<Private>,
 }

@@ -13,30 +13,68 @@ use crate::act::TurnOutcome;
 use crate::between_turns::{Collecting, Copied, Next};
 use crate::part_block::PartInBlock;
 use crate::run::Run;
-use entry_calls::{BoxedSlot, EntryCalls, Moved, Paused, ToChunks};
+use entry_calls::{Addr, BoxedSlot, EntryCalls, Moved, Paused, ToChunks};
 use std::alloc::{AllocError, Global};
 
-// A block for new chunks and lists, without any.
-fn chunks_block(alloc: Global) -> Result<BoxedSlot<ToChunks>, AllocError> {
-    let lists = Moved {
+// Blocks for what a collection takes along, and for its result.
+#[derive(Drop)]
+struct CollectionBlocks {
+    roots: BoxedSlot<Vec<Addr>>,
+    to_chunks: BoxedSlot<ToChunks>,
+    moved: BoxedSlot<Moved>,
+}
+
+// No lists.
+fn no_lists(alloc: Global) -> Moved {
+    Moved {
         moved: Vec::new(alloc),
         taken: 0,
         given: 0,
         left: 0,
         back: Vec::new(alloc),
-    };
+    }
+}
+
+// A block for new chunks and lists, without any.
+fn chunks_block(alloc: Global) -> Result<BoxedSlot<ToChunks>, AllocError> {
     let none = ToChunks {
         chunks: Vec::new(alloc),
-        lists,
+        lists: no_lists(alloc),
         found: Vec::new(alloc),
         laid: Vec::new(alloc),
     };
     Ok(BoxedSlot::new(alloc, none)?)
 }
 
+impl CollectionBlocks {
+    // Allocates all three.
+    fn new(alloc: Global) -> Result<CollectionBlocks, AllocError> {
+        let roots = BoxedSlot::new(alloc, Vec::new(alloc))?;
+        let to_chunks = chunks_block(alloc)?;
+        let moved = BoxedSlot::new(alloc, no_lists(alloc))?;
+        Ok(CollectionBlocks {
+            roots,
+            to_chunks,
+            moved,
+        })
+    }
+
+    // What a collection takes along, in these blocks.
+    fn fill(self, part: PartInBlock, roots: Vec<Addr>, to_chunks: ToChunks) -> Collecting
+        ensures { result ≡ record { part = part; roots = roots; to_chunks = to_chunks; block = result.block } }
+    {
+        Collecting {
+            part,
+            roots: self.roots.put(roots),
+            to_chunks: self.to_chunks.put(to_chunks),
+            block: self.moved,
+        }
+    }
+}
+
 impl<P: EntryCalls + Drop> Run<P> {
-    // The collection of the part begins. There is a block for the new chunks.
-    fn begin_in(self, worker: u32, part: PartInBlock, block: BoxedSlot<ToChunks>) -> TurnOutcome<P>
+    // The collection of the part begins. There are blocks for what it takes along.
+    fn begin_in(self, worker: u32, part: PartInBlock, blocks: CollectionBlocks) -> TurnOutcome<P>
         requires enter { MayEnter (P.value self.paced) worker OwedOf.Nothing }
         requires paused { IsPaused (P.value self.paced) worker part Paused.Due }
         requires enough { is_pool_enough (P.value self.paced).settings (accounts (P.value self.paced)) part.task ≡ true }
@@ -47,11 +85,9 @@ impl<P: EntryCalls + Drop> Run<P> {
         let mut run = self;
         let mut part = part;
         match run.paced.leaf_begin(worker, part.get_mut()) {
-            Ok((roots, to_chunks)) => run.entered(Next::Collecting(Collecting {
-                part,
-                roots,
-                to_chunks: block.put(to_chunks),
-            })),
+            Ok((roots, to_chunks)) => {
+                run.entered(Next::Collecting(blocks.fill(part, roots, to_chunks)))
+            }
             Err(cause) => run.out_of_memory(cause),
         }
     }
@@ -64,8 +100,8 @@ impl<P: EntryCalls + Drop> Run<P> {
         requires fresh { part.fresh ≡ 0 }
         ensures { ActsAnyhow P.value (P.value self.paced) worker (KindOf.Begin part.task) result }
     {
-        match chunks_block(alloc) {
-            Ok(block) => self.begin_in(worker, part, block),
+        match CollectionBlocks::new(alloc) {
+            Ok(blocks) => self.begin_in(worker, part, blocks),
             Err(_) => self.halted(),
         }
     }
@@ -114,7 +150,10 @@ impl<P: EntryCalls + Drop> Run<P> {
             moved,
             ..
         } = copied;
-        match run.paced.leaf_end(worker, part.get_mut(), moved) {
+        match run
+            .paced
+            .leaf_end(worker, part.get_mut(), moved.into_inner())
+        {
             Ok(()) => run.entered(Next::Running(part)),
             Err(_) => unreachable!(),
         }

@@ -25,7 +25,7 @@ pub use Rattle.std.proofs.lemmas.Bool.{cases_order, or_right}
 pub use Rattle.std.proofs.lemmas.List.{map-append, length-map}
 pub use Rattle.std.proofs.lemmas.Option.{slice_get_within, slice_get-get_or, same_Some, none-some, slice_get_read, get_or_from_slice_get}
 pub use Rattle.std.proofs.lemmas.Result.{IfErr-weaker, on_ok_weaker}
-pub use Rattle.std.specs.Prelude.{is_some}
+pub use Rattle.std.specs.Prelude.{is_some, Vec}
 pub use Rattle.std.specs.declared.snapshot.Snapshot.{Snapshot}
 pub use Rattle.steal_scheduler.specs.Hands.{AreNewHands, ChangesAt, KeepsOwn, SameHand, TookNone, empty_pops, thefts}
 pub use Rattle.steal_scheduler.specs.Thefts.{SameTheft, StoleNone}

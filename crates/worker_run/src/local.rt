@@ -50,6 +50,7 @@ pub fn copy_part<G: Gate>(collecting: Collecting, gate: &G, worker: u32) -> Copi
         part,
         roots,
         to_chunks,
+        block: result,
     } = collecting;
     let (mut part, block) = part.take_out();
     let begun = Snapshot::of(&part);
@@ -57,12 +58,16 @@ pub fn copy_part<G: Gate>(collecting: Collecting, gate: &G, worker: u32) -> Copi
     let moved = copy(
         &mut part.heap,
         &mut part.frames,
-        &roots,
+        roots.get(),
         to_chunks.into_inner(),
         gate,
         worker,
         task,
     );
     let part = block.fill(part);
-    Copied { part, moved, begun }
+    Copied {
+        part,
+        moved: result.put(moved),
+        begun,
+    }
 }

@@ -1,4 +1,4 @@
-use Rattle.turn_entries.proofs.Common.{ap, sym, subst, ◌∙◌, Some, Begin, ToChunks, Private, Enters, IsCaused, refused, Fits, HasBegun}
+use Rattle.turn_entries.proofs.Common.{ap, sym, subst, ◌∙◌, Some, Begin, Private, Enters, IsCaused, refused, Fits, MayCopy}
 use Rattle.turn_entries.proofs.Free.{begin_free, only_memory}
 use Rattle.turn_entries.proofs.Paying.{pays_nothing}
 use Rattle.turn_entries.proofs.Turning.{not_over, one, unchanged}
@@ -20,12 +20,12 @@ returns-in-Ok g c = λ ready.
     c.requires.enter.on
     (λ on. (
       on,
-      record {
+      subst (MayCopy (g.P.EntryCalls.value c.leaf_begin.new.self) c.args.worker) (sym c.fill.ensures) (record {
         fits = c.leaf_begin.ensures.fits;
         fresh = ap (λ (p : Private). p.fresh) c.in-Ok.ensures.begun.part ∙ (ap (λ (p : Private). p.fresh) c.get_mut.ensures.value ∙ c.requires.fresh);
         before = c.get_mut.result.now;
-        begun = subst (λ (t : ToChunks). HasBegun c.get_mut.result.now c.leaf_begin.new.part c.in-Ok.roots.items t) (sym c.put.ensures) c.in-Ok.ensures.begun;
-      },
+        begun = c.in-Ok.ensures.begun;
+      }),
     ))
 
 pub returns-in-Err : goal.returns-in-Err
