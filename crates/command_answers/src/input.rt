@@ -1,12 +1,12 @@
 // Reads an input.
 
-ghost use Rattle.std.specs.Prelude.{◌≡◌, ◌≤◌, ◌+◌, true, false, length, drop, option_map, IfOk, OnOk, IfErr, Some, List, ℕ};
+ghost use Rattle.std.specs.Prelude.{◌≡◌, ◌≤◌, ◌+◌, true, false, length, drop, IfOk, OnOk, IfErr, Some, List, ℕ};
 ghost use Rattle.made_program_laws.specs.below.text_lines.{most_bytes};
 ghost use Rattle.read_write_all.specs.below.io_traits.{HasRisen};
 ghost use Rattle.read_write_all.specs.Bytes.{input_of, source_bytes};
 ghost use Rattle.command_answers.specs.Input.{limit_of, is_reading, program_in, source_bytes_for};
 
-use command_line::{CommandLine, FileName};
+use command_line::{CommandLine, FileName, name_of};
 use race_report::{PROGRAM_LIMIT, Program};
 use read_write_all::{ReadError, Source, read_file};
 use refusal_lines::{TOO_LONG, TextFault, read_program};
@@ -21,16 +21,6 @@ pub fn program_in(alloc: Global, input: &[u8]) -> Result<Result<Program, TextFau
         return Ok(Err(TOO_LONG));
     }
     read_program(alloc, input)
-}
-
-// The name of a file, if one is given.
-fn name_of<'a>(file: &'a Option<FileName>) -> Option<&'a str>
-    ensures { option_map (λ s. s.now) result ≡ file.now }
-{
-    match file {
-        None => None,
-        Some(name) => Some(name.as_str()),
-    }
 }
 
 // Reads a file, or standard input.

@@ -6,7 +6,7 @@ mod line;
 mod read;
 
 pub use command::with_argument;
-pub use line::{CommandLine, FileName, Options};
+pub use line::{CommandLine, FileName, Options, name_of};
 pub use program_make::{SIZE_LIMIT, make};
-pub use read::read_command_line;
+pub use read::{read_command_line, refused};
 pub use run_trace::Settings;

@@ -1,6 +1,6 @@
 // What a command line asks for.
 
-ghost use Rattle.std.specs.Prelude.{◌≡◌};
+ghost use Rattle.std.specs.Prelude.{◌≡◌, option_map};
 
 use run_trace::Settings;
 use std::marker::Model;
@@ -30,6 +30,16 @@ impl<'w> FileName<'w> {
         ensures { result.now ≡ self.now }
     {
         self.text
+    }
+}
+
+/// The name of a file, if one is given.
+pub fn name_of<'a>(file: &'a Option<FileName>) -> Option<&'a str>
+    ensures { option_map (λ s. s.now) result ≡ file.now }
+{
+    match file {
+        None => None,
+        Some(name) => Some(name.as_str()),
     }
 }
 

@@ -116,8 +116,8 @@ fn found<'w>(matches: &ArgMatches<'w>) -> Option<CommandLine<'w>>
     }
 }
 
-// The answer if the words aren't a command line, or memory has run out.
-fn refused<'w>(kind: ErrorKind) -> Result<Option<CommandLine<'w>>, AllocError>
+/// The answer if the words ask for nothing, or memory has run out.
+pub fn refused<T>(kind: ErrorKind) -> Result<Option<T>, AllocError>
     ensures { IfOk result (λ c. (c ≡ None) × (kind ≢ ErrorKind.OutOfMemory)) }
 {
     match kind {

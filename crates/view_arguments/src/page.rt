@@ -1,12 +1,12 @@
 // Reads the words after `page`.
 
-ghost use Rattle.std.specs.Prelude.{◌≡◌, ◌∷◌, ◌++◌, ◌<◌, IfOk, IfSome, OnOk, codes, length, map, string_bytes};
+ghost use Rattle.std.specs.Prelude.{◌≡◌, ◌<◌, IfOk, IfSome, length, map, string_bytes};
 ghost use Rattle.view_arguments.specs.PageLine.{page_in, page_line, page_of, title_at, titled};
 
 use crate::line::{Picture, ViewCall};
-use crate::read::{behind_races, copy_of, file_of};
+use crate::read::{add_words, behind_races, copy_of, file_of};
 use crate::title::PageTitle;
-use command_line::{CommandLine, read_command_line};
+use command_line::{CommandLine, name_of, read_command_line};
 use std::alloc::{AllocError, Global};
 
 // The index of the first word `--title`.
@@ -24,17 +24,6 @@ fn title_at(words: &[String]) -> Option<usize>
     None
 }
 
-// Adds copies of words.
-fn add_words(alloc: Global, all: &mut Vec<String>, words: &[String]) -> Result<(), AllocError>
-    ensures { OnOk result (map string_bytes all.new.items ≡ map string_bytes all.old.items ++ map string_bytes words.now) }
-{
-    for word in words {
-        let word = copy_of(alloc, word.as_str())?;
-        all.push(word)?;
-    }
-    Ok(())
-}
-
 // The page with this title, for a command line of `races`.
 fn page_in(
     alloc: Global,
@@ -45,10 +34,7 @@ fn page_in(
 {
     match line {
         Some(CommandLine::Races { file, settings }) => {
-            let file = match &file {
-                None => None,
-                Some(name) => file_of(alloc, Some(name.as_str()))?,
-            };
+            let file = file_of(alloc, name_of(&file))?;
             let picture = Picture::Page { title, settings };
             Ok(Some(ViewCall::Of { file, picture }))
         }

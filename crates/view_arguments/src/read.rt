@@ -1,6 +1,6 @@
 // Reads the command-line arguments.
 
-ghost use Rattle.std.specs.Prelude.{◌≡◌, ◌≢◌, ◌∷◌, IfOk, None, codes, map, option_map, option_and_then, string_bytes};
+ghost use Rattle.std.specs.Prelude.{◌≡◌, ◌∷◌, ◌++◌, IfOk, OnOk, codes, map, option_map, option_and_then, string_bytes};
 ghost use Rattle.clap.specs.Words.{found_of, rows_of, first_of};
 ghost use Rattle.view_arguments.specs.ViewLine.{maybe_number, heaps_in, heaps_line, run_in, run_line, run_view, named_line, usage_line, view_arguments};
 
@@ -9,8 +9,7 @@ use crate::faults::faults_line;
 use crate::line::{InputFile, Picture, RunView, ViewCall};
 use crate::page::page_line;
 use clap::ArgMatches;
-use clap::error::ErrorKind;
-use command_line::{CommandLine, FileName, read_command_line};
+use command_line::{CommandLine, name_of, read_command_line, refused};
 use image_check::read_short;
 use std::alloc::{AllocError, Global};
 
@@ -75,16 +74,6 @@ fn heaps_of(alloc: Global, matches: &ArgMatches) -> Result<Option<ViewCall>, All
     }))
 }
 
-// The answer if the words are refused, or memory has run out.
-fn refused(kind: ErrorKind) -> Result<Option<ViewCall>, AllocError>
-    ensures { IfOk result (λ view. (view ≡ None) × (kind ≢ ErrorKind.OutOfMemory)) }
-{
-    match kind {
-        ErrorKind::OutOfMemory => Err(AllocError),
-        _ => Ok(None),
-    }
-}
-
 // What the words after `heaps` ask for.
 fn heaps_line(alloc: Global, words: &[String]) -> Result<Option<ViewCall>, AllocError>
     ensures { IfOk result (λ view. view ≡ heaps_line (map string_bytes words.now)) }
@@ -95,17 +84,29 @@ fn heaps_line(alloc: Global, words: &[String]) -> Result<Option<ViewCall>, Alloc
     }
 }
 
-/// These words after `races`.
-pub(crate) fn behind_races(alloc: Global, words: &[String]) -> Result<Vec<String>, AllocError>
-    ensures { IfOk result (λ all. map string_bytes all.items ≡ codes "races" ∷ map string_bytes words.now) }
+/// Adds copies of words.
+pub(crate) fn add_words(
+    alloc: Global,
+    all: &mut Vec<String>,
+    words: &[String],
+) -> Result<(), AllocError>
+    ensures { OnOk result (map string_bytes all.new.items ≡ map string_bytes all.old.items ++ map string_bytes words.now) }
 {
-    let mut all = Vec::new(alloc);
-    let first = copy_of(alloc, "races")?;
-    all.push(first)?;
     for word in words {
         let word = copy_of(alloc, word.as_str())?;
         all.push(word)?;
     }
+    Ok(())
+}
+
+/// These words after `races`.
+pub(crate) fn behind_races(alloc: Global, words: &[String]) -> Result<Vec<String>, AllocError>
+    ensures { IfOk result (λ all. map string_bytes all.items ≡ codes "races" ∷ map string_bytes words.now) }
+{
+    let first = copy_of(alloc, "races")?;
+    let mut all = Vec::new(alloc);
+    all.push(first)?;
+    add_words(alloc, &mut all, words)?;
     Ok(all)
 }
 
@@ -119,10 +120,7 @@ fn run_in(
 {
     match line {
         Some(CommandLine::Races { file, settings }) => {
-            let file = match &file {
-                None => None,
-                Some(name) => file_of(alloc, Some(name.as_str()))?,
-            };
+            let file = file_of(alloc, name_of(&file))?;
             let picture = Picture::Run { view, settings };
             Ok(Some(ViewCall::Of { file, picture }))
         }
