@@ -3,8 +3,8 @@
 
     scripts/test_page.py HHEAP HHVIEW [EXAMPLE ..]
 
-HHEAP and HHVIEW are the built programs. Of each example's page, of a run with large objects, and of a sort of 330
-numbers with 5,000 entries (each eleventh of them): no script fails and nothing is asked of a network, at any entry,
+HHEAP and HHVIEW are the built programs. Of each example's page, of a run with large objects, of 255 tasks none of which
+runs, and of a sort of 330 numbers with 5,000 entries (each eleventh of them): no script fails and nothing is asked of a network, at any entry,
 forwards and backwards; each state is the same on the way back; keys, the search and links to entries lead where they
 say; and at each tenth entry after a `ran`, where the trace is cut, the tasks, the objects at rest with their fields,
 the chunks with what lies in each, and the remembered fields are those of `hheap image`. An image doesn't have what tasks
@@ -59,6 +59,22 @@ fn main
   newm r7 i0 i1
 end
 '''
+WIDE = 'wide tree'
+WIDE_FORKS = 127
+WIDE_OPTIONS = ['--workers', '16', '--fuel', str(5 * WIDE_FORKS + 2)]
+WIDE_TEXT = '''fn grow
+  jz i0 grown
+  set i1 1
+  newm r0 i1 i1
+  sub i0 i0 i1
+  par grow grow
+lab grown
+end
+fn main
+  set i0 7
+  call grow
+end
+'''
 LONG = 'sort of 330'
 LONG_OPTIONS = ['--workers', '4', '--chunks', '65536']
 LONG_CUTS = 12
@@ -103,12 +119,23 @@ def text_of(example):
     """The program, and the options of its run."""
     if example == LARGE:
         return LARGE_TEXT, LARGE_OPTIONS
+    if example == WIDE:
+        return WIDE_TEXT, WIDE_OPTIONS
     name, options = ('sort.hh', LONG_OPTIONS) if example == LONG else (example, RUNS.get(example, []))
     with open(os.path.join(TOP, 'examples', name), encoding='utf-8') as f:
         program = f.read()
     if example == LONG:
         program = program.replace('set i5 12\n', 'set i5 330\n').replace('set i0 12\n', 'set i0 330\n')
     return program, options
+
+
+def wide_trace():
+    """A trace breadth-first: a worker takes the next task, and lets it go where it forks."""
+    lines = ['trace 2']
+    for t in range(WIDE_FORKS):
+        worker = t % 16
+        lines += [f'{worker} took {t}', f'{worker} ran {t} {2 if t else 4}', f'{worker} chunk {t}', f'{worker} ran {t} 3']
+    return [*lines, '0 fuel']
 
 
 def trace_of(hheap, program, options):
@@ -257,7 +284,7 @@ def test(page, hheap, hhview, example, room):
     """The bytes of the page's data for each entry."""
     began = time.time()
     program, options = text_of(example)
-    trace = trace_of(hheap, program, options)
+    trace = wide_trace() if example == WIDE else trace_of(hheap, program, options)
     status, written = output(hhview, 'page', *options, '--title', example, text=(program + '\n'.join(trace) + '\n').encode())
     assert status == 0, status
     file = os.path.join(room, example.replace(' ', '_') + '.html')
@@ -294,7 +321,7 @@ def main():
     failed, sizes = 0, []
     page = browser.Browser()
     with tempfile.TemporaryDirectory() as room:
-        for example in examples or [*RUNS, LARGE, LONG]:
+        for example in examples or [*RUNS, LARGE, WIDE, LONG]:
             try:
                 sizes.append(test(page, hheap, hhview, example, room))
             except (AssertionError, RuntimeError) as e:

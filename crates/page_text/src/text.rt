@@ -1,7 +1,7 @@
 // The page's own text, as scripts/page_text.py makes it of page/page.html. It is never edited.
 
 ghost use Rattle.std.specs.Prelude.{◌≡◌, ◌++◌, OnOk};
-ghost use Rattle.page_text.specs.Text.{ahead_of_data, after_group_1_1, after_group_1_2, after_group_1_3, behind_data};
+ghost use Rattle.page_text.specs.Text.{before_group_1_1, before_group_1_2, ahead_of_data, after_group_1_1, after_group_1_2, after_group_1_3, behind_data};
 
 use std::alloc::AllocError;
 
@@ -9,7 +9,7 @@ pub const BEFORE_1: &str = r##"<!doctype html>
 <html lang="en">
 <head>
 <meta charset="utf-8">
-<meta http-equiv="Content-Security-Policy" content="default-src 'none'; script-src 'sha256-IQvT1Mr+bUMhCDbEFEik7+34+8De58qyaQ6nXSCB87w='; style-src 'unsafe-inline'">
+<meta http-equiv="Content-Security-Policy" content="default-src 'none'; script-src 'sha256-Ej2J6eHjSw0k4xwOsnj/ZUFZvhgIa9C2ZrBlA3Diiqw='; style-src 'unsafe-inline'">
 <meta name="viewport" content="width=device-width, initial-scale=1">
 <title>A run of hheap</title>
 <style>
@@ -59,7 +59,7 @@ noscript p { padding: 2em; }
 .top .how { color: var(--soft); font-size: 12.5px; flex: 1; min-width: 0; overflow: hidden; text-overflow: ellipsis; white-space: nowrap; }
 .top input { width: 12em; background: var(--raised); border: 1px solid var(--faint); border-radius: 6px; padding: 2px 8px; }
 #now { display: flex; gap: 14px; align-items: center; padding: 6px 14px; min-height: 66px; }
-#now .count { font-variant-numeric: tabular-nums; color: var(--soft); white-space: nowrap; min-width: 8.2em; }
+#now .count { flex: none; font-variant-numeric: tabular-nums; color: var(--soft); white-space: nowrap; min-width: 8.2em; }
 #now .count b { font-size: 21px; color: var(--ink); font-weight: 650; }
 #said { font-size: 17px; line-height: 1.4; text-wrap: pretty; }
 #said code { background: var(--raised); border: 1px solid var(--faint); border-radius: 4px; padding: 0 4px; }
@@ -95,14 +95,13 @@ main { display: grid; grid-template-columns: minmax(230px, 25%) minmax(0, 1fr) 2
 #arrows .root { stroke: var(--soft); color: var(--soft); stroke-width: 1; stroke-dasharray: 2 3; opacity: .55; }
 #arrows .fresh { stroke-width: 3; }
 #arrows text { stroke-dasharray: none !important; font: 600 11px system-ui, sans-serif; fill: currentColor; stroke: var(--panel) !important; stroke-width: 4px !important; paint-order: stroke; }
-/* of many references within heaps, and of many roots, only those are drawn that the entry or the reader is at */
-#arrows.few > .inside:not(.near, .hot, .fresh), #arrows.crowd > .root:not(.near, .hot) { display: none; }
 #arrows marker[id] path { stroke: none; fill: currentColor; }
 #arrows.hot > path { opacity: .12; }
 #arrows.hot > path.hot { opacity: 1; }
 .task { border: 1.5px solid var(--faint); border-radius: .75em; padding: .55em .7em .7em; background: color-mix(in oklab, var(--panel), var(--ink) calc(var(--deep) * 1.3%)); min-width: 11em; }
 .task.tight { padding-inline: .22em; border-radius: .35em; }
 .task.tight.waiting { border-inline-width: 0; }
+.task.tight.out { padding-left: .55em; }
 .own > .head { display: flex; flex-wrap: wrap; gap: .2em .6em; align-items: center; }
 .own > .head b { font-size: 1.08em; }
 .task.ready { border-style: dotted; border-color: var(--soft); }
@@ -114,24 +113,24 @@ main { display: grid; grid-template-columns: minmax(230px, 25%) minmax(0, 1fr) 2
 .task.find { outline: .25em solid var(--up); }
 .pill { background: var(--panel); font-size: .8em; border-radius: 1em; padding: .05em .7em; border: 1px solid var(--soft); color: var(--soft); white-space: nowrap; }
 .pill.out { border-color: var(--w); background: var(--w); color: #fff; font-weight: 650; }
+.pill.over { border-color: var(--cross); background: var(--cross); color: var(--on-strong); font-weight: 650; }
+.tiny { font-size: .8em; color: var(--soft); }
 "##;
 
 pub const BEFORE_2: &str =
-    r##".pill.over { border-color: var(--cross); background: var(--cross); color: var(--on-strong); font-weight: 650; }
-.tiny { font-size: .8em; color: var(--soft); }
-.heap, .kids { display: flex; flex-wrap: wrap; gap: .7em; align-items: flex-start; margin-top: .55em; }
+    r##".heap, .kids { display: flex; flex-wrap: wrap; gap: .7em; align-items: flex-start; margin-top: .55em; }
 .kids { gap: 1.3em .9em; margin-top: 1.3em; }
 .kids > .task { flex: 0 1 auto; }
 .chunk { border: 1px solid var(--faint); border-radius: .45em; background: var(--raised); padding: .35em .55em .5em; min-width: 9em; }
 .chunk .cap { display: flex; gap: .6em; align-items: center; font-size: .78em; color: var(--soft); white-space: nowrap; }
-/* headings stand above the arrows */
-.head > *, .cap > *, .sum { position: relative; z-index: 3; }
-.head > .tiny, .head > b, .cap > * { background: color-mix(in oklab, var(--panel), transparent 15%); border-radius: .3em; }
+/* headings and cards stand above the arrows */
+.head > *, .cap > *, .sum, .roots > * { position: relative; z-index: 3; }
+.head > .tiny, .head > b, .cap > *, .roots > .tiny { background: color-mix(in oklab, var(--panel), transparent 15%); border-radius: .3em; }
 .roots { display: flex; flex-wrap: wrap; gap: .2em .3em; align-items: center; margin-top: .3em; }
-.hold { position: relative; z-index: 3; padding: 0 .4em; border: 1px dotted var(--soft); border-radius: .4em; background: var(--panel); color: var(--soft); font: .78em var(--mono); }
+.hold { padding: 0 .4em; border: 1px dotted var(--soft); border-radius: .4em; background: var(--panel); color: var(--soft); font: .78em var(--mono); }
 .task.fold { border-style: dotted; border-color: var(--soft); }
 .objs { display: flex; flex-wrap: wrap; gap: 1.25em 1.1em; margin-top: .75em; }
-.obj { position: relative; z-index: 1; display: flex; flex-direction: column; align-items: stretch; padding: 0; border: 1.3px solid var(--soft); border-radius: .5em; background: var(--panel); font: .92em var(--mono); text-align: left; }
+.obj { position: relative; z-index: 3; display: flex; flex-direction: column; align-items: stretch; padding: 0; border: 1.3px solid var(--soft); border-radius: .5em; background: var(--panel); font: .92em var(--mono); text-align: left; }
 .obj .nm { padding: 0 .5em; font-weight: 650; display: flex; gap: .8em; justify-content: space-between; }
 .obj .nm span { font-weight: 400; color: var(--soft); font-size: .85em; }
 .obj.imm { border-radius: 0; border-style: double; border-width: 3px; background: var(--imm); }
@@ -144,8 +143,8 @@ pub const BEFORE_2: &str =
 .f.cross { color: var(--cross); font-weight: 700; }
 .f.nil, .f.etc { color: var(--soft); opacity: .7; }
 .f.rem { border-bottom: 3px double var(--down); }
-.f.wrote { background: var(--set-bg); box-shadow: inset 0 0 0 2px var(--set); }
-.f.read { box-shadow: inset 0 0 0 2px var(--up); }
+.f.wrote { background: var(--set-bg); box-shadow: inset 0 0 0 min(2px, .13em) var(--set); }
+.f.read { box-shadow: inset 0 0 0 min(2px, .13em) var(--up); }
 .obj.new { border-color: var(--new); background: var(--new-bg); opacity: 1; }
 .obj.froze { border-color: var(--up); }
 .obj.fades { opacity: .45; border-style: dashed; }
@@ -218,11 +217,11 @@ pub const BEFORE_2: &str =
 .names b { color: var(--w); }
 #lanes { overflow: auto; position: relative; scrollbar-width: thin; }
 #track { position: relative; }
+.lane { position: absolute; left: 0; right: 0; height: 1px; background: var(--faint); }
 "##;
 
 pub const BEFORE_3: &str =
-    r##".lane { position: absolute; left: 0; right: 0; height: 1px; background: var(--faint); }
-.ent { position: absolute; height: 18px; border-radius: 4px; font: 600 10px/18px system-ui, sans-serif; text-align: center; cursor: pointer; overflow: hidden; background: var(--k-ran); }
+    r##".ent { position: absolute; height: 18px; border-radius: 4px; font: 600 10px/18px system-ui, sans-serif; text-align: center; cursor: pointer; overflow: hidden; background: var(--k-ran); }
 #veil { position: absolute; inset: 0; background: var(--panel); opacity: .58; pointer-events: none; }
 .k-took { background: var(--k-took); }
 .k-chunk, .k-putoff { background: var(--k-chunk); }
@@ -235,8 +234,31 @@ dialog { border: 1px solid var(--faint); border-radius: 10px; background: var(--
 dialog::backdrop { background: #0008; }
 dialog table { border-spacing: 14px 2px; margin-left: -14px; }
 kbd { font: 12px var(--mono); border: 1px solid var(--faint); border-bottom-width: 2px; border-radius: 4px; padding: 0 5px; background: var(--raised); }
-@media (max-width: 1050px) { main { grid-template-columns: minmax(200px, 30%) minmax(0, 1fr); } #side { grid-column: 1 / -1; max-height: 26vh; } .legend { display: none; } #dock { grid-template-columns: 1fr; } .nums, .names { display: none; } .ln .chip:nth-child(n + 2) { display: none; } }
-@media (max-width: 640px) { body { height: auto; display: block; } main { display: block; } .pane { max-height: 70vh; } .top { flex-wrap: wrap; } .top .how { display: none; } #now { display: block; } #dock { position: sticky; bottom: 0; } }
+@media (max-width: 1050px) {
+  main { grid-template-columns: minmax(200px, 30%) minmax(0, 1fr); grid-template-rows: minmax(0, 1fr) auto; }
+  #side { grid-column: 1 / -1; height: 20vh; flex-direction: row; }
+  #side .box, #side .box:last-child { flex: 1 1 0; max-height: none; min-height: 0; border-bottom: 0; border-right: 1px solid var(--faint); }
+  #dock { grid-template-columns: auto minmax(0, 1fr); }
+  #nums, #plot, #lanes { grid-column: 1 / -1; }
+  .nums { display: flex; gap: 18px; line-height: 16px; }
+  .legend, .names { display: none; }
+  .ln .chip:nth-child(n + 2) { display: none; }
+}
+@media (max-width: 640px) {
+  body { height: auto; display: block; }
+  main { display: flex; flex-direction: column; }
+  .pane { max-height: 60vh; }
+  .pane[aria-label=Heaps] { order: -1; }
+  #side { height: 34vh; }
+  .top { gap: 8px; }
+  .top .how { display: none; }
+  .top form { flex: 1; }
+  .top input { width: 100%; }
+  #now { display: block; position: sticky; top: 0; z-index: 5; max-height: 26vh; overflow: auto; background: var(--paper); border-bottom: 1px solid var(--faint); }
+  #said { font-size: 15px; }
+  #dock { position: sticky; bottom: 0; z-index: 5; }
+  .play button { min-width: 26px; padding: 2px 4px; }
+}
 /* paper: the class is set before a print, so that arrows are measured as they will be printed */
 .paper .pane { contain: none; }
 .paper body { display: block; height: auto; background: #fff; width: 1040px; }
@@ -287,7 +309,10 @@ kbd { font: 12px var(--mono); border: 1px solid var(--faint); border-bottom-widt
 </footer>
 <dialog id="help" aria-labelledby="helph"><h1 id="helph">A run, entry by entry</h1>
   <p>The journal of a run is the list of its entries, each an atomic step of the core made by one worker. The page shows what stands after an entry: each task's heap is a box in its parent's, with its chunks and the objects in them. Below a task's name stand the objects that its registers hold, its roots; what no root leads to is pale, and so is what a collection that goes on will drop.</p>
-  <table><tr><td><kbd>&larr;</kbd> <kbd>&rarr;</kbd><td>an entry back, on<tr><td><kbd>Shift</kbd> with them<td>the entry before, after, of the same worker<tr><td><kbd>PgUp</kbd> <kbd>PgDn</kbd> <kbd>Home</kbd> <kbd>End</kbd><td>ten entries; the start, the end<tr><td><kbd>n</kbd> <kbd>p</kbd><td>next, previous fork, join, collection, output or end<tr><td><kbd>Space</kbd><td>play, pause<tr><td><kbd>/</kbd><td>find an object by its birth name; <kbd>Esc</kbd> lets it go<tr><td><kbd>]</kbd> <kbd>[</kbd><td>next, previous entry that touches the object looked at<tr><td><kbd>+</kbd> <kbd>&minus;</kbd> <kbd>f</kbd><td>zoom the heaps, fit<tr><td><kbd>o</kbd><td>object by object, or heap by heap<tr><td><kbd>t</kbd> <kbd>?</kbd><td>dark or light; this help</table>
+"##;
+
+pub const BEFORE_4: &str =
+    r##"  <table><tr><td><kbd>&larr;</kbd> <kbd>&rarr;</kbd><td>an entry back, on<tr><td><kbd>Shift</kbd> with them<td>the entry before, after, of the same worker<tr><td><kbd>PgUp</kbd> <kbd>PgDn</kbd> <kbd>Home</kbd> <kbd>End</kbd><td>ten entries; the start, the end<tr><td><kbd>n</kbd> <kbd>p</kbd><td>next, previous fork, join, collection, output or end<tr><td><kbd>Space</kbd><td>play, pause<tr><td><kbd>/</kbd><td>find an object by its birth name; <kbd>Esc</kbd> lets it go<tr><td><kbd>]</kbd> <kbd>[</kbd><td>next, previous entry that touches the object looked at<tr><td><kbd>+</kbd> <kbd>&minus;</kbd> <kbd>f</kbd><td>zoom the heaps, fit<tr><td><kbd>o</kbd><td>object by object, or heap by heap<tr><td><kbd>t</kbd> <kbd>?</kbd><td>dark or light; this help</table>
   <p>A link to an entry ends with <code>#e=17</code>, and with <code>&amp;o=1.0</code> it looks at an object. An object's name (B,N) says that it is the N-th allocation of task B. A double underline marks a remembered field. Of many references within heaps, and of many roots, only those have arrows that the entry touches; point at an object to see all of its own.</p>
   <form method="dialog"><button>Close</button></form></dialog>
 <script type="application/json" id="run">"##;
@@ -298,7 +323,7 @@ pub const AFTER_1: &str = r##"</script>
 const RUN = JSON.parse(document.getElementById('run').textContent);
 const [START, ...ENTRIES] = RUN.entries, N = ENTRIES.length;
 const LINES = RUN.program.slice(0, -1);  // the data ends its lines with an empty one
-const OBJECTS_DRAWN = 160, TASKS_DRAWN = 200, ARROWS_DRAWN = 75, ROOTS_DRAWN = 16, FOLDS_FROM = 5;
+const OBJECTS_DRAWN = 160, TASKS_DRAWN = 200, ARROWS_DRAWN = 75, ROOTS_DRAWN = 16, FOLDS_FROM = 5, CHANGES_TOLD = 6;
 
 /* ------------------------------------------------------------ texts and elements */
 
@@ -567,8 +592,14 @@ function sayChanges(d) {                // what all steps changed, if there are 
 "##;
 
 pub const AFTER_3: &str =
-    r##"  const told = all.slice(0, 6).map(([what, ...x]) => CHANGE[what](x)), more = all.length - told.length;
-  return ` <span class="tiny">In these steps: ${told.join('; ')}${more ? `; and ${many(more, 'change')} more` : ''}.</span>`;
+    r##"  const told = all.slice(0, CHANGES_TOLD).map(([what, ...x]) => CHANGE[what](x));
+  return ` <span class="tiny">In these steps: ${all.length > CHANGES_TOLD ? `${sumUp(all)}; first ` : ''}${told.join('; ')}.</span>`;
+}
+const SUMS = { new: 'allocation', set: 'write', froze: 'freeze', print: 'output' };
+function sumUp(all) {                   // how many changes there are of each kind
+  const total = {};
+  for (const [what] of all) total[what] = (total[what] || 0) + 1;
+  return Object.entries(total).map(([what, n]) => many(n, SUMS[what])).join(', ');
 }
 
 /* ------------------------------------------------------------ drawing: program, tasks, outputs, the object looked at */
@@ -599,11 +630,11 @@ function drawCode() {
 }
 function showCode() {
   const d = ENTRIES[pos - 1], line = d ? d.at ? d.at[0] : (S.tasks.get(d.e[2]) || {}).line : 1;
-  if (line) showRow($('lines').children[line - 1]);
+  if (line) showRow($('lines').children[line - 1], $('lines'), 50);
 }
-function showRow(row) {
-  const box = $('lines'), top = row.offsetTop - box.offsetTop;
-  if (top < box.scrollTop + 30 || top > box.scrollTop + box.clientHeight - 50) box.scrollTop = top - box.clientHeight / 2;
+function showRow(row, box, margin) {    // scrolls the box, and nothing around it
+  const r = row.getBoundingClientRect(), b = box.getBoundingClientRect();
+  if (r.top < b.top + margin * .6 || r.bottom > b.bottom - margin) box.scrollTop += r.top - b.top - b.height / 2;
 }
 
 const ROWS = 400;                       // so many tasks are listed
@@ -621,10 +652,11 @@ function movedRows() {                  // of the tasks that the entry moved
   return ((ENTRIES[pos - 1] || {}).task || []).map(([t]) => $('tree').querySelector(`[data-t="${t}"]`)).filter(Boolean);
 }
 function showTree() {
-  for (const row of movedRows()) row.scrollIntoView({ block: 'nearest' });
+  const row = movedRows()[0], box = $('tree').closest('.box');
+  if (row) showRow(row.parentNode, box, 0);
 }
 function taskRow(x, deep) {
-  const by = 4 + Math.min(deep, 8) * 12 + Math.min(Math.max(deep - 8, 0), 16) * 2;
+  const by = 4 + Math.min(deep, 8) * 10 + Math.min(Math.max(deep - 8, 0), 16);
   return node('button', { 'data-t': x.t, class: x.state, style: `padding-left:${by}px;${tint(x)}` },
     node('span', { class: cls('dot', x.state) }), node('b', {}, `${x.t}`), ' ',
     node('span', { class: 'st' }, `${stateOf(x).says.replace('running on ', '')} \u00b7 ${esc(x.fn)}`));
@@ -693,17 +725,17 @@ let view = null;                        // what was looked over for the drawing
 
 function touched(d) {                   // what the entry did: of objects class and tag, of fields the class
   const how = new Map(), fields = new Map();
-  const field = (n, k, look) => fields.has(n) ? fields.get(n).set(k, look) : fields.set(n, new Map([[k, look]]));
+"##;
+
+pub const AFTER_4: &str =
+    r##"  const field = (n, k, look) => fields.has(n) ? fields.get(n).set(k, look) : fields.set(n, new Map([[k, look]]));
   for (const [n, k] of d.set || []) { how.set(n, ['set', 'written']); field(n, k, 'wrote'); }
   for (const n of d.froze || []) how.set(n, ['froze', 'frozen']);
   for (const [n] of d.new || []) how.set(n, ['new', 'new']);
   if (d.at && d.at[3] !== undefined) field(d.at[2], d.at[3], /^get/.test(d.at[1]) ? 'read' : 'wrote');
   return { how, fields };
 }
-"##;
-
-pub const AFTER_4: &str =
-    r##"const sums = new WeakMap();             // of each account of a heap: how many objects it holds, and their words
+const sums = new WeakMap();             // of each account of a heap: how many objects it holds, and their words
 function sumOf(h) {
   if (!sums.has(h)) {
     const names = namesIn(h);
@@ -721,6 +753,10 @@ function fading() {                     // what a collection that goes on will d
   }
   return fades;
 }
+function once(make) {                   // made when it is asked for first
+  let made = null;
+  return () => (made = made || make());
+}
 function reached() {                    // what the roots of all tasks lead to
   const met = new Set([...S.tasks.values()].flatMap(x => x.holds)), todo = [...met];
   const meet = v => { if (v && !met.has(v)) { met.add(v); todo.push(v); } };
@@ -735,10 +771,11 @@ function actingTasks(d) {
   if (d.e && d.e.length > 2) act.add(d.e[2]);
   return act;
 }
-function shownTasks(live, act) {        // of many tasks those that run or act, with their ancestors
+function shownTasks(live, wanted) {     // of many tasks those that run or are wanted, with their ancestors, and the first to be forked
   if (live.length <= TASKS_DRAWN || mode === 1) return live;
   const keep = new Set();
-  for (const x of live) if (x.state === 'out' || act.has(x.t)) for (let t = x.t; t !== null && !keep.has(t); t = S.tasks.get(t).parent) keep.add(t);
+  for (const x of live) if (x.state === 'out' || wanted(x.t)) for (let t = x.t; t !== null && !keep.has(t); t = S.tasks.get(t).parent) keep.add(t);
+  for (const x of [...live].sort((a, b) => a.t - b.t)) if (keep.size < TASKS_DRAWN || x.parent === null) keep.add(x.t);
   return live.filter(x => keep.has(x.t));
 }
 function atRest(live, shown) {          // what isn't drawn, at the nearest ancestor that is
@@ -770,11 +807,11 @@ function heapsAsWhole(shown, near) {    // the smallest heaps are drawn first, b
 }
 function lookOver() {
   const d = ENTRIES[pos - 1] || {}, act = actingTasks(d), live = [...S.tasks.values()].filter(x => x.state !== 'joined');
-  const shown = shownTasks(live, act), kids = new Map();
   const main = (d.e || [])[2], looked = seen && S.objs.has(seen) ? heapOf(seen) : -1, near = t => t === main || t === looked;
+  const shown = shownTasks(live, t => act.has(t) || t === looked), kids = new Map();
   for (const x of shown) if (x.parent !== null) group(kids, x.parent, x);
   return {
-    d, act, live, shown, kids, ...touched(d), rest: atRest(live, shown), folded: foldedTasks(shown, kids, near), whole: heapsAsWhole(shown, near), fades: fading(), reached: reached(),
+    d, act, live, shown, kids, ...touched(d), rest: atRest(live, shown), folded: foldedTasks(shown, kids, near), whole: heapsAsWhole(shown, near), fades: fading(), reached: once(reached),
     noted: new Set([...S.noted.values()].map(x => `${x[1]} ${x[2]}`)), stopped: isStopped() ? d.at[4] : null, used: new Set(),
   };
 }
@@ -802,12 +839,12 @@ function fieldsOf(o, own) {             // of many the first few, and those that
 function spoken(o, tag) {               // an object, for those who hear the page
   const says = [];
   for (let k = 0; k < Math.min(o.R + o.I, 10); k++) says.push(k >= o.R ? `number ${o.f[k] || 0}` : o.f[k] ? `reference ${k} to ${nm(o.f[k])}` : `reference ${k} nil`);
-  const pale = view.reached.has(o.n) ? '' : ', no root leads to it';
+  const pale = view.reached().has(o.n) ? '' : ', no root leads to it';
   return `object ${nm(o.n)}, ${o.m ? 'mutable' : 'immutable'}${tag && ', ' + tag}${pale}: ${says.join(', ') || 'no fields'}`;
 }
 function card(o, own) {
   const [how, tag] = view.how.get(o.n) || ['', ''], tagged = tag && view.how.size <= 30;
-  const looks = cls('obj', !o.m && 'imm', how, o.n === seen && 'sel', o.n === view.stopped && 'stopped', (view.fades.has(o.n) || !view.reached.has(o.n)) && 'fades');
+  const looks = cls('obj', !o.m && 'imm', how, o.n === seen && 'sel', o.n === view.stopped && 'stopped', (view.fades.has(o.n) || !view.reached().has(o.n)) && 'fades');
   return node('button', { class: looks, 'data-o': o.n, 'aria-label': spoken(o, tag) },
     tagged && node('em', { class: cls('tag', how) }, tag), node('span', { class: 'nm' }, nm(o.n), node('span', {}, o.m ? '' : 'imm')), fieldsOf(o, own));
 }
@@ -826,7 +863,10 @@ function heap(x) {
   if (!unitsIn(h)) return '';
   if (view.whole.has(x.t)) return node('div', { class: 'heap' }, node('span', { class: 'sum', 'data-heap': x.t }, sum(sumOf(h)), ` in ${many(unitsIn(h), 'chunk')}`));
   return node('div', { class: 'heap' }, h.chunks.map(names => chunk(objects(names), 1, x.t)), h.large.map(n => chunk(objects([n]), unitsOf(n), x.t)),
-    h.reserved && empty(`chunk of ${count(h.reserved)} units, for the next object`), h.begun && empty(`${many(h.begun, 'chunk')} to copy into`), marking && empty(marking));
+"##;
+
+pub const AFTER_5: &str =
+    r##"    h.reserved && empty(`chunk of ${count(h.reserved)} units, for the next object`), h.begun && empty(`${many(h.begun, 'chunk')} to copy into`), marking && empty(marking));
 }
 function restOf(t) {                    // tasks below this one that aren't drawn
   const rest = view.rest.get(t);
@@ -839,10 +879,7 @@ function head(x) {
     node('span', { class: 'tiny' }, esc(x.fn), x.line && `, line ${x.line}`));
 }
 function roots(x) {                     // what a task holds, as cells from which arrows lead to the objects
-"##;
-
-pub const AFTER_5: &str =
-    r##"  const shown = x.holds.slice(0, ROOTS_DRAWN), rest = x.holds.length - shown.length;
+  const shown = x.holds.slice(0, ROOTS_DRAWN), rest = x.holds.length - shown.length;
   const cell = n => node('button', { class: 'hold', 'data-o': n, 'aria-label': `root ${nm(n)}` }, n.replace('.', ','));
   return x.holds.length && node('div', { class: 'roots', role: 'group', 'aria-label': `Task ${x.t} holds ${many(x.holds.length, 'object')}` },
     node('span', { class: 'tiny' }, 'holds'), shown.map(cell), rest && node('span', { class: 'tiny' }, `and ${count(rest)} more`));
@@ -850,36 +887,39 @@ pub const AFTER_5: &str =
 const boxes = new Map();                // the boxes that stand on the stage, by task; what is the same in them stays
 function boxOf(t) {
   if (!boxes.has(t)) {
-    const el = document.createElement('section'), own = document.createElement('div'), kids = document.createElement('div');
+    const el = document.createElement('section'), [top, lower, kids] = ['own', 'own', 'kids'].map(name => {
+      const div = document.createElement('div');
+      div.className = name;
+      return div;
+    });
     el.setAttribute('role', 'group');
     el.dataset.t = t;
-    own.className = 'own';
-    kids.className = 'kids';
-    boxes.set(t, { el, own, kids, looks: '' });
+    boxes.set(t, { el, top, lower, kids, looks: '' });
   }
   return boxes.get(t);
 }
 function fill(el, inner) {              // the same children in the same order stay
   if (inner.length !== el.children.length || inner.some((x, i) => x !== el.children[i])) el.replaceChildren(...inner);
 }
-function setBox(t, [look, style, says], own, kids) {
-  const { el, own: top, kids: below, looks } = boxOf(t), now = `${look}|${style}|${says}`;
+function setBox(t, [look, style, says], [head, heaps], inner) {  // head and heaps are written apart: most entries change the head alone
+  const { el, top, lower, kids, looks } = boxOf(t), now = `${look}|${style}|${says}`;
   if (now !== looks) {
     el.className = look;
     el.style.cssText = style;
     el.setAttribute('aria-label', says);
     boxes.get(t).looks = now;
   }
-  write(top, own);
-  fill(below, kids);
-  fill(el, kids.length ? [top, below] : [top]);
+  write(top, head);
+  write(lower, heaps);
+  fill(kids, inner);
+  fill(el, inner.length ? [top, lower, kids] : [top, lower]);
   view.used.add(t);
   return el;
 }
 function box(x, deep) {
   if (view.folded.has(x.t)) return fold(x, deep);
   const look = cls('task', x.state, deep > 6 && 'tight', view.act.has(x.t) && 'act'), kids = (view.kids.get(x.t) || []).map(y => box(y, deep + 1));
-  return setBox(x.t, [look, `--deep:${Math.min(deep, 6)};${tint(x)}`, `Task ${x.t}, ${stateOf(x).says}`], head(x) + (roots(x) || '') + heap(x) + restOf(x.t), kids);
+  return setBox(x.t, [look, `--deep:${Math.min(deep, 6)};${tint(x)}`, `Task ${x.t}, ${stateOf(x).says}`], [head(x) + (roots(x) || ''), heap(x) + restOf(x.t)], kids);
 }
 function chainFrom(x) {                 // the folded tasks below one another, those beside them, and what is drawn below
   const chain = [], beside = [];
@@ -897,25 +937,26 @@ function fold(x, deep) {
   const { chain, beside, below } = chainFrom(x);
   const says = `${many(chain.length, 'waiting task')}, ${x.t} to ${chain[chain.length - 1].t}, each in the heap of the one before`;
   const also = beside.length ? `; beside them ${many(beside.length, 'task')}` : '';
-  const own = node('div', { class: 'head' }, node('b', {}, '\u22ee'), node('span', { class: 'tiny' }, says, also))
-    + node('div', { class: 'heap' }, node('span', { class: 'sum', 'data-heap': x.t }, sum(sumIn([...chain, ...beside]))));
-  return setBox(x.t, ['task fold', `--deep:${Math.min(deep, 6)}`, says], own, below.map(y => box(y, deep + 1)));
+  const top = node('div', { class: 'head' }, node('b', {}, '\u22ee'), node('span', { class: 'tiny' }, says, also));
+  const heaps = node('div', { class: 'heap' }, node('span', { class: 'sum', 'data-heap': x.t }, sum(sumIn([...chain, ...beside]))));
+  return setBox(x.t, ['task fold', `--deep:${Math.min(deep, 6)}`, says], [top, heaps], below.map(y => box(y, deep + 1)));
 }
 function captionOf() {
   const { live, shown, whole, folded } = view, hidden = live.length - shown.length + folded.size;
   return `${many(S.objs.size, 'object')} held, ${many(live.length, 'task')}` + (hidden ? ` (${hidden} at rest drawn as counts)` : '')
     + (whole.size ? `; ${many(whole.size, 'heap')} drawn as a whole` : '');
 }
-function drawHeaps(follow) {
+function drawBoxes() {
   view = lookOver();
   fill($('stage'), [box(S.tasks.get(0), 0), arrows]);
   for (const t of boxes.keys()) if (!view.used.has(t)) boxes.delete(t);
   write($('drawn'), captionOf());
   write($('mode'), MODES[mode]);
+}
+function drawHeaps() {
+  drawBoxes();
   fit();
-  const paths = arrowPaths();
-  if (follow) showHeaps();
-  drawArrows(paths);
+  drawArrows(arrowPaths());
 }
 function showHeaps() {
   const what = $('stage').querySelector('.obj.new, .f.wrote') || [...$('stage').querySelectorAll('.task.act > .own > .head')].pop();
@@ -959,17 +1000,23 @@ const KINDS = ['inside', 'up', 'down', 'cross'];
 const arrows = document.createElementNS('http://www.w3.org/2000/svg', 'svg');
 arrows.id = 'arrows';
 arrows.setAttribute('aria-hidden', 'true');
-function measure() {                    // where an element stands on the stage
-  const at = $('stage').getBoundingClientRect();
+function measure() {                    // where an element stands on the stage, measured once
+  const { left: x, top: y } = $('stage').getBoundingClientRect(), known = new Map();
   return el => {
-    const r = el.getBoundingClientRect(), [x, y] = [at.left, at.top];
-    return { l: r.left - x, r: r.right - x, t: r.top - y, b: r.bottom - y, x: (r.left + r.right) / 2 - x, y: (r.top + r.bottom) / 2 - y };
+    if (!known.has(el)) {
+      const r = el.getBoundingClientRect();
+      known.set(el, { l: r.left - x, r: r.right - x, t: r.top - y, b: r.bottom - y, x: (r.left + r.right) / 2 - x, y: (r.top + r.bottom) / 2 - y });
+    }
+    return known.get(el);
   };
 }
 function routeUp(s, t, em, own, into) { // round the corner of its own card, and along the gap above it
   const left = s.x - own.l <= own.r - s.x + em * .3, x = left ? own.l : own.r, out = left ? x - em * .75 : x + em * .75, gap = own.t - em * .4;
   const h = Math.min((gap - t.b) * .5, em * 6), mid = (x + into) / 2, start = `M${x} ${s.y}C${out} ${s.y} ${out} ${gap} ${x} ${gap}`;
-  return start + (gap - t.b < em * 1.2 ? `C${mid} ${gap} ${into} ${gap} ${into} ${t.b}` : `C${into} ${gap} ${into} ${gap - h} ${into} ${t.b}`);
+"##;
+
+pub const AFTER_6: &str =
+    r##"  return start + (gap - t.b < em * 1.2 ? `C${mid} ${gap} ${into} ${gap} ${into} ${t.b}` : `C${into} ${gap} ${into} ${gap - h} ${into} ${t.b}`);
 }
 function route(s, t, em, own) {         // from a field's cell to a card; own is the cell's card
   const into = Math.min(Math.max(s.x, t.l + em * .7), t.r - em * .7);
@@ -982,32 +1029,34 @@ function route(s, t, em, own) {         // from a field's cell to a card; own is
   return `M${s.x} ${s.b}C${s.x} ${s.b + h} ${end} ${t.b + h} ${end} ${t.b}`;
 }
 const arrow = (look, kind, from, to, d) => `<path class="${cls(kind, look)}" data-a="${from}" data-b="${to}" marker-end="url(#to-${kind})" d="${d}"/>`;
-function places(rect) {                 // where cards, heaps that are drawn as a whole, and tasks stand
+function places() {                     // the elements of cards, of heaps that are drawn as a whole, and of tasks
   const at = { cards: new Map(), sums: new Map(), heads: new Map() };
-  for (const el of $('stage').querySelectorAll('.obj')) at.cards.set(el.dataset.o, rect(el));
-"##;
-
-pub const AFTER_6: &str =
-    r##"  for (const el of $('stage').querySelectorAll('.sum[data-heap]')) at.sums.set(+el.dataset.heap, rect(el));
-  for (const el of $('stage').querySelectorAll('.task')) at.heads.set(+el.dataset.t, rect(el.firstChild.firstChild.firstChild));
+  for (const el of $('stage').querySelectorAll('.obj')) at.cards.set(el.dataset.o, el);
+  for (const el of $('stage').querySelectorAll('.sum[data-heap]')) at.sums.set(+el.dataset.heap, el);
+  for (const el of $('stage').querySelectorAll('.task')) at.heads.set(+el.dataset.t, el.firstChild.firstChild.firstChild);
   return at;
 }
-function fieldArrows(at, rect, em) {
-  const paths = [];
-  for (const el of $('stage').querySelectorAll('.f[data-to]')) {
-    const from = el.closest('.obj').dataset.o, to = el.dataset.to, place = at.cards.get(to) || at.sums.get(heapOf(to));
-    const kind = KINDS.find(k => el.classList.contains(k)), hit = view.how.has(from) || el.classList.contains('read');
-    if (place) paths.push(arrow(cls(el.classList.contains('wrote') && 'fresh', hit && 'near'), kind, from, to, route(rect(el), place, em, at.cards.get(from))));
-  }
-  return paths;
+function fieldEnds() {                  // of each reference its cell, and what it leads from and to
+  return [...$('stage').querySelectorAll('.f[data-to]')].map(el => {
+    const card = el.closest('.obj'), from = card.dataset.o, fresh = el.classList.contains('wrote');
+    return { el, card, from, to: el.dataset.to, kind: KINDS.find(k => el.classList.contains(k)), look: fresh ? 'fresh' : '', near: fresh || view.how.has(from) || el.classList.contains('read') };
+  });
 }
-function rootArrows(at, rect, em) {     // from what tasks hold
-  const paths = [];
-  for (const el of $('stage').querySelectorAll('.hold')) {
-    const to = el.dataset.o, place = at.cards.get(to) || at.sums.get(heapOf(to)), cell = rect(el), near = view.act.has(+el.closest('.task').dataset.t);
-    if (place) paths.push(arrow(near && 'near', 'root', '', to, route(cell, place, em, cell)));
-  }
-  return paths;
+function rootEnds() {                   // of what tasks hold
+  return [...$('stage').querySelectorAll('.hold')].map(el => ({ el, card: el, from: '', to: el.dataset.o, kind: 'root', look: '', near: view.act.has(+el.closest('.task').dataset.t) }));
+}
+function arrowOf(one, at, rect, look) {
+  const place = at.cards.get(one.to) || at.sums.get(heapOf(one.to));
+  return arrow(cls(one.look, look), one.kind, one.from, one.to, route(rect(one.el), rect(place), fitted, rect(one.card)));
+}
+let spare = [];                         // of many references within heaps, and of many roots, those that the entry isn't at
+function drawnEnds(at) {
+  const ends = [...fieldEnds(), ...rootEnds()].filter(x => at.cards.has(x.to) || at.sums.has(heapOf(x.to)));
+  const most = { inside: ARROWS_DRAWN, root: ROOTS_DRAWN }, total = {};
+  for (const x of ends) total[x.kind] = (total[x.kind] || 0) + 1;
+  const isSpare = x => !x.near && total[x.kind] > most[x.kind];
+  spare = ends.filter(isSpare);
+  return ends.filter(x => !isSpare(x));
 }
 function countsBetween() {              // of heaps that are drawn as a whole: how many references lead into each other heap
   const total = new Map();
@@ -1016,36 +1065,39 @@ function countsBetween() {              // of heaps that are drawn as a whole: h
   }
   return total;
 }
-function heapArrow(at, em, [key, n]) {
-  const [a, b] = key.split(' ').map(Number), kind = kindOf(a, b), s = at.sums.get(a), t = at.sums.get(b) || at.heads.get(b);
-  if (!s || !t) return '';
+function heapArrow(at, rect, [key, n]) {
+  const [a, b] = key.split(' ').map(Number), kind = kindOf(a, b), from = at.sums.get(a), to = at.sums.get(b) || at.heads.get(b);
+  if (!from || !to) return '';
+  const s = rect(from), t = rect(to), em = fitted;
   const low = s.t > t.t, shift = kind === 'down' ? em : -em, x1 = s.x + shift, y1 = low ? s.t : s.b, x2 = t.x + shift, y2 = low ? t.b : t.t, m = (y1 + y2) / 2;
   return arrow('', kind, '', '', `M${x1} ${y1}C${x1} ${m} ${x2} ${m} ${x2} ${y2}`) + `<text class="${kind}" x="${(x1 + x2) / 2}" y="${m + 4}" text-anchor="middle">${n}</text>`;
 }
 function stoppedArrow(at, rect) {       // from the reader to the object that it may not have
-  const t = at.cards.get(view.stopped) || at.sums.get(heapOf(view.stopped)), reader = $('stage').querySelector(`.task[data-t="${RUN.end[1]}"] > .own > .head .pill`);
-  if (!t || !reader) return '';
-  const s = rect(reader), side = s.x > t.r ? [t.r, t.y] : s.x < t.l ? [t.l, t.y] : [t.x, s.y > t.y ? t.b : t.t];
+  const place = at.cards.get(view.stopped) || at.sums.get(heapOf(view.stopped)), reader = $('stage').querySelector(`.task[data-t="${RUN.end[1]}"] > .own > .head .pill`);
+  if (!place || !reader) return '';
+  const s = rect(reader), t = rect(place), side = s.x > t.r ? [t.r, t.y] : s.x < t.l ? [t.l, t.y] : [t.x, s.y > t.y ? t.b : t.t];
   const dx = Math.max(40, Math.abs(s.x - side[0]) * .4) * (s.x > t.r ? 1 : -1);
   return arrow('', 'cross', '', view.stopped, `M${s.x} ${s.b}C${s.x} ${s.b + 34} ${side[0] + dx} ${side[1]} ${side[0]} ${side[1]}`)
     + `<text class="cross" x="${(s.x + side[0]) / 2 + dx * .2}" y="${Math.max(s.b + 30, side[1] - 8)}" text-anchor="middle">stopped</text>`;
 }
 function arrowPaths() {
-  const rect = measure(), at = places(rect), em = fitted, paths = [...rootArrows(at, rect, em), ...fieldArrows(at, rect, em)];
-  for (const one of countsBetween()) paths.push(heapArrow(at, em, one));
+  const rect = measure(), at = places(), paths = drawnEnds(at).map(x => arrowOf(x, at, rect));
+  for (const one of countsBetween()) paths.push(heapArrow(at, rect, one));
   if (view.stopped) paths.push(stoppedArrow(at, rect));
   return paths;
 }
 function drawArrows(paths) {
-  const drawn = kind => paths.filter(p => p.startsWith(`<path class="${kind}`)).length;
-  write(arrows, `<defs>${HEADS}</defs>${paths.join('')}`);
-  arrows.classList.toggle('few', drawn('inside') > ARROWS_DRAWN);
-  arrows.classList.toggle('crowd', drawn('root') > ROOTS_DRAWN);
+  write(arrows, `<defs>${HEADS}</defs>${paths.join('')}<g id="pointed"></g>`);
   hot(seen);
 }
-function hot(n) {                       // the arrows of one object
-  let any = false;
-  for (const p of arrows.querySelectorAll('path[data-b]')) {
+function hot(n) {                       // the arrows of one object, those that aren't drawn else too
+  const wanted = n ? spare.filter(x => x.from === n || x.to === n) : [];
+  if (wanted.length) {
+    const at = places(), rect = measure();
+    write($('pointed'), wanted.map(x => arrowOf(x, at, rect, 'hot')).join(''));
+  } else write($('pointed'), '');
+  let any = wanted.length > 0;
+  for (const p of arrows.querySelectorAll(':scope > path[data-b]')) {
     const is = Boolean(n) && (p.dataset.a === n || p.dataset.b === n);
     p.classList.toggle('hot', is);
     any = any || is;
@@ -1092,7 +1144,10 @@ function followLanes() {
 }
 function entryBox(i, touch) {
   const [w, kind, t] = ENTRIES[i - 1].e, text = ENTRIES[i - 1].e.join(' ');
-  const looks = cls('ent', `k-${kind}`, i === N && isOver(N) && 'over', touch.has(i) && 'touch');
+"##;
+
+pub const AFTER_7: &str =
+    r##"  const looks = cls('ent', `k-${kind}`, i === N && isOver(N) && 'over', touch.has(i) && 'touch');
   return node('div', { id: `e${i}`, role: 'option', class: looks, 'data-e': i, 'aria-selected': 'false', 'aria-posinset': i, 'aria-setsize': N,
     'aria-label': `${i}: worker ${text}`, title: `${i}: ${text}`, style: `left:${8 + (i - 1) * wide}px;width:${wide - 3}px;top:${lane.get(w) * HIGH + 2}px` },
   t === undefined ? 'fuel' : wide > 60 ? `${kind} ${t}` : `${t}`);
@@ -1104,28 +1159,32 @@ function markEntry() {                  // the entry, and a veil over those afte
   if ($('veil')) $('veil').style.left = `${8 + pos * wide - 1}px`;
   el ? $('lanes').setAttribute('aria-activedescendant', `e${pos}`) : $('lanes').removeAttribute('aria-activedescendant');
 }
-function drawLanes(follow) {
-  const box = $('lanes'), block = 20 * wide;
-  if (follow) followLanes();
-  const from = Math.max(0, Math.floor(box.scrollLeft / block) - 1) * 20 + 1, to = Math.min(N, (Math.ceil((box.scrollLeft + box.clientWidth) / block) + 1) * 20);
-  const touch = new Set((seen && histories.get(seen) || []).map(x => x[0])), out = workers.map((w, j) => `<div class="lane" style="top:${j * HIGH + 10}px"></div>`);
-  for (let i = from; i <= to; i++) out.push(entryBox(i, touch));
-  write($('track'), out.join('') + '<div id="veil"></div>');
+const BLOCK = 20;                       // so many entries come into the lanes, and go, at once
+function lanesSeen() {                  // the entries that the lanes have to show
+  const box = $('lanes'), block = BLOCK * wide, x = box.scrollLeft;
+  return [Math.max(0, Math.floor(x / block) - 1) * BLOCK + 1, Math.min(N, (Math.ceil((x + box.clientWidth) / block) + 1) * BLOCK)];
+}
+let laid = null;                        // what the lanes show
+function drawLanes([from, to]) {
+  const now = `${from} ${to} ${wide} ${seen}`;
+  if (now !== laid) {
+    const touch = new Set((seen && histories.get(seen) || []).map(x => x[0])), out = workers.map((w, j) => `<div class="lane" style="top:${j * HIGH + 10}px"></div>`);
+    for (let i = from; i <= to; i++) out.push(entryBox(i, touch));
+    $('track').innerHTML = out.join('') + '<div id="veil"></div>';
+    laid = now;
+  }
   markEntry();
 }
 
 /* ------------------------------------------------------------ going about */
 
 let timer = null, linking = null, waits = 0;
-function keepingFocus(redraw) {         // the focus comes back to what was redrawn
-"##;
-
-pub const AFTER_7: &str =
-    r##"  const el = document.activeElement, at = el && ['o', 'e', 't'].find(k => el.dataset && el.dataset[k] !== undefined), inside = at && el.closest('[id]');
-  const value = at && el.dataset[at];
+function keepingFocus(redraw) {         // the focus comes back to what was redrawn, or else to what it stood in
+  const el = document.activeElement, key = el && el.dataset && ['o', 'e', 't'].find(k => el.dataset[k] !== undefined);
+  const outer = key && el.closest('[id]'), same = key && `.${el.classList[0]}[data-${key}="${CSS.escape(el.dataset[key])}"]`, task = key && el.closest('.task');
   redraw();
-  if (!at || !inside || document.activeElement !== document.body) return;
-  const again = $(inside.id).querySelector(`[data-${at}="${CSS.escape(value)}"]`) || inside;
+  if (!key || document.activeElement !== document.body) return;
+  const again = el.classList[0] && (task && task.querySelector(same) || $(outer.id).querySelector(same)) || $(outer.id).querySelector(`[data-${key}="${CSS.escape(el.dataset[key])}"]`) || outer.closest('[tabindex]');
   if (again) again.focus({ preventScroll: true });
 }
 function linkTo() {                     // the address of the entry; a browser may refuse it of a file
@@ -1141,10 +1200,16 @@ function drawAll() {                    // what is written comes before what is 
   drawOutputs();
   drawLook();
   moveCursor();
-  drawHeaps(true);
+  drawBoxes();
+  fit();                                // from here on it is measured
+  const paths = arrowPaths();
+  showHeaps();
   showCode();
   showTree();
-  drawLanes(true);
+  followLanes();
+  const lanes = lanesSeen();
+  drawArrows(paths);                    // and written again
+  drawLanes(lanes);
   clearTimeout(linking);
   linking = setTimeout(linkTo, 150);
 }
@@ -1233,7 +1298,7 @@ function onPlot(e) {
 function onScroll() {
   $('names').scrollTop = $('lanes').scrollTop;
   cancelAnimationFrame(waits);
-  waits = requestAnimationFrame(() => drawLanes(false));
+  waits = requestAnimationFrame(() => drawLanes(lanesSeen()));
 }
 function onPaper(is) {                  // the class is set before a print, so that arrows are measured as they will be printed
   document.documentElement.classList.toggle('paper', is);
@@ -1246,14 +1311,16 @@ function readHash(hash) {
   return at.has('e') ? Number(at.get('e')) || 0 : null;
 }
 function onHash(e) {
-  const i = readHash(new URL(e.newURL).hash);
+"##;
+
+pub const AFTER_8: &str = r##"  const i = readHash(new URL(e.newURL).hash);
   if (i !== null) go(i);
 }
 function listen() {
   const hovered = e => { const el = e.target.closest('[data-o]'); return el ? el.dataset.o : seen; };
   addEventListener('keydown', onKey);
   addEventListener('click', onClick);
-  addEventListener('resize', () => { drawPlot(); drawHeaps(); drawLanes(true); });
+  addEventListener('resize', () => { drawPlot(); drawHeaps(); followLanes(); drawLanes(lanesSeen()); });
   addEventListener('hashchange', onHash);
   addEventListener('beforeprint', () => onPaper(true));
   addEventListener('afterprint', () => onPaper(false));
@@ -1289,10 +1356,7 @@ function begin() {
   try { const kept = localStorage.getItem('hh-theme'); if (kept) document.documentElement.dataset.theme = kept; } catch { /* no store */ }
   document.title = `${RUN.title}: a run`;
   $('title').textContent = RUN.title;
-"##;
-
-pub const AFTER_8: &str =
-    r##"  $('how').textContent = `${many(N, 'entry', 'entries')} by ${many(s.workers, 'worker')} \u00b7 leaf limit ${s.leaf} words \u00b7 inner limit ${s.inner} words \u00b7 ${s.chunks} chunks \u00b7 fuel ${count(s.fuel)}`;
+  $('how').textContent = `${many(N, 'entry', 'entries')} by ${many(s.workers, 'worker')} \u00b7 leaf limit ${s.leaf} words \u00b7 inner limit ${s.inner} words \u00b7 ${s.chunks} chunks \u00b7 fuel ${count(s.fuel)}`;
   $('lines').innerHTML = LINES.map(lineRow).join('');
   $('legend').innerHTML = legend();
   $('names').innerHTML = workers.map(w => `<div style="--w:${hue(w)}">worker <b>${w}</b></div>`).join('');
@@ -1329,14 +1393,35 @@ fn add_before_3(text: &mut Vec<u8>) -> Result<(), AllocError>
     text.extend_from_slice(BEFORE_3.as_bytes())
 }
 
+fn add_before_4(text: &mut Vec<u8>) -> Result<(), AllocError>
+    ensures { OnOk result (text.new.items ≡ text.old.items ++ BEFORE_4.now) }
+{
+    text.extend_from_slice(BEFORE_4.as_bytes())
+}
+
+#[tactic(auto, unfolding(crate::specs::Text::before_group_1_1))]
+fn add_before_group_1_1(text: &mut Vec<u8>) -> Result<(), AllocError>
+    ensures { OnOk result (text.new.items ≡ text.old.items ++ before_group_1_1) }
+{
+    add_before_1(text)?;
+    add_before_2(text)?;
+    add_before_3(text)
+}
+
+#[tactic(auto, unfolding(crate::specs::Text::before_group_1_2))]
+fn add_before_group_1_2(text: &mut Vec<u8>) -> Result<(), AllocError>
+    ensures { OnOk result (text.new.items ≡ text.old.items ++ before_group_1_2) }
+{
+    add_before_4(text)
+}
+
 /// Adds what stands before the data of a run.
 #[tactic(auto, unfolding(crate::specs::Text::before))]
 pub fn add_before(text: &mut Vec<u8>) -> Result<(), AllocError>
     ensures { OnOk result (text.new.items ≡ text.old.items ++ ahead_of_data) }
 {
-    add_before_1(text)?;
-    add_before_2(text)?;
-    add_before_3(text)
+    add_before_group_1_1(text)?;
+    add_before_group_1_2(text)
 }
 
 fn add_after_1(text: &mut Vec<u8>) -> Result<(), AllocError>
