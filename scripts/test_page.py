@@ -4,13 +4,13 @@
     scripts/test_page.py HHEAP HHVIEW [EXAMPLE ..]
 
 HHEAP and HHVIEW are the built programs. Of each example's page, of a run with large objects, of 255 tasks none of which
-runs, and of a sort of 330 numbers with 5,000 entries (each eleventh of them): no script fails and nothing is asked of a network, at any entry,
-forwards and backwards; each state is the same on the way back; keys, the search and links to entries lead where they
-say; and at each tenth entry after a `ran`, where the trace is cut, the tasks, the objects at rest with their fields,
-the chunks with what lies in each, and the remembered fields are those of `hheap image`. An image doesn't have what tasks
-hold: from the roots on the page, and the fields of objects above, just those objects of a heap are reached that its leaf
-collection keeps, and just those of which its marking is. An entry takes 200 bytes at most on the examples' mean. Without
-a browser the test is left out, which a line says.
+runs, and of a sort of 330 numbers with 5,000 entries (of these two each eleventh): no script fails and nothing is asked
+of a network, at any entry, forwards and backwards; each state is the same on the way back; keys, the search and links to
+entries lead where they say; and at each tenth entry after a `ran`, where the trace is cut, the tasks, the objects at rest
+with their fields, the chunks with what lies in each, and the remembered fields are those of `hheap image`. An image
+doesn't have what tasks hold: from the roots on the page, and the fields of objects above, just those objects of a heap
+are reached that its leaf collection keeps, and just those of which its marking is. An entry takes 200 bytes at most on
+the examples' mean. Without a browser the test is left out, which a line says.
 """
 import json
 import os
@@ -193,7 +193,8 @@ def cut(trace, options, at):
         return trace, options
     rows = [line.split() for line in trace[1:at + 1]]
     steps = sum(int(words[3]) for words in rows if words[1] == 'ran')
-    return [*trace[:at + 1], '0 fuel'], [*options, '--fuel', str(steps)]
+    others = options[:options.index('--fuel')] if '--fuel' in options else options
+    return [*trace[:at + 1], '0 fuel'], [*others, '--fuel', str(steps)]
 
 
 def same_as_image(page, hheap, program, trace, options, at):
@@ -253,7 +254,7 @@ def same_as_kept(page, entries):
 
 def walk(page, count, stride):
     """Forwards and backwards through the entries, a few at a time."""
-    places, bad = list(range(0, count + 1, stride)), []
+    places, bad = sorted({*range(0, count + 1, stride), count}), []
     page.run('window.digests = []; 0')
     for way in (places, places[::-1]):
         for at in range(0, len(way), 50):
@@ -276,7 +277,7 @@ def leads(page, count):
 def cuts(example, trace):
     """The entries after which the trace is cut."""
     ran = [i for i in range(1, len(trace)) if trace[i].split()[1] == 'ran']
-    stride = max(10, len(ran) // LONG_CUTS) if example == LONG else 10
+    stride = max(10, len(ran) // LONG_CUTS) if example in (WIDE, LONG) else 10
     return ran[::stride] + ran[-1:]
 
 
@@ -296,7 +297,7 @@ def test(page, hheap, hhview, example, room):
     opened = time.time() - opened
     count = page.run('hh.N')
     assert count == len(trace) - 1
-    bad = walk(page, count, LONG_STRIDE if example == LONG else 1)
+    bad = walk(page, count, LONG_STRIDE if example in (WIDE, LONG) else 1)
     assert not bad, bad[:5]
     step = page.run(TIMES)
     leads(page, count)
