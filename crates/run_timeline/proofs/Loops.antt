@@ -1,5 +1,5 @@
 -- What is left to be written of a timeline, entry by entry.
-use Rattle.run_timeline.proofs.Common.{◌≡◌, ◌<◌, ◌+◌, ◌==◌, ℕ, suc, false, List, [], ◌∷◌, ◌++◌, length, take, drop, get_or, ap, sym, ◌∙◌, append_assoc, append-nil, arith, ◌-◌, length-append, ◌≢◌, codes, slice_set, Option, flat_map, flat_map-append, take-append_seam, ProgramText, EntryValue, SettingsValue, Ledger, after, RefusedAt, RunEnd, or_short, ReplayError, NoMemory, ReplayFails, cut, quoted, task_name, Json, Word, NoMember, Member, Members, json, further, more_member, more_members, arrays_are_joined, counts_of, process, lane, arrow_begins, arrow_ends, arguments, two_numbers, event, end_time, slice_name, entry_events, fork_events, task_begins, events_from, events_of, lanes, timeline, beginning, event_ending, span_head, event_head}
+use Rattle.run_timeline.proofs.Common.{◌≡◌, ◌<◌, ◌+◌, ◌==◌, ℕ, suc, false, List, [], ◌∷◌, ◌++◌, length, take, drop, get_or, ap, sym, ◌∙◌, append_assoc, append-nil, arith, ◌-◌, length-append, ◌≢◌, codes, Option, flat_map, flat_map-append, take-append_seam, ProgramText, EntryValue, SettingsValue, Ledger, after, RefusedAt, RunEnd, or_short, ReplayError, NoMemory, ReplayFails, cut, quoted, task_name, Json, Word, NoMember, Member, Members, json, further, more_member, more_members, arrays_are_joined, counts_of, process, lane, arrow_begins, arrow_ends, arguments, two_numbers, event, end_time, slice_name, entry_events, fork_events, task_begins, events_from, events_of, lanes, timeline, beginning, event_ending, span_head, event_head}
 use Rattle.run_journal.specs.declared.replay.ReplayError.TheVariants.{RefusedAt as FailsAt}
 use Rattle.run_timeline.proofs.Made.{span_made, event_made}
 

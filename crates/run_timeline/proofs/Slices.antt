@@ -1,5 +1,5 @@
 -- Each entry is one slice.
-use Rattle.run_timeline.proofs.Common.{◌≡◌, ◌+◌, ◌==◌, ℕ, zero, suc, Bool, cond, true, false, List, [], ◌∷◌, ◌++◌, length, refl, ap, ◌∙◌, arith, Option, Some, None, codes, slice_get, take, filter, filter-append, ProgramText, TaskStatus, Running, Waiting, Ended, Joined, Task, MachineState, Kind, Took, Ran, Chunk, Begin, End, PutOff, Mark, More, Sweep, Fuel, EntryValue, SettingsValue, RunEnd, Ledger, in_use, after, after_all, opening, Json, AccountCounts, counts_of, words_held, arrow_begins, arrow_ends, slice, slice_name, begins_and_ends, taken, first_taken, fork_events, task_end_events, end_events, join_events, chunks_counted, counter, counter_events, run_ended, words_counted, entry_events, events_from, events_of, is_slice, slices_of, SlicesAreEntries}
+use Rattle.run_timeline.proofs.Common.{◌≡◌, ◌+◌, ◌==◌, ℕ, zero, suc, Bool, cond, true, false, List, [], ◌∷◌, ◌++◌, length, refl, ap, ◌∙◌, arith, Option, Some, None, codes, slice_get, take, filter, filter-append, ProgramText, TaskStatus, Running, Waiting, Ended, Joined, Task, MachineState, Kind, Took, Ran, Chunk, Begin, End, PutOff, Mark, More, Sweep, Fuel, EntryValue, SettingsValue, RunEnd, Ledger, in_use, after, after_all, opening, Json, AccountCounts, counts_of, words_held, arrow_begins, arrow_ends, slice, slice_name, begins_and_ends, taken, first_taken, fork_events, task_end_events, end_events, join_events, chunks_counted, counter, counter_events, run_ended, words_counted, entry_events, events_from, is_slice, slices_of, SlicesAreEntries}
 
 abbrev slices : List Json → List Json
 slices = filter is_slice

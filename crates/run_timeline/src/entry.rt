@@ -4,10 +4,10 @@ ghost use Rattle.std.specs.Prelude.{◌≡◌, ◌++◌, OnOk, IfOk, option_copi
 ghost use Rattle.json_text.specs.Json.{first_members, further, Number, Member, NoMember};
 ghost use Rattle.run_timeline.specs.Entries.{task_place, begins_at, slice_name, numbers_of, of_task, slice};
 
-use crate::events::{add_comma, begin_arguments, begin_event, end_arguments};
+use crate::events::{EventWriter, Label};
 use crate::tasks::next_line;
 use json_text::{add_number, first_number, more_number};
-use run_journal::{Kind, MachineState, Program, Task};
+use run_journal::{Entry, Kind, MachineState, Program, Task};
 use run_names::{function_name, kind_name};
 use std::alloc::{AllocError, Global};
 
@@ -62,77 +62,73 @@ pub(crate) fn slice_name(
 }
 
 // Adds the task of an entry.
-fn add_task(alloc: Global, text: &mut Vec<u8>, task: u32) -> Result<(), AllocError>
-    ensures { OnOk result (text.new.items ≡ text.old.items ++ first_members (of_task task NoMember)) }
+fn add_task(writer: &mut EventWriter, task: u32) -> Result<(), AllocError>
+    ensures { OnOk result (writer.new.text.items ≡ writer.old.text.items ++ first_members (of_task task NoMember)) }
 {
-    first_number(alloc, text, b"task", task as u64)
+    first_number(writer.alloc, &mut writer.text, b"task", task as u64)
 }
 
 // Adds the task of an entry and a number with its name.
-fn add_two(
-    alloc: Global,
-    text: &mut Vec<u8>,
-    task: u32,
-    name: &[u8],
-    number: u32,
-) -> Result<(), AllocError>
-    ensures { OnOk result (text.new.items ≡ text.old.items ++ first_members (of_task task (Member name.now (Number number) NoMember))) }
+fn add_two(writer: &mut EventWriter, task: u32, name: &[u8], number: u32) -> Result<(), AllocError>
+    ensures { OnOk result (writer.new.text.items ≡ writer.old.text.items ++ first_members (of_task task (Member name.now (Number number) NoMember))) }
 {
-    first_number(alloc, text, b"task", task as u64)?;
-    more_number(alloc, text, name, number as u64)
+    first_number(writer.alloc, &mut writer.text, b"task", task as u64)?;
+    more_number(writer.alloc, &mut writer.text, name, number as u64)
 }
 
 // Adds what the end of a leaf collection says.
 fn add_end(
-    alloc: Global,
-    text: &mut Vec<u8>,
+    writer: &mut EventWriter,
     task: u32,
     kept: u32,
     given: u32,
     words: u32,
 ) -> Result<(), AllocError>
-    ensures { OnOk result (text.new.items ≡ text.old.items ++ first_members (numbers_of (Kind.End task kept given words))) }
+    ensures { OnOk result (writer.new.text.items ≡ writer.old.text.items ++ first_members (numbers_of (Kind.End task kept given words))) }
 {
-    first_number(alloc, text, b"task", task as u64)?;
-    more_number(alloc, text, b"kept", kept as u64)?;
-    more_number(alloc, text, b"given", given as u64)?;
-    more_number(alloc, text, b"words", words as u64)
+    first_number(writer.alloc, &mut writer.text, b"task", task as u64)?;
+    more_number(writer.alloc, &mut writer.text, b"kept", kept as u64)?;
+    more_number(writer.alloc, &mut writer.text, b"given", given as u64)?;
+    more_number(writer.alloc, &mut writer.text, b"words", words as u64)
 }
 
 // Adds what an entry says.
-fn add_numbers(alloc: Global, text: &mut Vec<u8>, kind: Kind) -> Result<(), AllocError>
-    ensures { OnOk result (text.new.items ≡ text.old.items ++ first_members (numbers_of kind)) }
+fn add_numbers(writer: &mut EventWriter, kind: Kind) -> Result<(), AllocError>
+    ensures { OnOk result (writer.new.text.items ≡ writer.old.text.items ++ first_members (numbers_of kind)) }
 {
     match kind {
-        Kind::Took(task) => add_task(alloc, text, task),
-        Kind::Ran(task, steps) => add_two(alloc, text, task, b"steps", steps),
-        Kind::Chunk(task) => add_task(alloc, text, task),
-        Kind::Begin(task) => add_task(alloc, text, task),
-        Kind::End(task, kept, given, words) => add_end(alloc, text, task, kept, given, words),
-        Kind::PutOff(task) => add_task(alloc, text, task),
-        Kind::Mark(task) => add_task(alloc, text, task),
-        Kind::More(task, objects) => add_two(alloc, text, task, b"objects", objects),
-        Kind::Sweep(task, given) => add_two(alloc, text, task, b"given", given),
+        Kind::Took(task) => add_task(writer, task),
+        Kind::Ran(task, steps) => add_two(writer, task, b"steps", steps),
+        Kind::Chunk(task) => add_task(writer, task),
+        Kind::Begin(task) => add_task(writer, task),
+        Kind::End(task, kept, given, words) => add_end(writer, task, kept, given, words),
+        Kind::PutOff(task) => add_task(writer, task),
+        Kind::Mark(task) => add_task(writer, task),
+        Kind::More(task, objects) => add_two(writer, task, b"objects", objects),
+        Kind::Sweep(task, given) => add_two(writer, task, b"given", given),
         Kind::Fuel => Ok(()),
     }
 }
 
 /// Adds the slice of the entry of a name and a number.
 pub(crate) fn add_slice(
-    alloc: Global,
-    text: &mut Vec<u8>,
+    writer: &mut EventWriter,
     name: &[u8],
     number: u32,
-    worker: u32,
-    kind: Kind,
+    entry: Entry,
 ) -> Result<(), AllocError>
-    ensures { OnOk result (text.new.items ≡ text.old.items ++ further (slice name.now number (record { worker = worker; kind = kind }))) }
+    ensures { OnOk result (writer.new.text.items ≡ writer.old.text.items ++ further (slice name.now number entry)) }
 {
     let time = number.saturating_sub(1) as u64 * 1000;
-    add_comma(text)?;
-    begin_event(alloc, text, name, b"entry", b"X", time, worker)?;
-    more_number(alloc, text, b"dur", 1000)?;
-    begin_arguments(text)?;
-    add_numbers(alloc, text, kind)?;
-    end_arguments(text)
+    let label = Label {
+        name,
+        category: b"entry",
+        phase: b"X",
+    };
+    writer.add_comma()?;
+    writer.begin_event(&label, time, entry.worker())?;
+    more_number(writer.alloc, &mut writer.text, b"dur", 1000)?;
+    writer.begin_arguments()?;
+    add_numbers(writer, entry.kind())?;
+    writer.end_arguments()
 }

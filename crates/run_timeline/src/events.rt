@@ -8,156 +8,176 @@ ghost use Rattle.run_timeline.specs.Pieces.{event_head, span_head};
 use json_text::{first_word, more_number, more_word};
 use std::alloc::{AllocError, Global};
 
-/// Begins an event: all but the members of its own.
-pub(crate) fn begin_event(
-    alloc: Global,
-    text: &mut Vec<u8>,
-    name: &[u8],
-    category: &[u8],
-    phase: &[u8],
-    time: u64,
-    lane: u32,
-) -> Result<(), AllocError>
-    ensures { OnOk result (text.new.items ≡ text.old.items ++ event_head name.now category.now phase.now time lane) }
-{
-    text.push(b'{')?;
-    first_word(text, b"name", name)?;
-    more_word(text, b"cat", category)?;
-    more_word(text, b"ph", phase)?;
-    more_number(alloc, text, b"ts", time)?;
-    more_number(alloc, text, b"pid", 1)?;
-    more_number(alloc, text, b"tid", lane as u64)
+/// What viewers call an event, and the kind of event that it is.
+#[derive(Clone, Copy)]
+pub(crate) struct Label<'a> {
+    pub(crate) name: &'a [u8],
+    pub(crate) category: &'a [u8],
+    pub(crate) phase: &'a [u8],
 }
 
-/// Puts a comma and a line feed between two events.
-pub(crate) fn add_comma(text: &mut Vec<u8>) -> Result<(), AllocError>
-    ensures { OnOk result (text.new.items ≡ text.old.items ++ 44 ∷ (10 ∷ [])) }
-{
-    text.extend_from_slice(b",\n")
+/// Where the events of an entry stand: at its number, in the lane of its worker.
+#[derive(Clone, Copy)]
+pub(crate) struct Place {
+    pub(crate) number: u32,
+    pub(crate) lane: u32,
 }
 
-/// Begins the arguments of an event.
-pub(crate) fn begin_arguments(text: &mut Vec<u8>) -> Result<(), AllocError>
-    ensures { OnOk result (text.new.items ≡ text.old.items ++ codes ",\"args\":{") }
-{
-    text.extend_from_slice(b",\"args\":{")
+/// Writes the events of a timeline.
+#[derive(Drop)]
+pub(crate) struct EventWriter {
+    pub(crate) alloc: Global,
+    pub(crate) text: Vec<u8>,
 }
 
-/// Ends the arguments of an event, and the event.
-pub(crate) fn end_arguments(text: &mut Vec<u8>) -> Result<(), AllocError>
-    ensures { OnOk result (text.new.items ≡ text.old.items ++ codes "}}") }
-{
-    text.extend_from_slice(b"}}")
-}
+impl EventWriter {
+    /// Begins an event: all but the members of its own.
+    pub(crate) fn begin_event(
+        &mut self,
+        label: &Label,
+        time: u64,
+        lane: u32,
+    ) -> Result<(), AllocError>
+        ensures { OnOk result (self.new.text.items ≡ self.old.text.items ++ event_head label.now.name.now label.now.category.now label.now.phase.now time lane) }
+    {
+        self.text.push(b'{')?;
+        first_word(&mut self.text, b"name", label.name)?;
+        more_word(&mut self.text, b"cat", label.category)?;
+        more_word(&mut self.text, b"ph", label.phase)?;
+        more_number(self.alloc, &mut self.text, b"ts", time)?;
+        more_number(self.alloc, &mut self.text, b"pid", 1)?;
+        more_number(self.alloc, &mut self.text, b"tid", lane as u64)
+    }
 
-/// Ends an event.
-pub(crate) fn end_event(text: &mut Vec<u8>) -> Result<(), AllocError>
-    ensures { OnOk result (text.new.items ≡ text.old.items ++ 125 ∷ []) }
-{
-    text.push(b'}')?;
-    Ok(())
-}
+    /// Puts a comma and a line feed between two events.
+    pub(crate) fn add_comma(&mut self) -> Result<(), AllocError>
+        ensures { OnOk result (self.new.text.items ≡ self.old.text.items ++ 44 ∷ (10 ∷ [])) }
+    {
+        self.text.extend_from_slice(b",\n")
+    }
 
-/// Begins a span, or its end.
-pub(crate) fn begin_span(
-    alloc: Global,
-    text: &mut Vec<u8>,
-    phase: &[u8],
-    name: &[u8],
-    category: &[u8],
-    id: u64,
-    number: u32,
-    lane: u32,
-) -> Result<(), AllocError>
-    ensures { OnOk result (text.new.items ≡ text.old.items ++ span_head phase.now name.now category.now id number lane) }
-{
-    add_comma(text)?;
-    begin_event(
-        alloc,
-        text,
-        name,
-        category,
-        phase,
-        number as u64 * 1000,
-        lane,
-    )?;
-    more_number(alloc, text, b"id", id)
-}
+    /// Begins the arguments of an event.
+    pub(crate) fn begin_arguments(&mut self) -> Result<(), AllocError>
+        ensures { OnOk result (self.new.text.items ≡ self.old.text.items ++ codes ",\"args\":{") }
+    {
+        self.text.extend_from_slice(b",\"args\":{")
+    }
 
-/// Adds a span's beginning or end that has no members of its own.
-pub(crate) fn add_span(
-    alloc: Global,
-    text: &mut Vec<u8>,
-    phase: &[u8],
-    name: &[u8],
-    category: &[u8],
-    id: u64,
-    number: u32,
-    lane: u32,
-) -> Result<(), AllocError>
-    ensures { OnOk result (text.new.items ≡ text.old.items ++ further (span phase.now name.now category.now id number lane NoMember)) }
-{
-    begin_span(alloc, text, phase, name, category, id, number, lane)?;
-    end_event(text)
-}
+    /// Ends the arguments of an event, and the event.
+    pub(crate) fn end_arguments(&mut self) -> Result<(), AllocError>
+        ensures { OnOk result (self.new.text.items ≡ self.old.text.items ++ codes "}}") }
+    {
+        self.text.extend_from_slice(b"}}")
+    }
 
-/// Adds where an arrow begins.
-pub(crate) fn begin_arrow(
-    alloc: Global,
-    text: &mut Vec<u8>,
-    name: &[u8],
-    id: u64,
-    number: u32,
-    lane: u32,
-) -> Result<(), AllocError>
-    requires { 0 < number }
-    ensures { OnOk result (text.new.items ≡ text.old.items ++ further (arrow_begins name.now id number lane)) }
-{
-    add_comma(text)?;
-    let time = number as u64 * 1000 - 500;
-    begin_event(alloc, text, name, name, b"s", time, lane)?;
-    more_number(alloc, text, b"id", id)?;
-    end_event(text)
-}
+    /// Ends an event.
+    pub(crate) fn end_event(&mut self) -> Result<(), AllocError>
+        ensures { OnOk result (self.new.text.items ≡ self.old.text.items ++ 125 ∷ []) }
+    {
+        self.text.push(b'}')?;
+        Ok(())
+    }
 
-/// Adds where an arrow ends.
-pub(crate) fn end_arrow(
-    alloc: Global,
-    text: &mut Vec<u8>,
-    name: &[u8],
-    id: u64,
-    number: u32,
-    lane: u32,
-) -> Result<(), AllocError>
-    requires { 0 < number }
-    ensures { OnOk result (text.new.items ≡ text.old.items ++ further (arrow_ends name.now id number lane)) }
-{
-    add_comma(text)?;
-    let time = number as u64 * 1000 - 500;
-    begin_event(alloc, text, name, name, b"f", time, lane)?;
-    more_number(alloc, text, b"id", id)?;
-    more_word(text, b"bp", b"e")?;
-    end_event(text)
-}
+    /// Begins a span, or its end.
+    pub(crate) fn begin_span(
+        &mut self,
+        label: &Label,
+        id: u64,
+        place: Place,
+    ) -> Result<(), AllocError>
+        ensures { OnOk result (self.new.text.items ≡ self.old.text.items ++ span_head label.now.phase.now label.now.name.now label.now.category.now id place.number place.lane) }
+    {
+        self.add_comma()?;
+        self.begin_event(label, place.number as u64 * 1000, place.lane)?;
+        more_number(self.alloc, &mut self.text, b"id", id)
+    }
 
-/// Adds the name of the whole, the first of all events.
-pub(crate) fn add_process(alloc: Global, text: &mut Vec<u8>) -> Result<(), AllocError>
-    ensures { OnOk result (text.new.items ≡ text.old.items ++ json process) }
-{
-    begin_event(alloc, text, b"process_name", b"__metadata", b"M", 0, 0)?;
-    begin_arguments(text)?;
-    first_word(text, b"name", b"hheap: a millisecond is one entry")?;
-    end_arguments(text)
-}
+    /// Adds a span's beginning or end that has no members of its own.
+    pub(crate) fn add_span(
+        &mut self,
+        label: &Label,
+        id: u64,
+        place: Place,
+    ) -> Result<(), AllocError>
+        ensures { OnOk result (self.new.text.items ≡ self.old.text.items ++ further (span label.now.phase.now label.now.name.now label.now.category.now id place.number place.lane NoMember)) }
+    {
+        self.begin_span(label, id, place)?;
+        self.end_event()
+    }
 
-/// Adds the name of a worker's lane.
-pub(crate) fn add_lane(alloc: Global, text: &mut Vec<u8>, worker: u32) -> Result<(), AllocError>
-    ensures { OnOk result (text.new.items ≡ text.old.items ++ further (lane worker)) }
-{
-    let name = format!(in alloc; "worker {worker}")?;
-    add_comma(text)?;
-    begin_event(alloc, text, b"thread_name", b"__metadata", b"M", 0, worker)?;
-    begin_arguments(text)?;
-    first_word(text, b"name", name.as_bytes())?;
-    end_arguments(text)
+    /// Adds where an arrow begins.
+    pub(crate) fn begin_arrow(
+        &mut self,
+        name: &[u8],
+        id: u64,
+        place: Place,
+    ) -> Result<(), AllocError>
+        requires { 0 < place.number }
+        ensures { OnOk result (self.new.text.items ≡ self.old.text.items ++ further (arrow_begins name.now id place.number place.lane)) }
+    {
+        self.add_comma()?;
+        let time = place.number as u64 * 1000 - 500;
+        let label = Label {
+            name,
+            category: name,
+            phase: b"s",
+        };
+        self.begin_event(&label, time, place.lane)?;
+        more_number(self.alloc, &mut self.text, b"id", id)?;
+        self.end_event()
+    }
+
+    /// Adds where an arrow ends.
+    pub(crate) fn end_arrow(&mut self, name: &[u8], id: u64, place: Place) -> Result<(), AllocError>
+        requires { 0 < place.number }
+        ensures { OnOk result (self.new.text.items ≡ self.old.text.items ++ further (arrow_ends name.now id place.number place.lane)) }
+    {
+        self.add_comma()?;
+        let time = place.number as u64 * 1000 - 500;
+        let label = Label {
+            name,
+            category: name,
+            phase: b"f",
+        };
+        self.begin_event(&label, time, place.lane)?;
+        more_number(self.alloc, &mut self.text, b"id", id)?;
+        more_word(&mut self.text, b"bp", b"e")?;
+        self.end_event()
+    }
+
+    /// Adds the name of the whole, the first of all events.
+    pub(crate) fn add_process(&mut self) -> Result<(), AllocError>
+        ensures { OnOk result (self.new.text.items ≡ self.old.text.items ++ json process) }
+    {
+        let label = Label {
+            name: b"process_name",
+            category: b"__metadata",
+            phase: b"M",
+        };
+        self.begin_event(&label, 0, 0)?;
+        self.begin_arguments()?;
+        first_word(
+            &mut self.text,
+            b"name",
+            b"hheap: a millisecond is one entry",
+        )?;
+        self.end_arguments()
+    }
+
+    /// Adds the name of a worker's lane.
+    pub(crate) fn add_lane(&mut self, worker: u32) -> Result<(), AllocError>
+        ensures { OnOk result (self.new.text.items ≡ self.old.text.items ++ further (lane worker)) }
+    {
+        let name = format!(in self.alloc; "worker {worker}")?;
+        let label = Label {
+            name: b"thread_name",
+            category: b"__metadata",
+            phase: b"M",
+        };
+        self.add_comma()?;
+        self.begin_event(&label, 0, worker)?;
+        self.begin_arguments()?;
+        first_word(&mut self.text, b"name", name.as_bytes())?;
+        self.end_arguments()
+    }
 }

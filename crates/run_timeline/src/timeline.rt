@@ -12,8 +12,8 @@ ghost use Rattle.run_timeline.specs.Timeline.{events_of, lanes, timeline};
 ghost use Rattle.run_timeline.specs.Pieces.{beginning, event_ending};
 
 use crate::entry::{add_slice, slice_name};
-use crate::events::{add_lane, add_process};
-use crate::tasks::{add_begins_and_ends, add_counted, add_run_ended};
+use crate::events::{EventWriter, Place};
+use crate::tasks::{Counter, EventContext, add_begins_and_ends, add_counted, add_run_ended};
 use crate::words::{AccountCounts, objects_by, words_behind};
 use run_journal::{ApplyError, Book, Entry, Program, Refused, RefusedAt, ReplayError, Settings};
 use run_report::cleared_words;
@@ -22,64 +22,53 @@ use std::alloc::{AllocError, Global};
 /// A text of so many entries has no place in memory.
 const ENTRY_LIMIT: usize = 4294967295;
 
-// Adds the events of an entry that was entered, in front of which the accounts had these counts, and behind which so
-// many words are held.
-fn add_entered(
-    alloc: Global,
-    text: &mut Vec<u8>,
-    program: &Program,
-    book: &Book,
-    name: &[u8],
+/// An entry by its number, with the name of its slice and the counts of the accounts in front of it.
+#[derive(Clone, Copy)]
+struct NumberedEntry<'a> {
+    name: &'a [u8],
     was: AccountCounts,
-    held: u64,
     number: u32,
     entry: Entry,
+}
+
+// Adds the events of an entry that was entered, behind which so many words are held.
+fn add_entered(
+    writer: &mut EventWriter,
+    program: &Program,
+    book: &Book,
+    entered: &NumberedEntry,
+    held: u64,
 ) -> Result<(), AllocError>
     requires open { book.now.stopped ≡ false }
-    requires few { was.tasks + 1 < 2 ^ 64 }
+    requires few { entered.now.was.tasks + 1 < 2 ^ 64 }
     requires held { held ≡ words_held book.now.ledger }
-    requires first { 0 < number }
-    ensures { OnOk result (text.new.items ≡ text.old.items ++ flat_map further (entry_events program.now name.now was book.now.ledger number entry)) }
+    requires first { 0 < entered.now.number }
+    ensures { OnOk result (writer.new.text.items ≡ writer.old.text.items ++ flat_map further (entry_events program.now entered.now.name.now entered.now.was book.now.ledger entered.now.number entered.now.entry)) }
 {
-    add_slice(alloc, text, name, number, entry.worker(), entry.kind())?;
-    add_begins_and_ends(
-        alloc,
-        text,
+    let number = entered.number;
+    let entry = entered.entry;
+    let was = entered.was;
+    let context = EventContext {
         program,
-        book.state(),
-        was.tasks,
-        number,
-        entry.worker(),
-        entry.kind(),
-    )?;
-    let chunks = book.in_use();
-    add_counted(
-        alloc,
-        text,
-        b"chunks in use",
-        b"chunks",
-        was.chunks,
-        chunks,
-        number,
-    )?;
-    add_counted(
-        alloc,
-        text,
-        b"words held",
-        b"words",
-        was.words,
-        held,
-        number,
-    )?;
-    add_run_ended(
-        alloc,
-        text,
-        program,
-        book.state(),
-        number,
-        entry.worker(),
-        book.end(),
-    )
+        state: book.state(),
+        place: Place {
+            number,
+            lane: entry.worker(),
+        },
+    };
+    let chunks = Counter {
+        name: b"chunks in use",
+        unit: b"chunks",
+    };
+    let words = Counter {
+        name: b"words held",
+        unit: b"words",
+    };
+    add_slice(writer, entered.name, number, entry)?;
+    add_begins_and_ends(writer, &context, was.tasks, entry.kind())?;
+    add_counted(writer, &chunks, was.chunks, book.in_use(), number)?;
+    add_counted(writer, &words, was.words, held, number)?;
+    add_run_ended(writer, &context, book.end())
 }
 
 // Enters an entry, and says how many words are held behind it.
@@ -102,54 +91,54 @@ fn apply(book: &mut Book, held: u64, entry: Entry) -> Result<u64, ApplyError>
     }
 }
 
+/// How far a journal is entered: the number of the next entry, and the words that are held in front of it.
+#[derive(Clone, Copy)]
+struct Progress {
+    number: u32,
+    held: u64,
+}
+
 // Enters an entry, adds its events, and says how many words are held behind it.
 fn enter(
-    alloc: Global,
-    text: &mut Vec<u8>,
+    writer: &mut EventWriter,
     program: &Program,
     book: &mut Book,
-    held: u64,
-    number: u32,
+    progress: Progress,
     entry: Entry,
 ) -> Result<u64, ApplyError>
     requires open { book.old.stopped ≡ false }
     requires program { book.old.program ≡ program.now }
-    requires held { held ≡ words_held book.old.ledger }
-    requires first { 0 < number }
+    requires held { progress.held ≡ words_held book.old.ledger }
+    requires first { 0 < progress.number }
     ensures legal { OnOk result (refusal book.old.program book.old.settings book.old.ledger entry ≡ None) }
     ensures entered { OnOk result (book.new ≡ record book.old { ledger = after book.old.program book.old.settings book.old.ledger entry }) }
-    ensures events { OnOk result (text.new.items ≡ text.old.items ++ flat_map further (entry_events program.now (slice_name program.now book.old.ledger.machine entry.kind) (counts_of book.old.ledger) (after book.old.program book.old.settings book.old.ledger entry) number entry)) }
+    ensures events { OnOk result (writer.new.text.items ≡ writer.old.text.items ++ flat_map further (entry_events program.now (slice_name program.now book.old.ledger.machine entry.kind) (counts_of book.old.ledger) (after book.old.program book.old.settings book.old.ledger entry) progress.number entry)) }
     ensures held { IfOk result (λ words. words ≡ words_held (after book.old.program book.old.settings book.old.ledger entry)) }
     ensures fails { IfErr result (FailsFor (refusal book.old.program book.old.settings book.old.ledger entry)) }
 {
     let was = AccountCounts {
         tasks: book.tasks() as u64,
         chunks: book.in_use(),
-        words: held,
+        words: progress.held,
     };
     if was.tasks == u64::MAX {
         return Err(ApplyError::NoMemory);
     }
-    let name = slice_name(alloc, program, book.state(), entry.kind())?;
-    let words = apply(book, held, entry)?;
-    add_entered(
-        alloc,
-        text,
-        program,
-        book,
-        name.as_slice(),
+    let name = slice_name(writer.alloc, program, book.state(), entry.kind())?;
+    let words = apply(book, progress.held, entry)?;
+    let entered = NumberedEntry {
+        name: name.as_slice(),
         was,
-        words,
-        number,
+        number: progress.number,
         entry,
-    )?;
+    };
+    add_entered(writer, program, book, &entered, words)?;
     Ok(words)
 }
 
 // Enters the entries of a journal, and adds their events.
 fn enter_all(
-    alloc: Global,
-    text: &mut Vec<u8>,
+    writer: &mut EventWriter,
     program: &Program,
     book: &mut Book,
     journal: &[Entry],
@@ -159,14 +148,18 @@ fn enter_all(
     requires open { book.old.stopped ≡ false }
     requires program { book.old.program ≡ program.now }
     ensures book { OnOk result (book.new ≡ record book.old { ledger = ledger_of book.old.program book.old.settings journal.now }) }
-    ensures events { OnOk result (text.new.items ≡ text.old.items ++ flat_map further (events_of book.old.program book.old.settings journal.now)) }
+    ensures events { OnOk result (writer.new.text.items ≡ writer.old.text.items ++ flat_map further (events_of book.old.program book.old.settings journal.now)) }
     ensures legal { OnOk result (first_refused book.old.program book.old.settings journal.now ≡ None) }
     ensures fails { IfErr result (ReplayFails (first_refused book.old.program book.old.settings journal.now)) }
 {
     let mut held: u64 = 0;
     let mut index: u32 = 1;
     for entry in journal {
-        match enter(alloc, text, program, book, held, index, *entry) {
+        let progress = Progress {
+            number: index,
+            held,
+        };
+        match enter(writer, program, book, progress, *entry) {
             Ok(words) => {
                 held = words;
                 index += 1;
@@ -182,31 +175,36 @@ fn enter_all(
 }
 
 // Adds the lanes of so many workers.
-fn add_lanes(alloc: Global, text: &mut Vec<u8>, workers: u32) -> Result<(), AllocError>
-    ensures { OnOk result (text.new.items ≡ text.old.items ++ flat_map further (lanes workers)) }
+fn add_lanes(writer: &mut EventWriter, workers: u32) -> Result<(), AllocError>
+    ensures { OnOk result (writer.new.text.items ≡ writer.old.text.items ++ flat_map further (lanes workers)) }
 {
     for worker in 0..workers {
-        add_lane(alloc, text, worker)?;
+        writer.add_lane(worker)?;
     }
     Ok(())
 }
 
 // Begins the text, up to the events of entries.
-fn begin(alloc: Global, workers: u32) -> Result<Vec<u8>, AllocError>
-    ensures { IfOk result (λ text. text.items ≡ beginning workers) }
+fn begin(alloc: Global, workers: u32) -> Result<EventWriter, AllocError>
+    ensures { IfOk result (λ writer. writer.text.items ≡ beginning workers) }
 {
-    let mut text = Vec::new(alloc);
-    text.extend_from_slice(b"{\"traceEvents\":[")?;
-    add_process(alloc, &mut text)?;
-    add_lanes(alloc, &mut text, workers)?;
-    Ok(text)
+    let mut writer = EventWriter {
+        alloc,
+        text: Vec::new(alloc),
+    };
+    writer.text.extend_from_slice(b"{\"traceEvents\":[")?;
+    writer.add_process()?;
+    add_lanes(&mut writer, workers)?;
+    Ok(writer)
 }
 
 // Ends the text.
-fn end(text: &mut Vec<u8>) -> Result<(), AllocError>
-    ensures { OnOk result (text.new.items ≡ text.old.items ++ event_ending) }
+fn end(writer: &mut EventWriter) -> Result<(), AllocError>
+    ensures { OnOk result (writer.new.text.items ≡ writer.old.text.items ++ event_ending) }
 {
-    text.extend_from_slice(b"],\"displayTimeUnit\":\"ms\"}\n")
+    writer
+        .text
+        .extend_from_slice(b"],\"displayTimeUnit\":\"ms\"}\n")
 }
 
 /// The timeline of the journal of a whole run.
@@ -224,14 +222,14 @@ pub fn timeline_text(
         return Err(ReplayError::NoMemory);
     }
     let mut book = Book::open(alloc, program, settings)?;
-    let mut text = begin(alloc, settings.workers())?;
-    enter_all(alloc, &mut text, program, &mut book, journal)?;
+    let mut writer = begin(alloc, settings.workers())?;
+    enter_all(&mut writer, program, &mut book, journal)?;
     if book.end().is_none() {
         return Err(ReplayError::RefusedAt(RefusedAt {
             index: journal.len() as u64 + 1,
             cause: Refused::Short,
         }));
     }
-    end(&mut text)?;
-    Ok(text)
+    end(&mut writer)?;
+    Ok(writer.text)
 }

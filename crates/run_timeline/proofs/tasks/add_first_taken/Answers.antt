@@ -6,9 +6,9 @@ pub returns : goal.returns
 returns c =
     rw c.in-Some.is
     (on_ok_weaker c.end_arrow.result
-    (first_told c.args.task c.in-Some.parent c.fork_line-line.result (fork_line c.args.program.now (slice_get c.args.state.now.tasks c.in-Some.parent)) c.args.number c.args.worker
-    c.as_bytes-in-Some.result.now c.args.text.now.items c.begin_span.new.text.items c.add_fork.new.text.items c.end_arrow.new.text.items
-    (c.as_bytes-in-Some.ensures.value ∙ c.in_ok-name.ensures)
-    (c.fork_line-line.ensures ∙ ap (fork_line c.args.program.now) c.get.ensures)
+    (first_told c.args.task c.in-Some.parent c.fork_line-line.result (fork_line c.args.context.now.program.now (slice_get c.args.context.now.state.now.tasks c.in-Some.parent)) c.args.context.now.place.number c.args.context.now.place.lane
+    c.as_bytes.result.now c.args.writer.now.text.items c.begin_span.new.self.text.items c.add_fork.new.writer.text.items c.end_arrow.new.self.text.items
+    (c.as_bytes.ensures.value ∙ c.in_ok-name.ensures)
+    (c.fork_line-line.ensures ∙ ap (fork_line c.args.context.now.program.now) c.get.ensures)
     c.in_ok-begin_span-in-Some.ensures c.in_ok-add_fork-in-Some.ensures)
     c.end_arrow.ensures)

@@ -29,5 +29,5 @@ loop-entry-preserved c =
       refused = refused_on c.args.journal.now l.book c.enter.new.book l.entry-index c.entry-item.result c.loop-entry-test.true c.entry-item.is k.ensures.entered l.index k.ensures.legal i.refused;
       text =
           text_on c.args.journal.now l.book c.enter.new.book l.entry-index c.entry-item.result c.loop-entry-test.true c.entry-item.is k.ensures.entered l.index
-          c.args.program.now l.text.items c.enter.new.text.items _ (i.program ∙ c.requires.program) i.text k.ensures.events;
+          c.args.program.now l.writer.text.items c.enter.new.writer.text.items _ (i.program ∙ c.requires.program) i.text k.ensures.events;
     }

@@ -11,6 +11,6 @@ invariant-loop-entry l = record {
   accounts : after_all l.book.program l.book.settings l.book.ledger (drop l.entry-index l.journal) ≡ ledger_of l.book.program l.book.settings l.journal;
   refused : first_refused_from l.book.program l.book.settings l.book.ledger l.index (drop l.entry-index l.journal) ≡ first_refused l.book.program l.book.settings l.journal;
   text :
-      l.text.items ++ flat_map further (events_from l.book.program l.book.settings l.book.ledger l.index (drop l.entry-index l.journal))
-      ≡ l.fn.text.items ++ flat_map further (events_of l.fn.book.program l.fn.book.settings l.journal);
+      l.writer.text.items ++ flat_map further (events_from l.book.program l.book.settings l.book.ledger l.index (drop l.entry-index l.journal))
+      ≡ l.fn.writer.text.items ++ flat_map further (events_of l.fn.book.program l.fn.book.settings l.journal);
 }

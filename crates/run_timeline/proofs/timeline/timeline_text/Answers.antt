@@ -14,5 +14,5 @@ returns-clause-text c =
     c.in_ok-end.ensures
     ∙ ap (λ x. x ++ event_ending)
     (c.in_ok-enter_all.ensures.events
-    ∙ (λ j. (c.in_ok-text.ensures ∙ ap beginning c.workers.ensures.value) j ++ flat_map further (events_of (c.in_ok-book.ensures j).program (c.in_ok-book.ensures j).settings c.args.journal.now)))
+    ∙ (λ j. (c.in_ok-writer.ensures ∙ ap beginning c.workers.ensures.value) j ++ flat_map further (events_of (c.in_ok-book.ensures j).program (c.in_ok-book.ensures j).settings c.args.journal.now)))
     ∙ timeline_made c.args.program.now c.args.settings c.args.journal.now
