@@ -352,7 +352,7 @@ fn add_numbers(alloc: Global, text: &mut Vec<u8>, kind: Kind) -> Result<(), Allo
     }
 }
 
-#[tactic(auto, unfolding(crate::specs::Deltas::head))]
+#[tactic(auto, unfolding(crate::specs::Deltas::entry_head))]
 // Adds an entry without what it changes.
 fn add_head(alloc: Global, text: &mut Vec<u8>, of: Entry) -> Result<(), AllocError>
     ensures { OnOk result (text.new.items ≡ text.old.items ++ entry_head of) }

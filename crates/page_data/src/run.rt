@@ -16,7 +16,7 @@ use run_ledger::RunEnd;
 use run_trace::Settings;
 use std::alloc::{AllocError, Global};
 
-#[tactic(auto, unfolding(crate::specs::Run::named))]
+#[tactic(auto, unfolding(crate::specs::Run::word_with_number))]
 // Adds some bytes, and a number behind them.
 fn add_named(alloc: Global, text: &mut Vec<u8>, name: &[u8], of: u64) -> Result<(), AllocError>
     ensures { OnOk result (text.new.items ≡ text.old.items ++ word_with_number name.now of) }

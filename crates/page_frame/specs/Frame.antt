@@ -4,7 +4,7 @@ use Rattle.std.specs.List.{flat_map}
 use Rattle.text_lines.specs.Lines.{lines_of}
 use Rattle.trace_input.specs.Cut.{lines_above}
 use Rattle.quoted_text.specs.Guarded.{guarded}
-use Rattle.page_text.specs.Text.{ahead_of_data, behind_data}
+use Rattle.page_text.specs.Text.{before, after}
 
 -- the lines of an input that stand before the trace line, and one more without a byte
 unfoldable pub program_lines : List ℕ → List ℕ
@@ -22,7 +22,7 @@ beginning title input = title_line title ++ listed input
 
 -- what stands before the data of a run is the same in every page, and so is what stands after it
 unfoldable pub frame_head : List ℕ → List ℕ → List ℕ
-frame_head title input = ahead_of_data ++ beginning title input
+frame_head title input = before ++ beginning title input
 
 unfoldable pub tail : List ℕ
-tail = behind_data
+tail = after

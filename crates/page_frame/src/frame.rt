@@ -9,7 +9,7 @@ use std::alloc::AllocError;
 
 /// Adds what stands before the settings of a run: the page's own text, its title, and the lines of the program, whose
 /// text with a trace after it is the input.
-#[tactic(auto, unfolding(crate::specs::Frame::head))]
+#[tactic(auto, unfolding(crate::specs::Frame::frame_head))]
 pub fn add_head(text: &mut Vec<u8>, title: &[u8], input: &[u8]) -> Result<(), AllocError>
     ensures { OnOk result (text.new.items ≡ text.old.items ++ frame_head title.now input.now) }
 {

@@ -49,7 +49,7 @@ fn add_program(text: &mut Vec<u8>, input: &[u8]) -> Result<(), AllocError>
 }
 
 // Adds the member with the title.
-#[tactic(auto, unfolding(crate::specs::Frame::titled))]
+#[tactic(auto, unfolding(crate::specs::Frame::title_line))]
 fn add_titled(text: &mut Vec<u8>, title: &[u8]) -> Result<(), AllocError>
     ensures { OnOk result (text.new.items ≡ text.old.items ++ title_line title.now) }
 {

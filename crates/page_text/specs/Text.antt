@@ -9,8 +9,8 @@ unfoldable pub before_group_1_2 : List ℕ
 before_group_1_2 = BEFORE_4.now
 
 -- what stands before the data of a run
-unfoldable pub ahead_of_data : List ℕ
-ahead_of_data = before_group_1_1 ++ before_group_1_2
+unfoldable pub before : List ℕ
+before = before_group_1_1 ++ before_group_1_2
 
 unfoldable pub after_group_1_1 : List ℕ
 after_group_1_1 = AFTER_1.now ++ AFTER_2.now ++ AFTER_3.now
@@ -22,5 +22,5 @@ unfoldable pub after_group_1_3 : List ℕ
 after_group_1_3 = AFTER_7.now ++ AFTER_8.now
 
 -- what stands after the data of a run
-unfoldable pub behind_data : List ℕ
-behind_data = after_group_1_1 ++ after_group_1_2 ++ after_group_1_3
+unfoldable pub after : List ℕ
+after = after_group_1_1 ++ after_group_1_2 ++ after_group_1_3

@@ -1,7 +1,7 @@
 // The page's own text, as scripts/page_text.py makes it of page/page.html. It is never edited.
 
 ghost use Rattle.std.specs.Prelude.{◌≡◌, ◌++◌, OnOk};
-ghost use Rattle.page_text.specs.Text.{before_group_1_1, before_group_1_2, ahead_of_data, after_group_1_1, after_group_1_2, after_group_1_3, behind_data};
+ghost use Rattle.page_text.specs.Text.{before_group_1_1, before_group_1_2, before, after_group_1_1, after_group_1_2, after_group_1_3, after};
 
 use std::alloc::AllocError;
 
@@ -1418,7 +1418,7 @@ fn add_before_group_1_2(text: &mut Vec<u8>) -> Result<(), AllocError>
 /// Adds what stands before the data of a run.
 #[tactic(auto, unfolding(crate::specs::Text::before))]
 pub fn add_before(text: &mut Vec<u8>) -> Result<(), AllocError>
-    ensures { OnOk result (text.new.items ≡ text.old.items ++ ahead_of_data) }
+    ensures { OnOk result (text.new.items ≡ text.old.items ++ before) }
 {
     add_before_group_1_1(text)?;
     add_before_group_1_2(text)
@@ -1501,7 +1501,7 @@ fn add_after_group_1_3(text: &mut Vec<u8>) -> Result<(), AllocError>
 /// Adds what stands after the data of a run.
 #[tactic(auto, unfolding(crate::specs::Text::after))]
 pub fn add_after(text: &mut Vec<u8>) -> Result<(), AllocError>
-    ensures { OnOk result (text.new.items ≡ text.old.items ++ behind_data) }
+    ensures { OnOk result (text.new.items ≡ text.old.items ++ after) }
 {
     add_after_group_1_1(text)?;
     add_after_group_1_2(text)?;
