@@ -6,7 +6,7 @@ pub use Rattle.log_places.specs.Laws.{MarkedAreThere, StretchesAreWhole, Numbers
 pub use Rattle.log_places.specs.Numbers.{firsts_from, stretch_count, stretches_before, IsSlot, IsNumber, IsSlotAt}
 pub use Rattle.log_places.specs.Places.{at, found, page_key, run_start, same_page, Covers, IsRegionCut, PlacesValue, IsFirst, IsRunCut, KeepsCuts, IsIn}
 pub use Rattle.log_places.specs.Runs.{first_on, end_on, IsRunMarked}
-pub use Rattle.log_places.specs.Stretches.{marked, Ascending, pieces, rest_from, AreWith, Has, AreCut, tiles, piece}
+pub use Rattle.log_places.specs.Stretches.{marked, Ascending, pieces, rest_from, AreWith, Has, AreCut, tiles, piece, is_gap}
 pub use Rattle.log_places.specs.declared.numbers.LocationSlot.{LocationSlot}
 pub use Rattle.log_places.specs.declared.page.PageKey.{PageKey}
 pub use Rattle.log_places.specs.declared.region.Region.{Region}
@@ -23,4 +23,4 @@ pub use Rattle.std.proofs.lemmas.List.Sums.{sum_by-cons}
 pub use Rattle.std.proofs.lemmas.Option.{same_Some, slice_get_within, get_or_from_slice_get, slice_get-get_or, IfSome_then}
 pub use Rattle.std.proofs.lemmas.Result.{on_ok_weaker}
 pub use Rattle.std.specs.HashMap.{get}
-pub use Rattle.std.specs.List.{sum_by, list_any, position_or_len, prefix_len, position}
+pub use Rattle.std.specs.List.{sum_by, list_any, position_or_len, prefix_len, position, insert}

@@ -69,12 +69,12 @@ tiles_done (s ∷ ss) a b le = ap (λ c. cond c true ((s.start == a) && nat_le s
 
 -- ---- as the code tells it
 
-rest_is : (ss ys : List Stretch) (n : ℕ) → ys ≡ ss → take (length ys - n) (drop n ys) ≡ drop n ss
+pub rest_is : (ss ys : List Stretch) (n : ℕ) → ys ≡ ss → take (length ys - n) (drop n ys) ≡ drop n ss
 rest_is ss ys n same =
     ap (λ l. take (length l - n) (drop n l)) same
     ∙ (ap (λ k. take k (drop n ss)) (sym (length-drop n ss)) ∙ take_all (length (drop n ss)) (drop n ss) (omega arith))
 
-ended_of : (ss xs : List Stretch) (n a : ℕ) → xs ≡ ss → ((k : ℕ) (d : Stretch) → k < n → (get_or xs k d).end ≤ a) → (k : ℕ) (d : Stretch) → k < n → (get_or ss k d).end ≤ a
+pub ended_of : (ss xs : List Stretch) (n a : ℕ) → xs ≡ ss → ((k : ℕ) (d : Stretch) → k < n → (get_or xs k d).end ≤ a) → (k : ℕ) (d : Stretch) → k < n → (get_or ss k d).end ≤ a
 ended_of ss xs n a same ended = subst (λ (l : List Stretch). (k : ℕ) (d : Stretch) → k < n → (get_or l k d).end ≤ a) same ended
 
 pub tiled_rest : (ss xs ys : List Stretch) (n a b : ℕ) → xs ≡ ss → ys ≡ ss → Ascending 0 ss → a < b → ((k : ℕ) (d : Stretch) → k < n → (get_or xs k d).end ≤ a)

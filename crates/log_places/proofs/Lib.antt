@@ -2,6 +2,7 @@ pub mod Marking
 pub mod Bordering
 pub mod Tiling
 pub mod Ends
+mod Gaps
 pub mod Finding
 pub mod Cutting
 pub mod Along

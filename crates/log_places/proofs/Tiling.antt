@@ -28,7 +28,7 @@ marked_front (s ∷ front) rest a b low order all =
     let same : rest_from a b s ≡ a = omega arith in
     rw (only_second a b s (omega arith) lt le (omega arith) (omega arith), same) (ap (λ l. s ∷ l) (marked_front front rest a b low order (λ t i. all t (inr i))))
 
-none_marked : (ss : List Stretch) (a : ℕ) → Ascending a ss → marked a a ss ≡ ss
+pub none_marked : (ss : List Stretch) (a : ℕ) → Ascending a ss → marked a a ss ≡ ss
 none_marked [] a up = no_piece a a (omega arith)
 none_marked (s ∷ ss) a up =
     let le : a ≤ s.start = up.0 in

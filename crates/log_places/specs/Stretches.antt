@@ -30,6 +30,11 @@ abbrev pub tiles : ℕ → ℕ → List Stretch → Bool
 tiles a b [] = nat_le b a
 tiles a b (s ∷ ss) = if nat_le b a then true else (s.start == a) && nat_le s.end b && tiles s.end b ss
 
+-- whether all locations up to b lie before these stretches
+abbrev pub is_gap : ℕ → List Stretch → Bool
+is_gap b [] = true
+is_gap b (s ∷ ss) = nat_le b s.start
+
 -- the location is in the stretch
 abbrev pub Has : Stretch → ℕ → Type 0
 Has s x = (s.start ≤ x) × (x < s.end)

@@ -1,7 +1,7 @@
 // The stretches of a page.
 
-ghost use Rattle.std.specs.Prelude.{◌≡◌, ◌≤◌, ◌<◌, ◌++◌, ℕ, length, take, slice_get, slice_index_or, vec_len, Some, IfSome, IfNone, OnOk, OnErr};
-ghost use Rattle.log_places.specs.Stretches.{marked, piece, pieces, rest_from, tiles, Ascending, Has};
+ghost use Rattle.std.specs.Prelude.{◌≡◌, ◌≤◌, ◌<◌, ◌++◌, ℕ, length, take, insert, slice_get, slice_index_or, vec_len, Some, IfSome, IfNone, OnOk, OnErr};
+ghost use Rattle.log_places.specs.Stretches.{marked, piece, pieces, rest_from, tiles, is_gap, Ascending, Has};
 ghost use Rattle.plain_vec.specs.Members.{In};
 
 use std::alloc::AllocError;
@@ -114,6 +114,26 @@ pub(crate) fn stretch_with(stretches: &[Stretch], location: u16) -> Option<(usiz
     None
 }
 
+// Whether all locations up to `end` lie before these stretches.
+fn is_gap(stretches: &[Stretch], end: u16) -> bool
+    ensures { result ≡ is_gap end stretches.now }
+{
+    match stretches.first() {
+        Some(next) => end <= next.start,
+        None => true,
+    }
+}
+
+// Puts a stretch behind so many first ones.
+fn insert(stretches: &mut Vec<Stretch>, place: usize, stretch: Stretch) -> Result<(), AllocError>
+    requires { place ≤ vec_len stretches.old }
+    ensures ok { OnOk result (stretches.new.items ≡ insert stretches.old.items place stretch) }
+    ensures err { OnErr result (stretches.new.items ≡ stretches.old.items) }
+{
+    stretches.insert(place, stretch)?;
+    Ok(())
+}
+
 /// Marks the locations from `start` up to `end`: each stretch is then within them or apart from them. `spare` is empty
 /// room to work in. On an `Err` no stretch has changed.
 pub(crate) fn mark(
@@ -128,6 +148,9 @@ pub(crate) fn mark(
     ensures err { OnErr result (stretches.new.items ≡ stretches.old.items) }
 {
     let kept = ended(stretches, start);
+    if is_gap(&stretches[kept..], end) {
+        return insert(stretches, kept, Stretch { start, end });
+    }
     let rest = &stretches[kept..];
     if tiles(rest, start, end) {
         return Ok(());
