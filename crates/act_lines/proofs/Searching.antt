@@ -26,6 +26,18 @@ count_below numbers s (seen, h) number next =
     let le = h.later (length s.found) number (omega arith) next in
     omega (arith, count, le)
 
+-- what comes once all were found changes nothing
+pub all_before : (numbers : List ℕ) (seen more : List ActLine) (s : Search) → HasFound numbers seen s → length s.found ≡ length numbers → HasFound numbers (seen ++ more) s
+all_before numbers seen more s h past = record {
+  few = h.few;
+  are = λ k n lt at.
+      let r = h.are k n lt at in
+      let l = length-append seen more in
+      (omega (arith, r.0, l), r.1 ∙ ap (λ (o : Option ActLine). Some o) (sym (got_front seen more n r.0)));
+  later = λ k n le at. absurd (let l = got_within numbers k n at in omega (arith, l, le, past));
+  count = λ lt. absurd (omega (arith, lt, past));
+}
+
 module _ (numbers : List ℕ) (seen : List ActLine) (line : ActLine) (s : Search) (h : HasFound numbers seen s) where
   old_found : (k n : ℕ) → k < length s.found → slice_get numbers k ≡ Some n → (n < length (seen ++ line ∷ [])) × (slice_get s.found k ≡ Some (slice_get (seen ++ line ∷ []) n))
   old_found k n lt at =

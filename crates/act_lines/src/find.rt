@@ -80,7 +80,7 @@ impl Search {
 }
 
 impl Search {
-    // The lines of a text, which is that of a file.
+    // The lines of a text, which is that of a file, as far as a number is left.
     fn take_text(&mut self, numbers: &[u32], file: usize, text: &[u8]) -> Result<(), AllocError>
         requires ascending { IsStrictlyIncreasing numbers.now }
         requires some { IsSearch numbers.now self.old }
@@ -90,6 +90,9 @@ impl Search {
         let mut left = text;
         let mut line = 1;
         'lines: loop {
+            if self.found.len() == numbers.len() {
+                return Ok(());
+            }
             let (said, rest) = next_line(left);
             match rest {
                 None => return Ok(()),
@@ -116,7 +119,7 @@ impl Search {
 }
 
 /// The lines of acts by their numbers in a log, which ascend: number 0 is the first line that is an act. It takes one
-/// pass over the texts of the log's files.
+/// pass over the texts of the log's files, up to the last of these lines.
 pub fn lines_of_acts(
     alloc: Global,
     texts: &[Listed<u8>],

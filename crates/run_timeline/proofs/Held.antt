@@ -136,7 +136,7 @@ module _ (p : ProgramText) (s : SettingsValue) (journal : List EntryValue) (lega
   fork_join = subst IsForkJoinState (sym (machine_is_run p s journal)) (run_is_fork_join_state p (start p (field_limit s.version)) (tasks_of journal) (start_is_fork_join_state p (field_limit s.version)))
 
   counted : Counted (length (tasks_of journal)) l.machine.tasks l.machine.store
-  counter_events = subst (λ (m : MachineState). Counted (length (tasks_of journal)) m.tasks m.store) (sym (machine_is_run p s journal)) (runs_are_counted p (field_limit s.version) (tasks_of journal))
+  counted = subst (λ (m : MachineState). Counted (length (tasks_of journal)) m.tasks m.store) (sym (machine_is_run p s journal)) (runs_are_counted p (field_limit s.version) (tasks_of journal))
 
   next : l' ≡ ledger_of p s (journal ++ e ∷ [])
   next = sym (after_cut p s journal (e ∷ []) (opening p s))
@@ -160,7 +160,7 @@ module _ (p : ProgramText) (s : SettingsValue) (journal : List EntryValue) (lega
   grew_by : (kind : Kind) (m : MachineState) → m ≡ run_from p l.machine (tasks_in kind) → Grew kind m
   grew_by (Took t) m q = still m q
   grew_by (Ran t k) m q =
-      subst (Grew (Ran t k)) (sym q) (steps_have p t (store_words l.machine.store) (objects_made l.machine t) k (length (tasks_of journal)) l.machine fork_join counter_events (at_first p t l.machine)).sum
+      subst (Grew (Ran t k)) (sym q) (steps_have p t (store_words l.machine.store) (objects_made l.machine t) k (length (tasks_of journal)) l.machine fork_join counted (at_first p t l.machine)).sum
   grew_by (Chunk t) m q = still m q
   grew_by (Begin t) m q = still m q
   grew_by (End t taken given left) m q = still m q

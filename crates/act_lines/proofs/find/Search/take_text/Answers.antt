@@ -1,6 +1,15 @@
-use Rattle.act_lines.proofs.Common.{◌≡◌, ◌+◌, ◌++◌, ℕ, Option, IfSome, List, Bor, length, subst, arith, append_assoc, line_of, LogPosition, lines_in, ActLine, act_line_at, act_lines_from, HasFound}
+use Rattle.act_lines.proofs.Common.{◌≡◌, ◌+◌, ◌++◌, ◌∙◌, ℕ, ap, sym, Option, IfSome, List, Bor, length, subst, arith, append_assoc, line_of, LogPosition, lines_in, ActLine, act_line_at, act_lines_from, HasFound}
+use Rattle.act_lines.proofs.Searching.{all_before}
 use Rattle.act_lines.proofs.Lines.{lines_next, acts_next}
 use Rattle.act_lines.proofs.find.Search.take_text.Goals as goal
+
+pub returns-then-len-numbers : goal.returns-then-len-numbers
+returns-then-len-numbers c = λ seen h.
+    let d = c.lines.invariant.done in
+    let rest = act_lines_from c.args.file c.lines.line (lines_in c.lines.left.now) in
+    subst (λ (ls : List ActLine). HasFound c.args.numbers.now ls c.lines.self)
+    (append_assoc seen d.0 rest ∙ ap (λ (ls : List ActLine). seen ++ ls) d.1)
+    (all_before c.args.numbers.now (seen ++ d.0) rest c.lines.self (d.2 seen h) (sym c.len.ensures ∙ c.if-len-numbers.true))
 
 pub lines-preserved : goal.lines-preserved
 lines-preserved c =
