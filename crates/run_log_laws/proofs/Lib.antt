@@ -1,5 +1,6 @@
 mod Turns
 mod Walks
-mod Rows
-mod Runs
+pub mod Rows
+pub mod Runs
 mod Common
+pub mod below
