@@ -1,0 +1,4 @@
+mod Deeds
+mod Told
+mod Races
+mod Common
