@@ -1,0 +1,4 @@
+mod Lines
+mod Texts
+mod Logs
+mod Common
