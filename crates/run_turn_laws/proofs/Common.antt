@@ -30,7 +30,7 @@ pub use Rattle.run_deltas.specs.declared.data.Value.{Value}
 pub use Rattle.run_journal.specs.below.run_ledger.{tasks_in, tasks_of, Ledger, refusal, after, opening, is_legal_from, is_legal}
 pub use Rattle.run_journal.specs.below.run_trace.{EntryValue, SettingsValue, field_limit, Kind, Took, Ran, Chunk, Begin, End, PutOff, Mark, More, Sweep, Fuel}
 pub use Rattle.run_log.specs.Acts.{act_of_deed}
-pub use Rattle.run_log.specs.Lines.{deed_lines, moved_lines, lines_of_deed, step_lines, steps_lines, strand_lines, entry_lines, lines_from, left_of, join_lines, turn_lines}
+pub use Rattle.run_log.specs.Lines.{deed_lines, moved_lines, lines_of_deed, step_lines, steps_lines, strand_lines, entry_lines, lines_from, left_of, join_lines, turn_lines, act_line}
 pub use Rattle.run_log.specs.Log.{lines_of}
 pub use Rattle.run_log_laws.proofs.Rows.{Rows, open_turns}
 pub use Rattle.run_log_laws.proofs.Runs.{RowsOf, run_rows}
