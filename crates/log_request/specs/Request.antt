@@ -14,9 +14,9 @@ is_other (c ∷ cs) = c == 45
 abbrev pub names_end : List (List ℕ) → ℕ
 names_end words = position_or_len is_other words
 
--- some names, behind which so many words stand that belong to no option
+-- some names, followed by n words that belong to no option
 abbrev pub with_left : List (List ℕ) → ℕ → Options → Option (LogView × List (List ℕ))
-with_left names left o = if not (length names == 0) && (left == 0) && not (is_due o.numbers) then Some (o.view, names) else None
+with_left names n o = if not (length names == 0) && (n == 0) && not (is_due o.numbers) then Some (o.view, names) else None
 
 abbrev pub with_names : List (List ℕ) → Options × List (List ℕ) → Option (LogView × List (List ℕ))
 with_names names behind = with_left names (length behind.1) behind.0

@@ -15,7 +15,7 @@ events_from p s l n (e ∷ es) =
 abbrev pub events_of : ProgramText → SettingsValue → List EntryValue → List Json
 events_of p s journal = events_from p s (opening p s) 1 journal
 
--- the lanes of so many workers
+-- the lanes of w workers
 abbrev pub lanes : ℕ → List Json
 lanes zero = []
 lanes (suc w) = lanes w ++ lane w ∷ []

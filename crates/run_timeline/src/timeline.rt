@@ -19,10 +19,10 @@ use run_journal::{ApplyError, Book, Entry, Program, Refused, RefusedAt, ReplayEr
 use run_report::cleared_words;
 use std::alloc::{AllocError, Global};
 
-/// A text of so many entries has no place in memory.
+/// No text has this many entries or more: it wouldn't fit in memory.
 const ENTRY_LIMIT: usize = 4294967295;
 
-/// An entry by its number, with the name of its slice and the counts of the accounts in front of it.
+/// An entry by its number, with the name of its slice and the counts of the accounts before it.
 #[derive(Clone, Copy)]
 struct NumberedEntry<'a> {
     name: &'a [u8],
@@ -31,7 +31,7 @@ struct NumberedEntry<'a> {
     entry: Entry,
 }
 
-// Adds the events of an entry that was entered, behind which so many words are held.
+// Adds the events of an entry that was entered; `held` words are held after it.
 fn add_entered(
     writer: &mut EventWriter,
     program: &Program,
@@ -174,7 +174,7 @@ fn enter_all(
     Ok(())
 }
 
-// Adds the lanes of so many workers.
+// Adds the lanes of `workers` workers.
 fn add_lanes(writer: &mut EventWriter, workers: u32) -> Result<(), AllocError>
     ensures { OnOk result (writer.new.text.items ≡ writer.old.text.items ++ flat_map further (lanes workers)) }
 {

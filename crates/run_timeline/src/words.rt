@@ -39,7 +39,7 @@ pub(crate) fn objects_by(state: &MachineState, kind: Kind) -> usize
     }
 }
 
-// The words of so many objects of a task from one on; None where a number has no place for them.
+// The words of `count` objects of a task from object `first` on; None on overflow.
 fn words_made(state: &MachineState, task: u32, first: usize, count: usize) -> Option<u64>
     ensures { IfSome result (λ words. words ≡ words_made state.now task first count) }
 {
@@ -54,8 +54,7 @@ fn words_made(state: &MachineState, task: u32, first: usize, count: usize) -> Op
     Some(words)
 }
 
-// The words of the objects of an entry's steps, behind the first so many of its task; None where a number has no place
-// for them.
+// The words of the objects that an entry's steps made, after the first `first` of its task; None on overflow.
 fn words_by(state: &MachineState, kind: Kind, first: usize) -> Option<u64>
     ensures { IfSome result (λ words. words ≡ words_by kind first state.now) }
 {
@@ -68,7 +67,7 @@ fn words_by(state: &MachineState, kind: Kind, first: usize) -> Option<u64>
     }
 }
 
-// The words held, with some more and then without some; None where a number has no place for them.
+// The words held, with `more` added and then `lost` taken away; None on overflow.
 fn words_after(held: u64, more: u64, lost: u64) -> Option<u64>
     ensures { IfSome result (λ words. words ≡ held + more - lost) }
 {
@@ -76,8 +75,8 @@ fn words_after(held: u64, more: u64, lost: u64) -> Option<u64>
     Some(sum.saturating_sub(lost))
 }
 
-/// The words held behind an entry that was entered, before which so many words were held, so many by its task's heap,
-/// and its task had made so many objects; None where a number has no place for them.
+/// The words held after an entry that was entered; None on overflow. Before it `held` words were held, `cleared` of them
+/// by its task's heap, and its task had made `objects` objects.
 pub(crate) fn words_behind(
     book: &Book,
     kind: Kind,

@@ -120,15 +120,15 @@ module _ (p : ProgramText) (m : MachineState) (t : ℕ) (K : IsForkJoinState m) 
       let at : slice_get m'.tasks t ≡ Some y = grown_at m.tasks t x y (child t (x.depth + 1) g x.top) (child t (x.depth + 1) h x.top) is in
       let first : List Event = events ++ event u (acts.Spawn n) ∷ [] in
       let v : GraphStrand = graph_strand t (4 * joins_in m.tasks t + 1) in
-      let T1 : TellEdges (m.edges ++ d1 ∷ []) first = tell_spawn m.edges events t u.index x.joins n T at_end in
+      let told_one : TellEdges (m.edges ++ d1 ∷ []) first = tell_spawn m.edges events t u.index x.joins n T at_end in
       let one : length (turns_of (m.edges ++ d1 ∷ []) t) ≡ length (turns_of m.edges t) + 1 =
       ap length (edge_turns m.edges d1 t) ∙ (length-append (turns_of m.edges t) (turn_at t d1) ∙ ap (λ k. length (turns_of m.edges t) + k) (one_turn t n)) in
       let next : v.index ≡ length (turns_of (m.edges ++ d1 ∷ []) t) = (let a = at_end in omega (arith, one, a)) in
-      let T2 : TellEdges ((m.edges ++ d1 ∷ []) ++ d2 ∷ []) (first ++ event v (acts.Spawn (n + 1)) ∷ []) = tell_spawn (m.edges ++ d1 ∷ []) first t v.index x.joins (n + 1) T1 next in (
+      let told_two : TellEdges ((m.edges ++ d1 ∷ []) ++ d2 ∷ []) (first ++ event v (acts.Spawn (n + 1)) ∷ []) = tell_spawn (m.edges ++ d1 ∷ []) first t v.index x.joins (n + 1) told_one next in (
         record { here = Some (graph_strand t (v.index + 1)); closed = false; events = first ++ event v (acts.Spawn (n + 1)) ∷ [] },
         ap (λ o. spot_after (spot (Some u) events) (moved_lines (length m.tasks) m' t o)) at,
         refl,
-        subst (λ es. TellEdges es (first ++ event v (acts.Spawn (n + 1)) ∷ [])) (append_assoc m.edges (d1 ∷ []) (d2 ∷ [])) T2,
+        subst (λ es. TellEdges es (first ++ event v (acts.Spawn (n + 1)) ∷ [])) (append_assoc m.edges (d1 ∷ []) (d2 ∷ [])) told_two,
         not_running m' y _ at refl,
       )
     where
@@ -188,11 +188,11 @@ module _ (p : ProgramText) (m : MachineState) (t : ℕ) (K : IsForkJoinState m) 
     abbrev es3 : List Event
     es3 = es2 ++ event w (acts.Join (l + 1)) ∷ []
 
-    T1 : TellEdges m.edges es1
-    T1 = tell_plain m.edges events u acts.Finish T at_end refl
+    told_one : TellEdges m.edges es1
+    told_one = tell_plain m.edges events u acts.Finish T at_end refl
 
-    T2 : TellEdges (m.edges ++ d1 ∷ []) es2
-    T2 = tell_join m.edges es1 q v.index xp.joins l xl.joins T1 parent_turns
+    told_two : TellEdges (m.edges ++ d1 ∷ []) es2
+    told_two = tell_join m.edges es1 q v.index xp.joins l xl.joins told_one parent_turns
 
     next : w.index ≡ length (turns_of (m.edges ++ d1 ∷ []) q)
     next =
@@ -201,8 +201,8 @@ module _ (p : ProgramText) (m : MachineState) (t : ℕ) (K : IsForkJoinState m) 
         let c = parent_turns in
         omega (arith, a, b, c)
 
-    T3 : TellEdges m'.edges es3
-    T3 = subst (λ es. TellEdges es es3) (append_assoc m.edges (d1 ∷ []) (d2 ∷ [])) (tell_join (m.edges ++ d1 ∷ []) es2 q w.index xp.joins (l + 1) xr.joins T2 next)
+    told_three : TellEdges m'.edges es3
+    told_three = subst (λ es. TellEdges es es3) (append_assoc m.edges (d1 ∷ []) (d2 ∷ [])) (tell_join (m.edges ++ d1 ∷ []) es2 q w.index xp.joins (l + 1) xr.joins told_two next)
 
     joined : (y : Task) → slice_get m'.tasks t ≡ Some y → y.status ≡ Joined → y.parent ≡ Some q → left_of t ≡ l → Moved m'
     joined y at s par one = (
@@ -212,7 +212,7 @@ module _ (p : ProgramText) (m : MachineState) (t : ℕ) (K : IsForkJoinState m) 
           ∙ (ap (λ o. spot_after (spot (Some u) events) (lines.Act acts.Finish ∷ join_lines m' (left_of t) o)) par
           ∙ ap (λ k. spot_after (spot (Some u) events) (lines.Act acts.Finish ∷ join_lines m' k (Some q))) one)),
       refl,
-      T3,
+      told_three,
       not_running m' y _ at (ap runs s),
     )
 
