@@ -1,5 +1,5 @@
 -- Chunks with the same numbers, sizes and objects are equal.
-use Rattle.address_laws.proofs.Common.{◌≡◌, ℕ, suc, ◌+◌, List, [], ◌∷◌, ◌++◌, map, refl, sym, ap, ◌∙◌, subst, arith, inl, inr, ◌⊎◌, eqb, eqb-true, eq-eqb, nat_le, cases_Bool, cases_eq, Addr, Cell, no_cell, size_of, ChunkValue, cell_at, cell_of, In, cell_at-past, AreAlike}
+use Rattle.address_laws.proofs.Common.{◌≡◌, ℕ, suc, ◌+◌, List, [], ◌∷◌, ◌++◌, map, refl, sym, ap, ◌∙◌, subst, arith, inl, inr, ◌⊎◌, eqb, eqb-true, eq-eqb, nat_le, cases_Bool, cases_eq, Addr, Cell, no_cell, size_of, ChunkValue, cell_at, cell_of, In, cell_at-past, HaveSameShape}
 use Rattle.address_laws.proofs.Numbers.{numbers, Distinct, alike_numbers}
 
 cells_same : (cs ds : List Cell) → map size_of ds ≡ map size_of cs → ((at : ℕ) → cell_at cs at ≡ cell_at ds at) → cs ≡ ds
@@ -41,7 +41,7 @@ in_numbers (m ∷ ns) n = elim (cases_eq m n) [
   | inr ne ↦ elim (in_numbers ns n) [ inl i ↦ inl (inr i) | inr m' ↦ inr (λ i. elim i [ inl e ↦ ne e | inr j ↦ m' j ]) ]
 ]
 
-pub same_chunks : (ks ls : List ChunkValue) → AreAlike ks ls → Distinct (numbers ks) → ((a : Addr) → cell_of ks a ≡ cell_of ls a) → ks ≡ ls
+pub same_chunks : (ks ls : List ChunkValue) → HaveSameShape ks ls → Distinct (numbers ks) → ((a : Addr) → cell_of ks a ≡ cell_of ls a) → ks ≡ ls
 same_chunks [] [] a d e = refl
 same_chunks [] (l ∷ ls) a d e = absurd a
 same_chunks (k ∷ ks) [] a d e = absurd a

@@ -1,5 +1,5 @@
 -- The numbers of chunks, each once.
-use Rattle.address_laws.proofs.Common.{◌≡◌, ℕ, zero, suc, ◌<◌, Bool, true, false, cond, List, [], ◌∷◌, ◌++◌, length, map, filter, refl, sym, ap, ◌∙◌, subst, arith, inl, inr, All, remove, reverse, reverse-append, All-head, All-tail, ChunkValue, number_of, chunk_at, HaveDistinctNumbers, IsFresh, fresh_cons, fresh_head, fresh_tail, In, in_append_left, in_append_right, in_append_cases, AreAlike}
+use Rattle.address_laws.proofs.Common.{◌≡◌, ℕ, zero, suc, ◌<◌, Bool, true, false, cond, List, [], ◌∷◌, ◌++◌, length, map, filter, refl, sym, ap, ◌∙◌, subst, arith, inl, inr, All, remove, reverse, reverse-append, All-head, All-tail, ChunkValue, number_of, chunk_at, HaveDistinctNumbers, IsFresh, fresh_cons, fresh_head, fresh_tail, In, in_append_left, in_append_right, in_append_cases, HaveSameShape}
 
 abbrev pub numbers : List ChunkValue → List ℕ
 numbers ks = map number_of ks
@@ -113,13 +113,13 @@ numbers_of_map f e [] = refl
 numbers_of_map f e (k ∷ ks) = λ i. e k i ∷ numbers_of_map f e ks i
 
 -- chunks that differ only in their objects have the same numbers
-pub alike_numbers : (h g : List ChunkValue) → AreAlike h g → numbers g ≡ numbers h
+pub alike_numbers : (h g : List ChunkValue) → HaveSameShape h g → numbers g ≡ numbers h
 alike_numbers [] [] a = refl
 alike_numbers [] (l ∷ ls) a = absurd a
 alike_numbers (k ∷ ks) [] a = absurd a
 alike_numbers (k ∷ ks) (l ∷ ls) a = λ i. a.0.0 i ∷ alike_numbers ks ls a.1 i
 
-pub alike_length : (h g : List ChunkValue) → AreAlike h g → length g ≡ length h
+pub alike_length : (h g : List ChunkValue) → HaveSameShape h g → length g ≡ length h
 alike_length [] [] a = refl
 alike_length [] (l ∷ ls) a = absurd a
 alike_length (k ∷ ks) [] a = absurd a

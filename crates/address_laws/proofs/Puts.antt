@@ -1,5 +1,5 @@
 -- Objects of a heap by their addresses, after one was put elsewhere or marked.
-use Rattle.address_laws.proofs.Common.{◌≡◌, ℕ, ◌<◌, true, List, [], ◌∷◌, length, refl, sym, ap, ◌∙◌, subst, inl, inr, ◌⊎◌, is_some, cases_lt, le-ltb, Addr, Cell, Mark, IsBorn, IsObject, with_mark, ChunkValue, cell_of, place_in, place_of, put_object, HasObjectAt, addr_cases, put_cases, In}
+use Rattle.address_laws.proofs.Common.{◌≡◌, ℕ, ◌<◌, true, List, [], ◌∷◌, length, refl, sym, ap, ◌∙◌, subst, inl, inr, ◌⊎◌, is_some, cases_lt, le-ltb, Addr, Cell, Mark, IsBorn, IsObject, with_mark, ChunkValue, cell_of, place_in, chunk_position, put_object, HasObjectAt, addr_cases, put_cases, In}
 use Rattle.object_layout.proofs.ChunkLaws as laws
 
 pub in_or_not : (xs : List Addr) (a : Addr) → In xs a ⊎ (In xs a → ⊥)
@@ -49,14 +49,14 @@ module _ (h : List ChunkValue) (x : Addr) (m : Mark) where
       ]
 
 -- an object with its birth name is in a chunk
-pub live_chunk : (h : List ChunkValue) (a : Addr) → HasObjectAt h a → place_of h a.chunk < length h
+pub live_chunk : (h : List ChunkValue) (a : Addr) → HasObjectAt h a → chunk_position h a.chunk < length h
 live_chunk h a l = laws.chunk_of_object h a (laws.born_object h a l)
 
 -- ---- whether an address is in a chunk of the heap
 
-pub owned : (h : List ChunkValue) (n : ℕ) → is_some (place_in h n) ≡ true → place_of h n < length h
+pub owned : (h : List ChunkValue) (n : ℕ) → is_some (place_in h n) ≡ true → chunk_position h n < length h
 owned h n e =
-    elim (cases_lt (place_of h n) (length h)) [
+    elim (cases_lt (chunk_position h n) (length h)) [
       | inl l ↦ l
-      | inr l ↦ let w = rw (le-ltb (place_of h n) (length h) l) at e in absurd cc
+      | inr l ↦ let w = rw (le-ltb (chunk_position h n) (length h) l) at e in absurd cc
     ]

@@ -4,8 +4,8 @@ use Rattle.object_layout.specs.Cell.{size_of}
 use Rattle.object_layout.specs.ChunkValue.{ChunkValue}
 
 -- chunks of the same numbers and sizes, with objects of the same sizes
-abbrev pub AreAlike : List ChunkValue → List ChunkValue → Type 0
-AreAlike [] [] = Unit {0}
-AreAlike [] (l ∷ ls) = ⊥
-AreAlike (k ∷ ks) [] = ⊥
-AreAlike (k ∷ ks) (l ∷ ls) = ((l.number ≡ k.number) × (l.size ≡ k.size) × (map size_of l.cells ≡ map size_of k.cells)) × AreAlike ks ls
+abbrev pub HaveSameShape : List ChunkValue → List ChunkValue → Type 0
+HaveSameShape [] [] = Unit {0}
+HaveSameShape [] (l ∷ ls) = ⊥
+HaveSameShape (k ∷ ks) [] = ⊥
+HaveSameShape (k ∷ ks) (l ∷ ls) = ((l.number ≡ k.number) × (l.size ≡ k.size) × (map size_of l.cells ≡ map size_of k.cells)) × HaveSameShape ks ls

@@ -1,11 +1,11 @@
 -- How tasks stand in the serial order.
-use Rattle.ancestor_laws.proofs.Common.{◌≡◌, ◌↔◌, ℕ, zero, suc, ◌+◌, ◌-◌, ◌<◌, ◌≤◌, length, inl, inr, refl, ap, sym, subst, ◌∙◌, arith, Some, slice_get, cases_lt, same_Some, slice_get_within, got_in, got_some, Spawn, Join, GraphStrand, Tasks, strand, first_of, last_of, Does, Precedes, IsParent, IsAncestor, IsNested, IsExit, IsEntry, IsMeeting, serial_in, serial_order, AreLevels, IsSerialOrder, AreBlocks, TellsPrecedence, SerialOrderTells}
+use Rattle.ancestor_laws.proofs.Common.{◌≡◌, ◌↔◌, ℕ, zero, suc, ◌+◌, ◌-◌, ◌<◌, ◌≤◌, length, inl, inr, refl, ap, sym, subst, ◌∙◌, arith, Some, slice_get, cases_lt, same_Some, slice_get_within, got_in, got_some, Spawn, Join, GraphStrand, TaskTurns, strand, first_of, last_of, Does, StrandPrecedes, IsParent, IsAncestor, IsNested, IsExit, IsEntryStrand, IsMeeting, serial_in, serial_order, AreLevels, IsSerialOrder, AreBlocks, TellsPrecedence, SerialOrderTells}
 use Rattle.ancestor_laws.proofs.Trees.{IsLine, through, child_above, up_cases, joins_child, one_parent, one_line}
 use Rattle.ancestor_laws.proofs.Walks.{both, along, IsRooted, attached_rooted, rooted_attached}
 use Rattle.ancestor_laws.proofs.Meetings.{exit_walk, entry_walk, some_entry, before_at_lowest, walks_meet}
 use Rattle.ancestor_laws.proofs.Serial.{offset, rest_length, offset_spawn, offset_upto, in_below, IsPlaced, child_placed, placed_by, strand_placed, serial_order_extends}
 
-module _ (tasks : Tasks) (levels : ℕ) (n : IsNested tasks) (enough : AreLevels tasks levels) where
+module _ (tasks : TaskTurns) (levels : ℕ) (n : IsNested tasks) (enough : AreLevels tasks levels) where
   serial : IsSerialOrder tasks (serial_order tasks levels)
   serial = serial_order_extends tasks levels n enough
 
@@ -128,7 +128,7 @@ module _ (tasks : Tasks) (levels : ℕ) (n : IsNested tasks) (enough : AreLevels
       serial.all (strand q j) (rooted_attached tasks (strand q j) (record { stands = omega arith; rooted = r.rooted }))
 
   -- what is entered before strand i of q stands before it
-  entered_before : (q i e k j : ℕ) (v : GraphStrand) → IsEntry tasks q v e → e < i → slice_get (serial_order tasks levels) k ≡ Some (strand q i) → slice_get (serial_order tasks levels) j ≡ Some v → j < k
+  entered_before : (q i e k j : ℕ) (v : GraphStrand) → IsEntryStrand tasks q v e → e < i → slice_get (serial_order tasks levels) k ≡ Some (strand q i) → slice_get (serial_order tasks levels) j ≡ Some v → j < k
   entered_before q i e k j v (inl (et, ei)) lt hk hj =
       let is : v ≡ strand q e = ap (λ x. strand x v.index) et ∙ ap (strand q) ei in
       let at : slice_get (serial_order tasks levels) j ≡ Some (strand q e) = hj ∙ ap Some is in
@@ -147,17 +147,17 @@ module _ (tasks : Tasks) (levels : ℕ) (n : IsNested tasks) (enough : AreLevels
       let le : m.0 ≤ k = own_order q (e + 1) i m.0 k m.1 hk (omega arith) in
       omega arith
 
-  entry_stands : (q e : ℕ) (v : GraphStrand) → v.index ≤ length (tasks v.task) → IsEntry tasks q v e → e ≤ length (tasks q)
+  entry_stands : (q e : ℕ) (v : GraphStrand) → v.index ≤ length (tasks v.task) → IsEntryStrand tasks q v e → e ≤ length (tasks q)
   entry_stands q e v st (inl (et, ei)) = subst (λ x. x ≤ length (tasks q)) ei (subst (λ t. v.index ≤ length (tasks t)) et st)
   entry_stands q e v st (inr (c, anc, sp)) = let lt : e < length (tasks q) = slice_get_within (tasks q) e (Spawn c) sp in omega arith
 
   -- a strand of q precedes what is entered from there on
-  entered_from : (q i e : ℕ) (v : GraphStrand) → v.index ≤ length (tasks v.task) → IsEntry tasks q v e → i ≤ e → Precedes tasks (strand q i) v
+  entered_from : (q i e : ℕ) (v : GraphStrand) → v.index ≤ length (tasks v.task) → IsEntryStrand tasks q v e → i ≤ e → StrandPrecedes tasks (strand q i) v
   entered_from q i e v st entry le =
       both tasks (strand q i) (strand q e) v (along tasks q i e le (entry_stands q e v st entry)) (entry_walk tasks n v q e st entry)
 
   own : (q i k j : ℕ) (v : GraphStrand) → IsAncestor tasks q v.task → slice_get (serial_order tasks levels) k ≡ Some (strand q i) → slice_get (serial_order tasks levels) j ≡ Some v
-      → (Precedes tasks (strand q i) v ↔ (k ≤ j))
+      → (StrandPrecedes tasks (strand q i) v ↔ (k ≤ j))
   own q i k j v up hk hj =
       let rv = rooted_at j v hj in
       let entry = some_entry tasks v q up in (
@@ -181,7 +181,7 @@ module _ (tasks : Tasks) (levels : ℕ) (n : IsNested tasks) (enough : AreLevels
 
   left : (q i c k j : ℕ) (u v : GraphStrand) → IsAncestor tasks c u.task → Does tasks q i (Join c) → IsAncestor tasks q v.task
       → (IsAncestor tasks c v.task → ⊥) → (m : ℕ) → slice_get (serial_order tasks levels) m ≡ Some u
-      → slice_get (serial_order tasks levels) k ≡ Some (strand q (i + 1)) → slice_get (serial_order tasks levels) j ≡ Some v → (Precedes tasks u v ↔ (k ≤ j))
+      → slice_get (serial_order tasks levels) k ≡ Some (strand q (i + 1)) → slice_get (serial_order tasks levels) j ≡ Some v → (StrandPrecedes tasks u v ↔ (k ≤ j))
   left q i c k j u v up join over apart m hm hk hj =
       let ru = rooted_at m u hm in
       let rv = rooted_at j v hj in

@@ -1,13 +1,13 @@
 -- The names of lower crates and of the specifications that these proofs use. Declares nothing.
 pub use Rattle.ancestor_laws.specs.Blocks.{AreBlocks, TellsPrecedence, SerialOrderTells}
 pub use Rattle.ancestor_laws.specs.CutRuns.{IsKept, CutRunsSpeakTruly}
-pub use Rattle.ancestor_laws.specs.Meeting.{IsExit, IsEntry, IsMeeting, IsLowestCommon, AncestorsTellPrecedence}
+pub use Rattle.ancestor_laws.specs.Meeting.{IsExit, IsEntryStrand, IsMeeting, IsLowestCommon, AncestorsTellPrecedence}
 pub use Rattle.ancestor_laws.specs.Serial.{serial_in, serial_order, AreLevels, IsSerialOrder, serial_rest, SerialOrderExtends, LevelsAreFew}
 pub use Rattle.ancestor_laws.specs.Span.{HasWalk, IsReach, AreReaches, SpanIsLongest}
 pub use Rattle.fork_graph.proofs.Cut.{completed_front, completed_cases, completed_spawn, completed_are_nested, same_spawn, spawn_no_join, same_join}
 pub use Rattle.fork_graph.proofs.Once.{EachOnce, one_place, once_append}
 pub use Rattle.fork_graph.specs.Cut.{with_joins, IsCut}
-pub use Rattle.fork_graph.specs.Graph.{Tasks, strand, first_of, last_of, Does, Precedes, IsParent, IsAncestor, Stands, IsGraphEdge, ContinuesTo, Spawns, IsAttached, JoinsTo}
+pub use Rattle.fork_graph.specs.Graph.{TaskTurns, strand, first_of, last_of, Does, StrandPrecedes, IsParent, IsAncestor, HasStrand, IsGraphEdge, ContinuesTo, Spawns, IsAttached, JoinsTo}
 pub use Rattle.fork_graph.specs.Nested.{IsNested, IsForkJoin}
 pub use Rattle.fork_graph.specs.declared.graph.GraphStrand.{GraphStrand}
 pub use Rattle.fork_graph.specs.declared.graph.GraphTurn.{GraphTurn}

@@ -1,5 +1,5 @@
 -- What a run that was cut off says of the whole one.
-use Rattle.ancestor_laws.proofs.Common.{◌≡◌, ℕ, zero, suc, ◌<◌, ◌≤◌, List, [], ◌∷◌, length, take, inl, inr, sym, subst, arith, Some, slice_get, slice_get_within, none_some, GraphTurn, Spawn, Join, GraphStrand, Tasks, Stands, Does, IsParent, IsAncestor, IsForkJoin, IsNested, with_joins, IsCut, completed_front, completed_cases, completed_spawn, completed_are_nested, IsExit, IsEntry, IsKept, CutRunsSpeakTruly}
+use Rattle.ancestor_laws.proofs.Common.{◌≡◌, ℕ, zero, suc, ◌<◌, ◌≤◌, List, [], ◌∷◌, length, take, inl, inr, sym, subst, arith, Some, slice_get, slice_get_within, none_some, GraphTurn, Spawn, Join, GraphStrand, TaskTurns, HasStrand, Does, IsParent, IsAncestor, IsForkJoin, IsNested, with_joins, IsCut, completed_front, completed_cases, completed_spawn, completed_are_nested, IsExit, IsEntryStrand, IsKept, CutRunsSpeakTruly}
 use Rattle.ancestor_laws.proofs.Trees.{IsLine, same_ancestor, below, up_cases, one_parent, no_root_parent, rooted_above}
 use Rattle.ancestor_laws.proofs.Walks.{IsRooted, attached_rooted, rooted_attached}
 use Rattle.ancestor_laws.proofs.Meetings.{Meets, walks_meet, meeting_walk}
@@ -17,7 +17,7 @@ got_front_of (suc n) i [] x h lt = absurd (omega arith)
 got_front_of (suc n) zero (y ∷ xs) x h lt = h
 got_front_of (suc n) (suc i) (y ∷ xs) x h lt = got_front_of n i xs x h (omega arith)
 
-module _ (cut whole : Tasks) (part : IsCut cut whole) where
+module _ (cut whole : TaskTurns) (part : IsCut cut whole) where
   pub cut_does : (t i : ℕ) (turn : GraphTurn) → Does cut t i turn → Does whole t i turn
   cut_does t i turn h =
       let p = part t in
@@ -94,11 +94,11 @@ module _ (cut whole : Tasks) (part : IsCut cut whole) where
           | inr (d, same, ge, at) ↦ absurd (omega arith)
         ]
 
-    entry_up : (q j : ℕ) (v : GraphStrand) → IsEntry (with_joins cut) q v j → IsEntry whole q v j
+    entry_up : (q j : ℕ) (v : GraphStrand) → IsEntryStrand (with_joins cut) q v j → IsEntryStrand whole q v j
     entry_up q j v (inl own) = inl own
     entry_up q j v (inr (c, anc, sp)) = inr (c, above_up c v.task anc, spawn_up q j c sp)
 
-    entry_kept : (q j : ℕ) (v : GraphStrand) → Stands cut v → IsEntry (with_joins cut) q v j → j ≤ length (cut q)
+    entry_kept : (q j : ℕ) (v : GraphStrand) → HasStrand cut v → IsEntryStrand (with_joins cut) q v j → j ≤ length (cut q)
     entry_kept q j v st (inl (et, ei)) = subst (λ k. k ≤ length (cut q)) ei (subst (λ t. v.index ≤ length (cut t)) et st)
     entry_kept q j v st (inr (c, anc, sp)) =
         let lt : j < length (cut q) = slice_get_within (cut q) j (Spawn c) (completed_spawn (cut q) j c sp) in omega arith
@@ -108,11 +108,11 @@ module _ (cut whole : Tasks) (part : IsCut cut whole) where
     exit_down q i u root le (inr (c, j, anc, jn, e)) =
         inr (c, j, above_down c u.task root anc, completed_front (cut q) j (Join c) (kept_does q j (Join c) jn (omega arith)), e)
 
-    entry_down : (q j : ℕ) (v : GraphStrand) → IsAncestor (with_joins cut) 0 v.task → IsEntry whole q v j → IsEntry (with_joins cut) q v j
+    entry_down : (q j : ℕ) (v : GraphStrand) → IsAncestor (with_joins cut) 0 v.task → IsEntryStrand whole q v j → IsEntryStrand (with_joins cut) q v j
     entry_down q j v root (inl own) = inl own
     entry_down q j v root (inr (c, anc, sp)) = inr (c, above_down c v.task root anc, spawn_down q j c v.task root anc sp)
 
-    meets_up : (u v : GraphStrand) → Stands cut v → Meets (with_joins cut) u v → Meets whole u v
+    meets_up : (u v : GraphStrand) → HasStrand cut v → Meets (with_joins cut) u v → Meets whole u v
     meets_up u v st m =
         let kept : m.entered ≤ length (cut m.at) = entry_kept m.at m.entered v st m.entry in
         let le : m.left ≤ m.entered = m.before in
@@ -125,7 +125,7 @@ module _ (cut whole : Tasks) (part : IsCut cut whole) where
           before = le;
         }
 
-    meets_down : (u v : GraphStrand) → IsRooted (with_joins cut) u → IsRooted (with_joins cut) v → Stands cut v → Meets whole u v → Meets (with_joins cut) u v
+    meets_down : (u v : GraphStrand) → IsRooted (with_joins cut) u → IsRooted (with_joins cut) v → HasStrand cut v → Meets whole u v → Meets (with_joins cut) u v
     meets_down u v ru rv st m =
         let entry = entry_down m.at m.entered v rv.rooted m.entry in
         let kept : m.entered ≤ length (cut m.at) = entry_kept m.at m.entered v st entry in
@@ -149,7 +149,7 @@ cut_runs_speak_truly cut whole n part =
     let fj = n.fork_join in
     let nested : IsNested (with_joins cut) = completed_are_nested cut (cut_fork_join cut whole part fj) in
     let rooted = λ (u : GraphStrand) (k : IsKept cut u). attached_rooted (with_joins cut) nested.fork_join u k.attached in
-    let stands : (u : GraphStrand) → IsKept cut u → Stands whole u = λ u k.
+    let stands : (u : GraphStrand) → IsKept cut u → HasStrand whole u = λ u k.
     let p = part u.task in
     let le : length (cut u.task) ≤ length (whole u.task) = subst (λ turns. length turns ≤ length (whole u.task)) (sym p.1) (cut_shorter p.0 (whole u.task)) in
     let st : u.index ≤ length (cut u.task) = k.stands in

@@ -1,20 +1,20 @@
 -- Strands whose ways meet at a common ancestor of their tasks.
-use Rattle.ancestor_laws.proofs.Common.{◌≡◌, ℕ, zero, suc, ◌+◌, ◌<◌, ◌≤◌, length, ◌⊎◌, inl, inr, refl, ap, sym, subst, ◌∙◌, arith, slice_get_within, reached_within, Spawn, Join, GraphStrand, Tasks, strand, first_of, last_of, Stands, Does, IsGraphEdge, Precedes, IsParent, IsAncestor, IsForkJoin, IsNested, IsLowestCommon, IsExit, IsEntry, IsMeeting, AncestorsTellPrecedence}
+use Rattle.ancestor_laws.proofs.Common.{◌≡◌, ℕ, zero, suc, ◌+◌, ◌<◌, ◌≤◌, length, ◌⊎◌, inl, inr, refl, ap, sym, subst, ◌∙◌, arith, slice_get_within, reached_within, Spawn, Join, GraphStrand, TaskTurns, strand, first_of, last_of, HasStrand, Does, IsGraphEdge, StrandPrecedes, IsParent, IsAncestor, IsForkJoin, IsNested, IsLowestCommon, IsExit, IsEntryStrand, IsMeeting, AncestorsTellPrecedence}
 use Rattle.ancestor_laws.proofs.Trees.{IsLine, itself, same_ancestor, below, through, child_above, up_cases, down_cases, one_parent, joins_child, parent_line, no_self, same_child, decide}
 use Rattle.ancestor_laws.proofs.Walks.{strand_is, same_strand, and_then, both, along, descend, climb, attached_rooted}
 
 -- at some common ancestor u's way comes in before v's goes out
-pub record Meets (tasks : Tasks) (u v : GraphStrand) : Type 0 where
+pub record Meets (tasks : TaskTurns) (u v : GraphStrand) : Type 0 where
   pub at : ℕ
   pub left : ℕ
   pub entered : ℕ
   pub exit : IsExit tasks at u left
-  pub entry : IsEntry tasks at v entered
+  pub entry : IsEntryStrand tasks at v entered
   pub before : left ≤ entered
 
 -- WALKS MEET
 
-pub meets_itself : (tasks : Tasks) (u v : GraphStrand) → v ≡ u → Meets tasks u v
+pub meets_itself : (tasks : TaskTurns) (u v : GraphStrand) → v ≡ u → Meets tasks u v
 meets_itself tasks u v e = subst (Meets tasks u) (sym e) (record {
   at = u.task;
   left = u.index;
@@ -24,8 +24,8 @@ meets_itself tasks u v e = subst (Meets tasks u) (sym e) (record {
   before = omega arith;
 })
 
-module _ (tasks : Tasks) (fj : IsForkJoin tasks) (u : GraphStrand) where
-  on_by : (x : GraphStrand) (q i j : ℕ) → IsExit tasks q u i → IsEntry tasks q x j → i ≤ j → Meets tasks u (strand x.task (x.index + 1))
+module _ (tasks : TaskTurns) (fj : IsForkJoin tasks) (u : GraphStrand) where
+  on_by : (x : GraphStrand) (q i j : ℕ) → IsExit tasks q u i → IsEntryStrand tasks q x j → i ≤ j → Meets tasks u (strand x.task (x.index + 1))
   on_by x q i j exit (inl (et, ei)) le = record {
     at = q;
     left = i;
@@ -43,7 +43,7 @@ module _ (tasks : Tasks) (fj : IsForkJoin tasks) (u : GraphStrand) where
     before = le;
   }
 
-  spawn_by : (x : GraphStrand) (c q i j : ℕ) → Does tasks x.task x.index (Spawn c) → IsExit tasks q u i → IsEntry tasks q x j → i ≤ j → Meets tasks u (first_of c)
+  spawn_by : (x : GraphStrand) (c q i j : ℕ) → Does tasks x.task x.index (Spawn c) → IsExit tasks q u i → IsEntryStrand tasks q x j → i ≤ j → Meets tasks u (first_of c)
   spawn_by x c q i j h exit (inl (et, ei)) le = record {
     at = q;
     left = i;
@@ -78,7 +78,7 @@ module _ (tasks : Tasks) (fj : IsForkJoin tasks) (u : GraphStrand) where
       let e : p ≡ t = one_parent tasks fj p t c up (joins_child tasks fj t k c h) in
       record { at = q; left = i; entered = j; exit = exit; entry = inr (d, subst (IsAncestor tasks d) e more, sp); before = le }
 
-  join_by : (t k c q i j : ℕ) → Does tasks t k (Join c) → IsExit tasks q u i → IsEntry tasks q (last_of tasks c) j → i ≤ j → Meets tasks u (strand t (k + 1))
+  join_by : (t k c q i j : ℕ) → Does tasks t k (Join c) → IsExit tasks q u i → IsEntryStrand tasks q (last_of tasks c) j → i ≤ j → Meets tasks u (strand t (k + 1))
   join_by t k c q i j h exit (inl (et, ei)) le = record {
     at = t;
     left = k + 1;
@@ -94,44 +94,44 @@ module _ (tasks : Tasks) (fj : IsForkJoin tasks) (u : GraphStrand) where
   meets_more x y m (inr (inl (c, h, e))) = subst (Meets tasks u) (sym e) (spawn_by x c m.at m.left m.entered h m.exit m.entry m.before)
   meets_more x y m (inr (inr (t, i, c, h, ex, ey))) =
       subst (Meets tasks u) (sym ey)
-      (join_by t i c m.at m.left m.entered h m.exit (subst (λ (z : GraphStrand). IsEntry tasks m.at z m.entered) ex m.entry) m.before)
+      (join_by t i c m.at m.left m.entered h m.exit (subst (λ (z : GraphStrand). IsEntryStrand tasks m.at z m.entered) ex m.entry) m.before)
 
-  pub walks_meet : (v : GraphStrand) → Precedes tasks u v → Meets tasks u v
+  pub walks_meet : (v : GraphStrand) → StrandPrecedes tasks u v → Meets tasks u v
   walks_meet v w =
       reached_within (λ (x : GraphStrand). x ≡ u) (IsGraphEdge tasks) (Meets tasks u)
       (λ a e. meets_itself tasks u a e) (λ m a p e. meets_more m a p e) v w
 
 -- MEETINGS ARE WALKED
 
-module _ (tasks : Tasks) (n : IsNested tasks) where
-  pub exit_walk : (u : GraphStrand) (q i : ℕ) → Stands tasks u → IsExit tasks q u i → Precedes tasks u (strand q i)
+module _ (tasks : TaskTurns) (n : IsNested tasks) where
+  pub exit_walk : (u : GraphStrand) (q i : ℕ) → HasStrand tasks u → IsExit tasks q u i → StrandPrecedes tasks u (strand q i)
   exit_walk u q i st (inl (et, ei)) = same_strand tasks u (strand q i) (sym (strand_is u q i et ei))
   exit_walk u q i st (inr (c, j, anc, jn, e)) =
       and_then tasks u (last_of tasks c) (strand q i)
       (both tasks u (last_of tasks u.task) (last_of tasks c) (along tasks u.task u.index (length (tasks u.task)) st (omega arith)) (climb tasks n c u.task anc))
       (inr (inr (q, j, c, jn, refl, ap (strand q) e)))
 
-  pub entry_walk : (v : GraphStrand) (q j : ℕ) → Stands tasks v → IsEntry tasks q v j → Precedes tasks (strand q j) v
+  pub entry_walk : (v : GraphStrand) (q j : ℕ) → HasStrand tasks v → IsEntryStrand tasks q v j → StrandPrecedes tasks (strand q j) v
   entry_walk v q j st (inl (et, ei)) = same_strand tasks (strand q j) v (strand_is v q j et ei)
   entry_walk v q j st (inr (c, anc, sp)) =
       both tasks (strand q j) (first_of c) v
       (and_then tasks (strand q j) (strand q j) (first_of c) (same_strand tasks (strand q j) (strand q j) refl) (inr (inl (c, sp, refl))))
       (both tasks (first_of c) (first_of v.task) v (descend tasks c v.task anc) (along tasks v.task 0 v.index (omega arith) st))
 
-  entry_stands : (v : GraphStrand) (q j : ℕ) → Stands tasks v → IsEntry tasks q v j → j ≤ length (tasks q)
+  entry_stands : (v : GraphStrand) (q j : ℕ) → HasStrand tasks v → IsEntryStrand tasks q v j → j ≤ length (tasks q)
   entry_stands v q j st (inl (et, ei)) =
       subst (λ k. k ≤ length (tasks q)) ei (subst (λ t. v.index ≤ length (tasks t)) et st)
   entry_stands v q j st (inr (c, anc, sp)) =
       let lt : j < length (tasks q) = slice_get_within (tasks q) j (Spawn c) sp in omega arith
 
-  pub meeting_walk : (u v : GraphStrand) (q i j : ℕ) → Stands tasks u → Stands tasks v → IsExit tasks q u i → IsEntry tasks q v j → i ≤ j → Precedes tasks u v
+  pub meeting_walk : (u v : GraphStrand) (q i j : ℕ) → HasStrand tasks u → HasStrand tasks v → IsExit tasks q u i → IsEntryStrand tasks q v j → i ≤ j → StrandPrecedes tasks u v
   meeting_walk u v q i j su sv exit entry le =
       both tasks u (strand q i) v (exit_walk u q i su exit)
       (both tasks (strand q i) (strand q j) v (along tasks q i j le (entry_stands v q j sv entry)) (entry_walk v q j sv entry))
 
 -- ONE MEETING
 
-module _ (tasks : Tasks) (fj : IsForkJoin tasks) where
+module _ (tasks : TaskTurns) (fj : IsForkJoin tasks) where
   own_child : {A : Type 0} (u : GraphStrand) (q c : ℕ) → IsAncestor tasks 0 u.task → u.task ≡ q → IsParent tasks q c → IsAncestor tasks c u.task → A
   own_child u q c root e up anc = no_self tasks fj q c (subst (IsAncestor tasks 0) e root) up (subst (IsAncestor tasks c) e anc)
 
@@ -144,7 +144,7 @@ module _ (tasks : Tasks) (fj : IsForkJoin tasks) where
       let one : j ≡ j' = fj.joined_once c' q j j' (subst (λ x. Does tasks q j (Join x)) same jn) jn' in
       omega arith
 
-  pub one_entry : (v : GraphStrand) (q j j' : ℕ) → IsAncestor tasks 0 v.task → IsEntry tasks q v j → IsEntry tasks q v j' → j ≡ j'
+  pub one_entry : (v : GraphStrand) (q j j' : ℕ) → IsAncestor tasks 0 v.task → IsEntryStrand tasks q v j → IsEntryStrand tasks q v j' → j ≡ j'
   one_entry v q j j' root (inl (et, ei)) (inl (et', ei')) = sym ei ∙ ei'
   one_entry v q j j' root (inl (et, ei)) (inr (c, anc, sp)) = own_child v q c root et (j', sp) anc
   one_entry v q j j' root (inr (c, anc, sp)) (inl (et, ei)) = own_child v q c root et (j, sp) anc
@@ -154,7 +154,7 @@ module _ (tasks : Tasks) (fj : IsForkJoin tasks) where
 
   -- where a child of the task leads to both, it is left after it is entered
   late_exit : {A : Type 0} (u v : GraphStrand) (q c i j : ℕ) → IsAncestor tasks 0 u.task → IsAncestor tasks 0 v.task → IsParent tasks q c
-      → IsAncestor tasks c u.task → IsAncestor tasks c v.task → IsExit tasks q u i → IsEntry tasks q v j → i ≤ j → A
+      → IsAncestor tasks c u.task → IsAncestor tasks c v.task → IsExit tasks q u i → IsEntryStrand tasks q v j → i ≤ j → A
   late_exit u v q c i j ru rv up au av (inl (et, ei)) entry le = own_child u q c ru et up au
   late_exit u v q c i j ru rv up au av (inr exit) (inl (et, ei)) le = own_child v q c rv et up av
   late_exit u v q c i j ru rv up au av (inr (d, k, anc, jn, e)) (inr (d', anc', sp)) le =
@@ -165,7 +165,7 @@ module _ (tasks : Tasks) (fj : IsForkJoin tasks) where
       let same : j ≡ s.0 = (fj.spawned_once d q j q s.0 (subst (λ x. Does tasks q j (Spawn x)) (other ∙ sym one) sp) s.2).1 in
       absurd (omega arith)
 
-  entry_above : (v : GraphStrand) (q j : ℕ) → IsEntry tasks q v j → IsAncestor tasks q v.task
+  entry_above : (v : GraphStrand) (q j : ℕ) → IsEntryStrand tasks q v j → IsAncestor tasks q v.task
   entry_above v q j (inl (et, ei)) = same_ancestor tasks q v.task et
   entry_above v q j (inr (c, anc, sp)) = child_above tasks q c v.task (j, sp) anc
 
@@ -177,7 +177,7 @@ module _ (tasks : Tasks) (fj : IsForkJoin tasks) where
       elim (down_cases tasks p q (m.lowest.lowest p pu pv)) [
         | inl same ↦
             let a : h.left ≡ i = one_exit u q h.left i ru (subst (λ x. IsExit tasks x u h.left) (sym same) h.exit) m.exit in
-            let b : h.entered ≡ j = one_entry v q h.entered j rv (subst (λ x. IsEntry tasks x v h.entered) (sym same) h.entry) m.entry in
+            let b : h.entered ≡ j = one_entry v q h.entered j rv (subst (λ x. IsEntryStrand tasks x v h.entered) (sym same) h.entry) m.entry in
             let le : h.left ≤ h.entered = h.before in
             omega arith
         | inr (c, up, more) ↦
@@ -212,21 +212,21 @@ module _ (tasks : Tasks) (fj : IsForkJoin tasks) where
   pub lowest_common : (a b : ℕ) → IsAncestor tasks 0 a → IsAncestor tasks 0 b → (q : ℕ) × IsLowestCommon tasks q a b
   lowest_common a b ra rb = lowest_by ra.0 a b ra.1 rb
 
-pub some_exit : (tasks : Tasks) → IsNested tasks → (u : GraphStrand) (q : ℕ) → IsAncestor tasks q u.task → (i : ℕ) × IsExit tasks q u i
+pub some_exit : (tasks : TaskTurns) → IsNested tasks → (u : GraphStrand) (q : ℕ) → IsAncestor tasks q u.task → (i : ℕ) × IsExit tasks q u i
 some_exit tasks n u q w =
     elim (down_cases tasks q u.task w) [
       | inl same ↦ (u.index, inl (same, refl))
       | inr (c, up, more) ↦ let join = n.all_joined c q up.0 up.1 in (join.0 + 1, inr (c, join.0, more, join.1, refl))
     ]
 
-pub some_entry : (tasks : Tasks) (v : GraphStrand) (q : ℕ) → IsAncestor tasks q v.task → (j : ℕ) × IsEntry tasks q v j
+pub some_entry : (tasks : TaskTurns) (v : GraphStrand) (q : ℕ) → IsAncestor tasks q v.task → (j : ℕ) × IsEntryStrand tasks q v j
 some_entry tasks v q w =
     elim (down_cases tasks q v.task w) [
       | inl same ↦ (v.index, inl (same, refl))
       | inr (c, up, more) ↦ (up.0, inr (c, more, up.1))
     ]
 
-pub some_meeting : (tasks : Tasks) → IsNested tasks → (u v : GraphStrand) → IsAncestor tasks 0 u.task → IsAncestor tasks 0 v.task → (q i j : ℕ) × IsMeeting tasks u v q i j
+pub some_meeting : (tasks : TaskTurns) → IsNested tasks → (u v : GraphStrand) → IsAncestor tasks 0 u.task → IsAncestor tasks 0 v.task → (q i j : ℕ) × IsMeeting tasks u v q i j
 some_meeting tasks n u v ru rv =
     let low = lowest_common tasks n.fork_join u.task v.task ru rv in
     let exit = some_exit tasks n u low.0 low.1.above_first in

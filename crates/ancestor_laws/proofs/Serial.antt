@@ -1,5 +1,5 @@
 -- The serial order.
-use Rattle.ancestor_laws.proofs.Common.{◌≡◌, ℕ, zero, suc, ◌+◌, ◌-◌, ◌<◌, ◌≤◌, List, [], ◌∷◌, ◌++◌, length, ◌⊎◌, inl, inr, refl, ap, sym, subst, ◌∙◌, arith, Some, slice_get, eqb, false, ne_eqb, eqb-true, length-append, IsDistinct-cons, length-le_from_distinct_below, same_Some, slice_get_within, In, got_in, got_front, got_back, in_append_cases, in_from_any, each_from, none_some, reached_within, GraphTurn, Spawn, Join, GraphStrand, Tasks, strand, last_of, Stands, Does, ContinuesTo, Spawns, IsGraphEdge, Precedes, IsAncestor, IsForkJoin, same_spawn, spawn_no_join, EachOnce, one_place, once_append, serial_rest, serial_in, serial_order, AreLevels, SerialOrderExtends, LevelsAreFew}
+use Rattle.ancestor_laws.proofs.Common.{◌≡◌, ℕ, zero, suc, ◌+◌, ◌-◌, ◌<◌, ◌≤◌, List, [], ◌∷◌, ◌++◌, length, ◌⊎◌, inl, inr, refl, ap, sym, subst, ◌∙◌, arith, Some, slice_get, eqb, false, ne_eqb, eqb-true, length-append, IsDistinct-cons, length-le_from_distinct_below, same_Some, slice_get_within, In, got_in, got_front, got_back, in_append_cases, in_from_any, each_from, none_some, reached_within, GraphTurn, Spawn, Join, GraphStrand, TaskTurns, strand, last_of, HasStrand, Does, ContinuesTo, Spawns, IsGraphEdge, StrandPrecedes, IsAncestor, IsForkJoin, same_spawn, spawn_no_join, EachOnce, one_place, once_append, serial_rest, serial_in, serial_order, AreLevels, SerialOrderExtends, LevelsAreFew}
 use Rattle.std.specs.List.{IsDistinct}
 use Rattle.ancestor_laws.proofs.Trees.{IsLine, itself, same_ancestor, below, through, child_above, no_self, same_child}
 use Rattle.ancestor_laws.proofs.Walks.{IsRooted, rooted_more, attached_rooted, rooted_attached}
@@ -122,20 +122,20 @@ module _ (child : ℕ → List GraphStrand) where
 
 -- WHAT STANDS IN THE ORDER
 
-module _ (tasks : Tasks) where
-  pub in_below : (l t : ℕ) (x : GraphStrand) → In (serial_in tasks l t) x → IsAncestor tasks t x.task × Stands tasks x
+module _ (tasks : TaskTurns) where
+  pub in_below : (l t : ℕ) (x : GraphStrand) → In (serial_in tasks l t) x → IsAncestor tasks t x.task × HasStrand tasks x
   in_below zero t x h = absurd h
   in_below (suc l) t x h = in_below_by l t x (in_below l) (rest_in (serial_in tasks l) t 0 (tasks t) x h)
     where
-      in_below_by : (l t : ℕ) (x : GraphStrand) → ((c : ℕ) (y : GraphStrand) → In (serial_in tasks l c) y → IsAncestor tasks c y.task × Stands tasks y)
+      in_below_by : (l t : ℕ) (x : GraphStrand) → ((c : ℕ) (y : GraphStrand) → In (serial_in tasks l c) y → IsAncestor tasks c y.task × HasStrand tasks y)
           → ((x.task ≡ t) × (0 ≤ x.index) × (x.index ≤ 0 + length (tasks t))) ⊎ ((i c : ℕ) × Does tasks t i (Spawn c) × In (serial_in tasks l c) x)
-          → IsAncestor tasks t x.task × Stands tasks x
+          → IsAncestor tasks t x.task × HasStrand tasks x
       in_below_by l t x again (inl (e, low, high)) =
           let le : x.index ≤ length (tasks t) = omega arith in
           (same_ancestor tasks t x.task e, subst (λ y. x.index ≤ length (tasks y)) (sym e) le)
       in_below_by l t x again (inr (i, c, g, h)) = let r = again c x h in (child_above tasks t c x.task (i, g) r.0, r.1)
 
-module _ (tasks : Tasks) (fj : IsForkJoin tasks) where
+module _ (tasks : TaskTurns) (fj : IsForkJoin tasks) where
   -- a later part of a task's turns
   abbrev IsPart : ℕ → ℕ → List GraphTurn → Type 0
   IsPart t b turns = (i c : ℕ) → slice_get turns i ≡ Some (Spawn c) → Does tasks t (b + i) (Spawn c)
@@ -190,12 +190,12 @@ module _ (tasks : Tasks) (fj : IsForkJoin tasks) where
 -- WHERE A TASK'S STRANDS STAND
 
 -- so many spawns below the root, with so many levels left, a task's part of the order begins at place s
-pub record IsPlaced (tasks : Tasks) (levels : ℕ) (t k l s : ℕ) : Type 0 where
+pub record IsPlaced (tasks : TaskTurns) (levels : ℕ) (t k l s : ℕ) : Type 0 where
   pub line : IsLine tasks 0 k t
   pub deep : k + suc l ≡ levels
   pub window : IsWindow (serial_order tasks levels) (serial_in tasks (suc l) t) s
 
-module _ (tasks : Tasks) (levels : ℕ) (enough : AreLevels tasks levels) where
+module _ (tasks : TaskTurns) (levels : ℕ) (enough : AreLevels tasks levels) where
   order : List GraphStrand
   order = serial_order tasks levels
 
@@ -322,7 +322,7 @@ module _ (tasks : Tasks) (levels : ℕ) (enough : AreLevels tasks levels) where
   pub one_place_of : (fj : IsForkJoin tasks) (i j : ℕ) (u : GraphStrand) → slice_get (serial_order tasks levels) i ≡ Some u → slice_get (serial_order tasks levels) j ≡ Some u → i ≡ j
   one_place_of fj i j u a b = one_place (serial_order tasks levels) (in_once tasks fj levels 0 (itself tasks 0)) i j u a b
 
-  walk_forward : (fj : IsForkJoin tasks) (i : ℕ) (u : GraphStrand) → IsRooted tasks u → slice_get (serial_order tasks levels) i ≡ Some u → (v : GraphStrand) → Precedes tasks u v
+  walk_forward : (fj : IsForkJoin tasks) (i : ℕ) (u : GraphStrand) → IsRooted tasks u → slice_get (serial_order tasks levels) i ≡ Some u → (v : GraphStrand) → StrandPrecedes tasks u v
       → IsRooted tasks v × ((j : ℕ) × (slice_get (serial_order tasks levels) j ≡ Some v) × (i ≤ j))
   walk_forward fj i u r at v w =
       reached_within (λ (x : GraphStrand). x ≡ u) (IsGraphEdge tasks)
@@ -356,11 +356,11 @@ serial_order_extends tasks levels n enough =
 -- LEVELS
 
 -- the tasks of a line, from the last one up
-line_tasks : (tasks : Tasks) (k t : ℕ) → IsLine tasks 0 k t → List ℕ
+line_tasks : (tasks : TaskTurns) (k t : ℕ) → IsLine tasks 0 k t → List ℕ
 line_tasks tasks zero t w = t ∷ []
 line_tasks tasks (suc k) t w = t ∷ line_tasks tasks k w.0 w.1
 
-module _ (tasks : Tasks) (fj : IsForkJoin tasks) (n : ℕ) (some : 0 < n) (low : (t i c : ℕ) → Does tasks t i (Spawn c) → c < n) where
+module _ (tasks : TaskTurns) (fj : IsForkJoin tasks) (n : ℕ) (some : 0 < n) (low : (t i c : ℕ) → Does tasks t i (Spawn c) → c < n) where
   line_length : (k t : ℕ) (w : IsLine tasks 0 k t) → length (line_tasks tasks k t w) ≡ suc k
   unfolding line_tasks
   line_length zero t w = refl

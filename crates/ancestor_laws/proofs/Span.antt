@@ -1,10 +1,10 @@
 -- Walks by their weight.
-use Rattle.ancestor_laws.proofs.Common.{◌≡◌, ℕ, zero, suc, ◌+◌, ◌<◌, ◌≤◌, max, length, ◌⊎◌, inl, inr, refl, ap, sym, subst, ◌∙◌, arith, cases_lt, same_Some, reached_within, Spawn, Join, GraphStrand, Tasks, strand, first_of, last_of, Does, IsGraphEdge, Precedes, IsAttached, IsForkJoin, same_join, spawn_no_join, HasWalk, IsReach, AreReaches, SpanIsLongest}
+use Rattle.ancestor_laws.proofs.Common.{◌≡◌, ℕ, zero, suc, ◌+◌, ◌<◌, ◌≤◌, max, length, ◌⊎◌, inl, inr, refl, ap, sym, subst, ◌∙◌, arith, cases_lt, same_Some, reached_within, Spawn, Join, GraphStrand, TaskTurns, strand, first_of, last_of, Does, IsGraphEdge, StrandPrecedes, IsAttached, IsForkJoin, same_join, spawn_no_join, HasWalk, IsReach, AreReaches, SpanIsLongest}
 use Rattle.ancestor_laws.proofs.Walks.{and_then, both, along, climb, attached_rooted}
 
 -- WHAT LEADS TO A STRAND
 
-module _ (tasks : Tasks) (fj : IsForkJoin tasks) where
+module _ (tasks : TaskTurns) (fj : IsForkJoin tasks) where
   pub leads_root : {A : Type 0} (m : GraphStrand) → IsGraphEdge tasks m (first_of 0) → A
   leads_root m (inl (turn, h, e)) = let f : 0 ≡ m.index + 1 = ap (λ (x : GraphStrand). x.index) e in absurd (omega arith)
   leads_root m (inr (inl (c, h, e))) =
@@ -36,13 +36,13 @@ module _ (tasks : Tasks) (fj : IsForkJoin tasks) where
 
 -- REACHES
 
-module _ (tasks : Tasks) (weight : GraphStrand → ℕ) where
+module _ (tasks : TaskTurns) (weight : GraphStrand → ℕ) where
   pub walk_attached : (k : ℕ) (u : GraphStrand) (total : ℕ) → HasWalk tasks weight k u total → IsAttached tasks u
   walk_attached zero u total w = (zero, w.0)
   walk_attached (suc k) u total w = and_then tasks (first_of 0) w.0 u (walk_attached k w.0 w.1 w.2) w.3
 
   -- a walk goes on to what the strand precedes, and gets no lighter
-  pub walk_on : (k : ℕ) (u : GraphStrand) (total : ℕ) → HasWalk tasks weight k u total → (v : GraphStrand) → Precedes tasks u v
+  pub walk_on : (k : ℕ) (u : GraphStrand) (total : ℕ) → HasWalk tasks weight k u total → (v : GraphStrand) → StrandPrecedes tasks u v
       → (k' total' : ℕ) × HasWalk tasks weight k' v total' × (total ≤ total')
   walk_on k u total w v more =
       reached_within (λ (x : GraphStrand). x ≡ u) (IsGraphEdge tasks)
@@ -54,7 +54,7 @@ module _ (tasks : Tasks) (weight : GraphStrand → ℕ) where
   one_more : (k : ℕ) (m v : GraphStrand) (total : ℕ) → HasWalk tasks weight k m total → IsGraphEdge tasks m v → HasWalk tasks weight (suc k) v (total + weight v)
   one_more k m v total w e = (m, total, w, e, refl)
 
-module _ (tasks : Tasks) (weight : GraphStrand → ℕ) (fj : IsForkJoin tasks) where
+module _ (tasks : TaskTurns) (weight : GraphStrand → ℕ) (fj : IsForkJoin tasks) where
   root_bound : (k total : ℕ) → HasWalk tasks weight k (first_of 0) total → total ≤ weight (first_of 0)
   root_bound zero total w = let e : total ≡ weight (first_of 0) = w.1 in omega arith
   root_bound (suc k) total w = leads_root tasks fj w.0 w.3

@@ -1,11 +1,11 @@
 -- The tree that spawns make of tasks.
-use Rattle.ancestor_laws.proofs.Common.{◌≡◌, ℕ, zero, suc, ◌⊎◌, inl, inr, refl, sym, subst, cases_eq, IsWalk, Join, Tasks, Does, IsParent, IsAncestor, IsForkJoin}
+use Rattle.ancestor_laws.proofs.Common.{◌≡◌, ℕ, zero, suc, ◌⊎◌, inl, inr, refl, sym, subst, cases_eq, IsWalk, Join, TaskTurns, Does, IsParent, IsAncestor, IsForkJoin}
 
 -- so many spawns lead from a to t
-abbrev pub IsLine : Tasks → ℕ → ℕ → ℕ → Type 0
+abbrev pub IsLine : TaskTurns → ℕ → ℕ → ℕ → Type 0
 IsLine tasks a k t = IsWalk (λ x. x ≡ a) (IsParent tasks) k t
 
-module _ (tasks : Tasks) where
+module _ (tasks : TaskTurns) where
   pub itself : (a : ℕ) → IsAncestor tasks a a
   itself a = (zero, refl)
 
@@ -46,7 +46,7 @@ module _ (tasks : Tasks) where
   pub down_cases : (a t : ℕ) → IsAncestor tasks a t → (t ≡ a) ⊎ ((c : ℕ) × IsParent tasks a c × IsAncestor tasks c t)
   down_cases a t w = first_by a w.0 t w.1
 
-module _ (tasks : Tasks) (fj : IsForkJoin tasks) where
+module _ (tasks : TaskTurns) (fj : IsForkJoin tasks) where
   pub one_parent : (p p' c : ℕ) → IsParent tasks p c → IsParent tasks p' c → p ≡ p'
   one_parent p p' c e e' = (fj.spawned_once c p e.0 p' e'.0 e.1 e'.1).0
 

@@ -8,20 +8,20 @@ use Rattle.object_layout.specs.Chunks.{cell_of}
 use Rattle.walk_laws.specs.Reached.{IsReached}
 
 -- the object at this address has this name
-abbrev pub Bears : List ChunkValue → Addr → Birth → Type 0
-Bears h a n = (cell_of h a).mark ≡ Born n
+abbrev pub ObjectBears : List ChunkValue → Addr → Birth → Type 0
+ObjectBears h a n = (cell_of h a).mark ≡ Born n
 
 -- names are distinct
 abbrev pub AreBornOnce : List ChunkValue → Type 0
-AreBornOnce h = (a b : Addr) (n : Birth) → Bears h a n → Bears h b n → a ≡ b
+AreBornOnce h = (a b : Addr) (n : Birth) → ObjectBears h a n → ObjectBears h b n → a ≡ b
 
 -- walks over names start at the names of the objects at which walks over addresses start
 abbrev pub StartsNamed : List ChunkValue → (Addr → Type 0) → Birth → Type 0
-StartsNamed h starts n = (a : Addr) × Bears h a n × starts a
+StartsNamed h starts n = (a : Addr) × ObjectBears h a n × starts a
 
 -- and go from name to name as those go from object to object
 abbrev pub LeadsNamed : List ChunkValue → (Addr → Addr → Type 0) → Birth → Birth → Type 0
-LeadsNamed h leads m n = (b : Addr) × (a : Addr) × Bears h b m × Bears h a n × leads b a
+LeadsNamed h leads m n = (b : Addr) × (a : Addr) × ObjectBears h b m × ObjectBears h a n × leads b a
 
 -- walks over names lead to the object of this name
 abbrev pub IsReachedByName : List ChunkValue → (Addr → Type 0) → (Addr → Addr → Type 0) → Birth → Type 0

@@ -1,5 +1,5 @@
 -- The piece of a chunk that is found by its number.
-use Rattle.chunk_list.proofs.Common.{◌≡◌, ℕ, ◌+◌, ◌-◌, ◌<◌, ◌≤◌, Bool, true, false, cond, List, [], ◌∷◌, ◌++◌, get_or, length, refl, sym, take, ap, ◌∙◌, suc, subst, arith, inl, inr, ⊎_elim, eqb, Option, Some, None, option_map, Err, Ok, OnErr, OnOk, Result, ◌||◌, option_or, cases_Bool, cases_lt, eqb-true, le-ltb, take_more, ChunkValue, place_in, place_of, PieceValue, frozen_of, is_among, needed, PiecesValue, ShowsChunks, or_none, Level, level_of, nearest, piece_in}
+use Rattle.chunk_list.proofs.Common.{◌≡◌, ℕ, ◌+◌, ◌-◌, ◌<◌, ◌≤◌, Bool, true, false, cond, List, [], ◌∷◌, ◌++◌, get_or, length, refl, sym, take, ap, ◌∙◌, suc, subst, arith, inl, inr, ⊎_elim, eqb, Option, Some, None, option_map, Err, Ok, OnErr, OnOk, Result, ◌||◌, option_or, cases_Bool, cases_lt, eqb-true, le-ltb, take_more, ChunkValue, place_in, chunk_position, PieceValue, frozen_of, is_among, needed, PiecesValue, ShowsChunks, or_none, Level, level_of, nearest, piece_in}
 use Rattle.frozen_views.proofs.PieceLists as lists
 use Rattle.object_layout.proofs.ChunkLaws as chunks
 
@@ -7,7 +7,7 @@ further : (k : ChunkValue) (ks : List ChunkValue) (i : ℕ) (d : ChunkValue) →
 further k ks i d = let e : 1 + i ≡ suc i = omega arith in rw e refl
 
 -- what is at the position of the chunk of a number
-chunk_of_number : (ks : List ChunkValue) (n : ℕ) (d : ChunkValue) → place_of ks n < length ks → ((get_or ks (place_of ks n) d).number ≡ n) × (piece_in (level_of ks) n ≡ Some (frozen_of (get_or ks (place_of ks n) d)))
+chunk_of_number : (ks : List ChunkValue) (n : ℕ) (d : ChunkValue) → chunk_position ks n < length ks → ((get_or ks (chunk_position ks n) d).number ≡ n) × (piece_in (level_of ks) n ≡ Some (frozen_of (get_or ks (chunk_position ks n) d)))
 chunk_of_number [] n d l = absurd (omega arith)
 chunk_of_number (k ∷ ks) n d l =
     elim (cases_Bool (eqb k.number n)) [
@@ -15,11 +15,11 @@ chunk_of_number (k ∷ ks) n d l =
       | inr e ↦
           let m = rw e at l in
           let ih = chunk_of_number ks n d (omega arith) in
-          let next : get_or (k ∷ ks) (1 + place_of ks n) d ≡ get_or ks (place_of ks n) d = further k ks (place_of ks n) d in
+          let next : get_or (k ∷ ks) (1 + chunk_position ks n) d ≡ get_or ks (chunk_position ks n) d = further k ks (chunk_position ks n) d in
           rw (e, next) ih
     ]
 
-gone : (ks : List ChunkValue) (n : ℕ) → length ks ≤ place_of ks n → piece_in (level_of ks) n ≡ None
+gone : (ks : List ChunkValue) (n : ℕ) → length ks ≤ chunk_position ks n → piece_in (level_of ks) n ≡ None
 gone [] n l = refl
 gone (k ∷ ks) n l =
     elim (cases_Bool (eqb k.number n)) [
@@ -31,13 +31,13 @@ gone (k ∷ ks) n l =
 found_place : (ks : List ChunkValue) (base n : ℕ) → length ks ≤ base → (before : ℕ) → Some before ≡ option_map (λ j. base - j) (place_in ks n) → (before ≤ base) × (Some (base - before) ≡ place_in ks n)
 found_place ks base n l before e =
     ⊎_elim
-    (λ (inside : place_of ks n < length ks).
-    let f : Some before ≡ Some (base - place_of ks n) = rw (chunks.place_there ks n inside) at e in
-    let g : before ≡ base - place_of ks n = cc in
-    let same : base - before ≡ place_of ks n = omega arith in
+    (λ (inside : chunk_position ks n < length ks).
+    let f : Some before ≡ Some (base - chunk_position ks n) = rw (chunks.place_there ks n inside) at e in
+    let g : before ≡ base - chunk_position ks n = cc in
+    let same : base - before ≡ chunk_position ks n = omega arith in
     (omega arith, ap Some same ∙ sym (chunks.place_there ks n inside)))
-    (λ (outside : length ks ≤ place_of ks n). let f : Some before ≡ None = rw (le-ltb (place_of ks n) (length ks) outside) at e in absurd (cc))
-    (cases_lt (place_of ks n) (length ks))
+    (λ (outside : length ks ≤ chunk_position ks n). let f : Some before ≡ None = rw (le-ltb (chunk_position ks n) (length ks) outside) at e in absurd (cc))
+    (cases_lt (chunk_position ks n) (length ks))
 
 -- the piece of the chunk at the position in the table
 pub one_added : (ks : List ChunkValue) (base number before : ℕ) (k : ChunkValue) → length ks ≤ base → Some before ≡ option_map (λ j. base - j) (place_in ks number) → k ≡ get_or ks (base - before) k →
@@ -46,7 +46,7 @@ one_added ks base number before k few tells read n =
     let place = (found_place ks base number few before tells).1 in
     let found = chunks.place_found ks number (base - before) (sym place) in
     let at = chunk_of_number ks number k (let l = found.1 in omega arith) in
-    let same : k ≡ get_or ks (place_of ks number) k = read ∙ ap (λ (i : ℕ). get_or ks i k) found.0 in
+    let same : k ≡ get_or ks (chunk_position ks number) k = read ∙ ap (λ (i : ℕ). get_or ks i k) found.0 in
     let is : k.number ≡ number = ap (λ (x : ChunkValue). x.number) same ∙ at.0 in
     let piece : piece_in (level_of ks) number ≡ Some (frozen_of k) = at.1 ∙ ap (λ (x : ChunkValue). Some (frozen_of x)) (sym same) in
     ap (λ (m : ℕ). cond (eqb m n) (Some (frozen_of k)) None) is ∙ one_added_by_cases (eqb number n) (λ e. subst (λ (m : ℕ). piece_in (level_of ks) m ≡ Some (frozen_of k)) (eqb-true number n e) piece)

@@ -3,7 +3,7 @@
 ghost use Rattle.std.specs.Prelude.{◌≡◌, ◌<◌, ◌++◌, ◌∷◌, [], IfOk, OnOk, Some, length, map, option_map, slice_get};
 ghost use Rattle.std.specs.Arc.{arc_value};
 ghost use Rattle.std.specs.Option.{option_copied};
-ghost use Rattle.object_layout.specs.Cell.{header_of, IsPlace};
+ghost use Rattle.object_layout.specs.Cell.{header_of, BeginsInFirstUnit};
 ghost use Rattle.object_layout.specs.Piece.{or_no_cell};
 ghost use Rattle.chunk_list.specs.View.{levels_above, nearest, seen_at};
 
@@ -124,7 +124,7 @@ impl View {
     pub fn ref_at(&self, a: Addr, field: u32) -> Option<Addr>
         requires { field < length (or_no_cell (seen_at self.now a)).refs }
         ensures value { slice_get (or_no_cell (seen_at self.now a)).refs field ≡ Some result }
-        ensures place { IsPlace result }
+        ensures place { BeginsInFirstUnit result }
     {
         match self.piece(a.chunk) {
             None => None,

@@ -1,6 +1,6 @@
 -- The names of lower crates and of the specifications that these proofs use. Declares nothing.
 pub use Rattle.chunk_pool.specs.Laws.{OwnersFrom, OwnersStay, TakenAreOwned}
-pub use Rattle.chunk_pool.specs.PoolValue.{AreNumbered, IsBlank, NumbersBehind, slot_in, one_unit, slot_units, units_in, PoolValue, slot_at, owner_of, KeepsOthers, Reserves, Releases, Relabels, IsWithin, AreChunks}
+pub use Rattle.chunk_pool.specs.PoolValue.{AreNumbered, IsBlank, NumbersBehind, slot_in, one_unit, slot_units, units_in, PoolValue, slot_at, owner_of, KeepsOthers, Reserves, Releases, Relabels, UnitsAreCounted, AreChunks}
 pub use Rattle.chunk_pool.specs.declared.pool.Slot.{Slot}
 pub use Rattle.object_layout.proofs.Owning.{apart_more, has_append, has_one}
 pub use Rattle.object_layout.specs.ChunkValue.{ChunkValue}

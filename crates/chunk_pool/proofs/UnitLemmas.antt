@@ -1,5 +1,5 @@
 -- Units in use after a change at one number.
-use Rattle.chunk_pool.proofs.Common.{◌≡◌, ◌≢◌, IfSome, subst, ℕ, zero, suc, ◌+◌, ◌-◌, ◌^◌, ◌<◌, ◌≤◌, Option, Some, None, List, [], ◌∷◌, get_or, set, length, inl, inr, refl, sym, ap, ◌∙◌, arith, cases_eq, same_Some, get_or-set_same, get_or-set_other, Slot, PoolValue, slot_units, units_in, Reserves, Releases, Relabels, KeepsOthers, IsWithin, AreChunks}
+use Rattle.chunk_pool.proofs.Common.{◌≡◌, ◌≢◌, IfSome, subst, ℕ, zero, suc, ◌+◌, ◌-◌, ◌^◌, ◌<◌, ◌≤◌, Option, Some, None, List, [], ◌∷◌, get_or, set, length, inl, inr, refl, sym, ap, ◌∙◌, arith, cases_eq, same_Some, get_or-set_same, get_or-set_other, Slot, PoolValue, slot_units, units_in, Reserves, Releases, Relabels, KeepsOthers, UnitsAreCounted, AreChunks}
 
 abbrev first : List (Option Slot) → Option Slot
 first [] = None
@@ -79,7 +79,7 @@ chunks_unset xs ys n C others now k g e = elim (cases_eq k n) [
 abbrev pool_of : ℕ → List (Option Slot) → PoolValue
 pool_of limit xs = record { limit = limit; slots = xs }
 
-module _ (limit used : ℕ) (xs ys : List (Option Slot)) (within : IsWithin limit used xs) (n : ℕ) (others : (k : ℕ) → k ≢ n → get_or ys k None ≡ get_or xs k None) where
+module _ (limit used : ℕ) (xs ys : List (Option Slot)) (within : UnitsAreCounted limit used xs) (n : ℕ) (others : (k : ℕ) → k ≢ n → get_or ys k None ≡ get_or xs k None) where
   change : units_in ys + slot_units (get_or xs n None) ≡ units_in xs + slot_units (get_or ys n None)
   change = units_changed n xs ys others
 
@@ -96,7 +96,7 @@ module _ (limit used : ℕ) (xs ys : List (Option Slot)) (within : IsWithin limi
     pub takes : Reserves (pool_of limit xs) (pool_of limit ys) n h
     takes = record { was_free = free; taken = now; units = taken_units; rest = kept }
 
-    pub takes_within : used + h.units ≤ limit → (n < 2 ^ 32) × (0 < h.units) → IsWithin limit (used + h.units) ys
+    pub takes_within : used + h.units ≤ limit → (n < 2 ^ 32) × (0 < h.units) → UnitsAreCounted limit (used + h.units) ys
     takes_within le fit =
         let u = taken_units in
         let c : used ≡ units_in xs = within.counted in
@@ -120,7 +120,7 @@ module _ (limit used : ℕ) (xs ys : List (Option Slot)) (within : IsWithin limi
         let b : slot_units (get_or ys n None) ≡ 0 = ap slot_units now in
         record { free = now; units = omega (arith, change); rest = kept }
 
-    pub gives_within : IsWithin limit (used - h.units) ys
+    pub gives_within : UnitsAreCounted limit (used - h.units) ys
     gives_within =
         let u = given_units in
         let c : used ≡ units_in xs = within.counted in
@@ -134,7 +134,7 @@ module _ (limit used : ℕ) (xs ys : List (Option Slot)) (within : IsWithin limi
         let b : slot_units (get_or ys n None) ≡ g.units = ap slot_units now in
         omega (arith, change)
 
-    pub relabels_within : IsWithin limit used ys
+    pub relabels_within : UnitsAreCounted limit used ys
     relabels_within =
         let u = same_units in
         let c : used ≡ units_in xs = within.counted in

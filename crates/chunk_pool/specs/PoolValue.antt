@@ -94,7 +94,7 @@ abbrev pub AreChunks : List (Option Slot) → Type 0
 AreChunks slots = (number : ℕ) (h : Slot) → slot_in slots number ≡ Some h → (number < 2 ^ 32) × (0 < h.units)
 
 -- the units in use are counted, and within the limit
-pub record IsWithin (limit used : ℕ) (slots : List (Option Slot)) : Type 0 where
+pub record UnitsAreCounted (limit used : ℕ) (slots : List (Option Slot)) : Type 0 where
   pub small : limit < 2 ^ 22
   pub counted : used ≡ units_in slots
   pub within : used ≤ limit

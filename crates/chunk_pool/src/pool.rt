@@ -52,13 +52,13 @@ impl Drop for Pool {
 
 impl Model for Pool {
     ghost use Rattle.std.specs.Prelude.{All};
-    ghost use Rattle.chunk_pool.specs.PoolValue.{PoolValue, IsBlank, IsWithin};
+    ghost use Rattle.chunk_pool.specs.PoolValue.{PoolValue, IsBlank, UnitsAreCounted};
 
     ghost Value = { PoolValue };
 
     ghost view = { λ p. record { limit = p.limit; slots = p.slots.slots } };
 
-    ghost invariant = { λ p. IsWithin p.limit p.used p.slots.slots × All IsBlank p.kept.items };
+    ghost invariant = { λ p. UnitsAreCounted p.limit p.used p.slots.slots × All IsBlank p.kept.items };
 }
 
 impl Pool {

@@ -1,7 +1,7 @@
 // Collections of heaps that were checked.
 
 ghost use Rattle.std.specs.Prelude.{IsTrue};
-ghost use Rattle.collection_tests.specs.Ready.{IsReady};
+ghost use Rattle.collection_tests.specs.Ready.{CanCollect};
 
 use copying_gc::{Moved, ToChunks, copy};
 use io_traits::EmptyGate;
@@ -13,7 +13,7 @@ use std::alloc::Global;
 
 // Whether the heap, the frames and the roots satisfy the precondition of a collection into one new chunk.
 fn is_ready(heap: &LeafHeap, frames: &Frames, roots: &[Addr], number: u32) -> bool
-    ensures { IsTrue result → IsReady heap.now frames.now roots.now number }
+    ensures { IsTrue result → CanCollect heap.now frames.now roots.now number }
 {
     let Some(small) = small_in_all(heap.chunks()) else {
         return false;

@@ -1,7 +1,7 @@
 -- The names of lower crates and of the specifications that these proofs use. Declares nothing.
 pub use Rattle.command_answers.specs.Answers.{AnswersTrace, IsModelled, IsReplay, IsText, WhereTraced, WhereWhole, Refuses, WhereProgram, AnswersText, AnswersProgram, AnswersRun, AnswersTraced, IsRaceAnswer, IsImaged, extras_of, races_status, AnswersImage, AnswersMake, AnswersLine, IsProgramInput, LeavesLine, LeavesMake, IsImageOf, short_of, AnswersVerify, AnswersReplayed, StandsReplayed, LeavesRun, summary}
 pub use Rattle.command_answers.specs.CommandStatus.{status_of_end}
-pub use Rattle.command_answers.specs.Delivery.{IsAnswered, Delivered, DeliversNothing, DeliversBy, Delivers, ReturnsBlock, GivesFound, ReturnsNothing, ReturnsWanted, IsWanted, remains_by}
+pub use Rattle.command_answers.specs.Delivery.{IsAnswered, Delivered, DeliversNothing, DeliversBy, DeliversResult, ReturnsBlock, GivesFound, ReturnsNothing, ReturnsWanted, IsWanted, remains_by}
 pub use Rattle.command_answers.specs.Headline.{FreesNoReachable, HeapIsHeld, HeapsAreHeld, RunsHoldTheHeadline, StopsUnordered}
 pub use Rattle.command_answers.specs.Input.{program_in}
 pub use Rattle.command_answers.specs.Laws.{WriteTheSame, ModelWritesTheSame, GivesAll, NoFault, HasProgram, IsEnd, MadeAreAccepted, MadeAreRun, NoFaultGivesAll, ProgramsAreRun, TracesAreReplayed, ImagesAreVerified, ImagesHaveJustHeld, RacelessAreDisentangled, IsRecorded, RecordedRunsAreAlike, MadeAreRead}
@@ -18,7 +18,7 @@ pub use Rattle.command_line.specs.declared.line.Options.{Options}
 pub use Rattle.journal_replay.proofs.below.heap_reading.{handed_held, same_machine}
 pub use Rattle.journal_replay.proofs.below.ledger_step_laws.{split_leaves}
 pub use Rattle.journal_replay.proofs.below.refinement.{held_object, object_held}
-pub use Rattle.journal_replay.specs.Replay.{ReplayGives, HasReplayed, IsStop}
+pub use Rattle.journal_replay.specs.Replay.{ReplayGives, HasReplayed, IsReplayStop}
 pub use Rattle.journal_replay.specs.WorldValue.{WorldValue}
 pub use Rattle.journal_replay.specs.below.core_invariant.{SharedValue, IsSharedValue, accounts, value_of, without_journal}
 pub use Rattle.journal_replay.specs.below.ledger_step_laws.{Rests}
@@ -53,7 +53,7 @@ pub use Rattle.refusal_lines.specs.below.run_report.{Extras, report_from, totals
 pub use Rattle.refusal_lines.specs.declared.refusal.Refusal.{Refusal}
 pub use Rattle.refusal_lines.specs.declared.refusal.Refusal.TheVariants.{Words, Line, Entry, Image}
 pub use Rattle.round_trip_laws.proofs.Inputs.{recorded_inputs_are_read}
-pub use Rattle.round_trip_laws.specs.RoundTrip.{CanFollow, IsReadAs}
+pub use Rattle.round_trip_laws.specs.RoundTrip.{TraceFollows, IsReadAsTrace}
 pub use Rattle.round_trip_laws.specs.below.trace_input.{InputFault, TraceInput, trace_lines, IsInput, input_fault, settings_for, Source, BadLine, too_long}
 pub use Rattle.shared_image.proofs.below.heap_image.{sound_is_faultless}
 pub use Rattle.shared_image.specs.Held.{HasJustHeld}

@@ -1,5 +1,5 @@
 -- An answer that was delivered is the call's answer.
-use Rattle.command_answers.proofs.Common.{◌⊎◌, ◌≡◌, ◌≤◌, ◌+◌, ℕ, List, [], length, refl, sym, subst, inl, inr, arith, Option, Some, Result, Ok, Err, IfOk, IfErr, with_more, EntryValue, SharedValue, CommandStatus, Trap, ReadFault, WriteFault, Answer, CallResult, Wanted, Before, Amid, GivesAll, NoFault, DeliversNothing, DeliversBy, Delivers, Delivered, ReturnsBlock, GivesFound, ReturnsNothing, ReturnsWanted, IsAnswered, IsWanted}
+use Rattle.command_answers.proofs.Common.{◌⊎◌, ◌≡◌, ◌≤◌, ◌+◌, ℕ, List, [], length, refl, sym, subst, inl, inr, arith, Option, Some, Result, Ok, Err, IfOk, IfErr, with_more, EntryValue, SharedValue, CommandStatus, Trap, ReadFault, WriteFault, Answer, CallResult, Wanted, Before, Amid, GivesAll, NoFault, DeliversNothing, DeliversBy, DeliversResult, Delivered, ReturnsBlock, GivesFound, ReturnsNothing, ReturnsWanted, IsAnswered, IsWanted}
 use Rattle.command_answers.specs.declared.answer.CommandStatus.TheVariants.{Done, Words, Source, Entangled, Fuel, Pool, NoMemory, Trace, Races, Image}
 use Rattle.command_answers.proofs.Answered.{never_read_fault}
 
@@ -25,7 +25,7 @@ whole P L r before after ReadFault ok g = absurd ok
 whole P L r before after WriteFault ok g = absurd ok
 whole P L r before after NoMemory ok g = absurd ok
 
-pub delivers : (P : Answer → Type 0) (L : Leaves) (a : Answer) (r : CallResult) (before after : Option (List ℕ)) → P a → IsAnswered a.status → Delivered a r before after → Delivers P L r before after
+pub delivers : (P : Answer → Type 0) (L : Leaves) (a : Answer) (r : CallResult) (before after : Option (List ℕ)) → P a → IsAnswered a.status → Delivered a r before after → DeliversResult P L r before after
 delivers P L a r before after p ok d = elim d.written [
   | inl w ↦ subst (λ s. DeliversBy s P L r before after) (sym w.0) (whole P L r before after a.status ok (a, p, refl, d.journal, d.shared, w.1))
   | inr w ↦ subst (λ s. DeliversBy s P L r before after) (sym w.0) (a, w.1.0, p, d.journal, d.shared, w.1.1)
@@ -51,7 +51,7 @@ by_status P L r before after ReadFault e d none = absurd (none.read e)
 by_status P L r before after WriteFault e d none = absurd (none.write e)
 by_status P L r before after NoMemory e d none = inl e
 
-pub gives_all : (P : Answer → Type 0) (L : Leaves) (r : CallResult) (before after : Option (List ℕ)) → Delivers P L r before after → NoFault r → GivesAll P r before after
+pub gives_all : (P : Answer → Type 0) (L : Leaves) (r : CallResult) (before after : Option (List ℕ)) → DeliversResult P L r before after → NoFault r → GivesAll P r before after
 gives_all P L r before after d none = by_status P L r before after r.status refl d none
 
 -- NOTHING WAS ANSWERED
@@ -76,7 +76,7 @@ silent P L r w Races ok h = absurd ok
 silent P L r w Image ok h = absurd ok
 silent P L r w WriteFault ok h = absurd ok
 
-pub nothing_given : (P : Answer → Type 0) (L : Leaves) (r : CallResult) (w : Option (List ℕ)) (s : CommandStatus) → IsSilent s → ReturnsNothing s r → Delivers P L r w w
+pub nothing_given : (P : Answer → Type 0) (L : Leaves) (r : CallResult) (w : Option (List ℕ)) (s : CommandStatus) → IsSilent s → ReturnsNothing s r → DeliversResult P L r w w
 nothing_given P L r w s ok h = subst (λ x. DeliversBy x P L r w w) (sym h.status) (silent P L r w s ok (h.journal, h.shared, refl))
 
 -- what is left of a run that ran out of memory is returned
@@ -84,14 +84,14 @@ handed : (L : Leaves) (found : Wanted) (r : CallResult) (w : Option (List ℕ)) 
 handed L Before r w h hands = inl (hands.0, hands.1, refl)
 handed L (Amid journal remains) r w h hands = inr (subst (L r.journal) (sym hands.1) (subst (λ j. L j (Some remains)) (sym hands.0) h), refl)
 
-pub want_given : (P : Answer → Type 0) (L : Leaves) (found : Wanted) (r : CallResult) (w : Option (List ℕ)) → IsWanted L found → ReturnsBlock found r → Delivers P L r w w
+pub want_given : (P : Answer → Type 0) (L : Leaves) (found : Wanted) (r : CallResult) (w : Option (List ℕ)) → IsWanted L found → ReturnsBlock found r → DeliversResult P L r w w
 want_given P L found r w h g = subst (λ x. DeliversBy x P L r w w) (sym g.status) (handed L found r w h g.returned)
 
 -- whichever of the two was found
 pub found_given : (P : Answer → Type 0) (L : Leaves) (found : Result Answer Wanted) (r : CallResult) (before after : Option (List ℕ)) → IfOk found P → IfErr found (IsWanted L) → IfOk found (λ a. IsAnswered a.status)
-    → GivesFound found r before after → Delivers P L r before after
+    → GivesFound found r before after → DeliversResult P L r before after
 found_given P L (Ok a) r before after h w ok d = delivers P L a r before after h ok d
-found_given P L (Err x) r before after h w ok d = subst (λ (v : Option (List ℕ)). Delivers P L r before v) (sym d.1) (want_given P L x r before w d.0)
+found_given P L (Err x) r before after h w ok d = subst (λ (v : Option (List ℕ)). DeliversResult P L r before v) (sym d.1) (want_given P L x r before w d.0)
 
 pub found_no_read : (found : Result Answer Wanted) (r : CallResult) (before after : Option (List ℕ)) → IfOk found (λ a. IsAnswered a.status) → GivesFound found r before after → r.status ≡ ReadFault → ⊥
 found_no_read (Ok a) r before after ok d e = never_read_fault a r before after ok d e
@@ -99,5 +99,5 @@ found_no_read (Err x) r before after ok d e = (let s = d.0.status in cc)
 
 -- then the empty input serves as well as any
 pub some_silent : (P : List ℕ → Answer → Type 0) (L : List ℕ → Leaves) (limit : ℕ) (r : CallResult) (w : Option (List ℕ)) (s : CommandStatus) → IsSilent s → ReturnsNothing s r
-    → (input : List ℕ) × (length input ≤ limit + 1) × Delivers (P input) (L input) r w w
+    → (input : List ℕ) × (length input ≤ limit + 1) × DeliversResult (P input) (L input) r w w
 some_silent P L limit r w s ok h = ([], omega arith, nothing_given (P []) (L []) r w s ok h)

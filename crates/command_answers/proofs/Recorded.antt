@@ -1,5 +1,5 @@
 -- A program's text followed by its run's trace is replayed with the same result.
-use Rattle.command_answers.proofs.Common.{◌≡◌, ◌∙◌, ◌++◌, ℕ, Bool, cond, true, false, List, length, inl, inr, refl, ap, sym, subst, Option, Some, None, Result, Ok, Err, nat_le, ProgramText, program_limit, TextFault, reading_of, Two, Trace, EntryValue, SettingsValue, trace_text, InputFault, TraceInput, settings_for, too_long, CanFollow, IsReadAs, recorded_inputs_are_read, RunEnd, RefusedAt, end_of, refused_as_run, out_text, Options, Answer, status_of_end, program_in, IsWholeRun, AnswersTrace, AnswersTraced, IsModelled, IsReplay, WhereTraced, WhereWhole, extras_of, WriteTheSame, IsRecorded, RecordedRunsAreAlike}
+use Rattle.command_answers.proofs.Common.{◌≡◌, ◌∙◌, ◌++◌, ℕ, Bool, cond, true, false, List, length, inl, inr, refl, ap, sym, subst, Option, Some, None, Result, Ok, Err, nat_le, ProgramText, program_limit, TextFault, reading_of, Two, Trace, EntryValue, SettingsValue, trace_text, InputFault, TraceInput, settings_for, too_long, TraceFollows, IsReadAsTrace, recorded_inputs_are_read, RunEnd, RefusedAt, end_of, refused_as_run, out_text, Options, Answer, status_of_end, program_in, IsWholeRun, AnswersTrace, AnswersTraced, IsModelled, IsReplay, WhereTraced, WhereWhole, extras_of, WriteTheSame, IsRecorded, RecordedRunsAreAlike}
 use Rattle.command_answers.proofs.Runs.{whole_journal}
 
 -- the text of a program within the limit is read as that program
@@ -30,10 +30,10 @@ module _ (text : List ℕ) (p : ProgramText) (journal : List EntryValue) (is : I
   abbrev read : TraceInput
   read = record { program = p; trace = trace }
 
-  can : CanFollow text (trace_text Two journal) p trace
+  can : TraceFollows text (trace_text Two journal) p trace
   can = record { program = reads; feed = is.feed; new = refl; within = is.within }
 
-  read_as : IsReadAs input p trace
+  read_as : IsReadAsTrace input p trace
   read_as = recorded_inputs_are_read text p Two journal is.entries can
 
   module _ (P : ProgramText → SettingsValue → List EntryValue → Answer → Type 0) (s : SettingsValue) (b : Answer) (version : s.version ≡ Two) (whole : refused_as_run p s journal ≡ None) where

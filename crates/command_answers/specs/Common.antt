@@ -6,7 +6,7 @@ pub use Rattle.journal_replay.specs.WorldValue.{WorldValue}
 pub use Rattle.journal_replay.specs.below.core_invariant.{SharedValue, accounts, IsSharedValue, without_journal, value_of}
 pub use Rattle.journal_replay.specs.below.ledger_step_laws.{Rests}
 pub use Rattle.journal_replay.specs.below.object_layout.{Located}
-pub use Rattle.journal_replay.specs.below.refinement.{IsModelObject, Place, In, Memory, object_name, objects, handed}
+pub use Rattle.journal_replay.specs.below.refinement.{IsModelObject, LiesWithOwner, In, Memory, object_name, objects, handed}
 pub use Rattle.journal_replay.specs.declared.replaying.ReplayStop.{ReplayStop}
 pub use Rattle.journal_replay.specs.declared.replaying.ReplayStop.TheVariants.{RefusedAt, NoMemory}
 pub use Rattle.made_program_laws.specs.below.hh_lang.{ProgramText, program_limit}

@@ -25,15 +25,15 @@ DeliversBy status P L r before after =
     (a : Answer) × P a × (a.status ≡ status) × (r.journal ≡ a.journal) × (r.shared ≡ a.shared) × (after ≡ with_more before a.bytes)
 
 -- by an answer with P, or by what L says is left of a run
-abbrev pub Delivers : (Answer → Type 0) → (List EntryValue → Option SharedValue → Type 0) → CallResult → Option (List ℕ) → Option (List ℕ) → Type 0
-Delivers P L r before after = DeliversBy r.status P L r before after
+abbrev pub DeliversResult : (Answer → Type 0) → (List EntryValue → Option SharedValue → Type 0) → CallResult → Option (List ℕ) → Option (List ℕ) → Type 0
+DeliversResult P L r before after = DeliversBy r.status P L r before after
 
 abbrev pub DeliversLine : CommandLine → List ℕ → CallResult → Option (List ℕ) → Option (List ℕ) → Type 0
-DeliversLine line input = Delivers (AnswersLine line input) (LeavesLine line input)
+DeliversLine line input = DeliversResult (AnswersLine line input) (LeavesLine line input)
 
 -- words that are no command line
 abbrev pub DeliversWords : CallResult → Option (List ℕ) → Option (List ℕ) → Type 0
-DeliversWords = Delivers AnswersWords LeavesNone
+DeliversWords = DeliversResult AnswersWords LeavesNone
 
 -- the statuses of written answers
 abbrev pub IsAnswered : CommandStatus → Type 0

@@ -1,7 +1,7 @@
 -- What holds of every whole run, in one law: nothing reachable is freed, reads are stopped if and only if they have to
 -- be, and the heaps at rest hold exactly what the definitions say.
 use Rattle.std.specs.Prelude.{◌≡◌, true, ◌↔◌, ◌++◌, ℕ, Option, Some, List, ◌∷◌, Contains}
-use Rattle.command_answers.specs.Common.{ProgramText, Name, Object, MachineState, Task, object_at, can_step, run, IsStored, IsDecided, ReadsNext, EntryValue, SettingsValue, field_limit, Ledger, heap_of, held, held_in, IsPrefix, ledger_of, opening, tasks_of, IsDropped, KeepsReachable, Extras, Rests, IsModelObject, Place, In, Memory, object_name, objects, handed, Located, SharedValue, value_of}
+use Rattle.command_answers.specs.Common.{ProgramText, Name, Object, MachineState, Task, object_at, can_step, run, IsStored, IsDecided, ReadsNext, EntryValue, SettingsValue, field_limit, Ledger, heap_of, held, held_in, IsPrefix, ledger_of, opening, tasks_of, IsDropped, KeepsReachable, Extras, Rests, IsModelObject, LiesWithOwner, In, Memory, object_name, objects, handed, Located, SharedValue, value_of}
 use Rattle.command_answers.specs.declared.answer.Answer.{Answer}
 use Rattle.command_answers.specs.Runs.{IsWholeRun}
 
@@ -24,7 +24,7 @@ pub record HeapIsHeld (v : Memory) (l : Ledger) (t : ℕ) : Type 0 where
   pub each : (o : Located) → In (objects v t) o → Contains (held_in (heap_of l t)) (object_name o)
   pub all : (n : Name) → Contains (held_in (heap_of l t)) n → (o : Located) × In (objects v t) o × (object_name o ≡ n)
   pub once : (o q : Located) → In (objects v t) o → In (objects v t) q → object_name o ≡ object_name q → o ≡ q
-  pub contents : (o : Located) → In (objects v t) o → (x : Object) × (object_at l.machine.store (object_name o) ≡ Some x) × IsModelObject (Place v (handed l)) o x
+  pub contents : (o : Located) → In (objects v t) o → (x : Object) × (object_at l.machine.store (object_name o) ≡ Some x) × IsModelObject (LiesWithOwner v (handed l)) o x
 
 -- a value is returned in which that holds of each task that no worker holds (after the run is done, of the root too)
 pub record HeapsAreHeld (shared : Option SharedValue) (l : Ledger) : Type 0 where

@@ -1,5 +1,5 @@
 -- How the calls of commands end.
-use Rattle.command_core.proofs.Common.{◌≡◌, ◌≤◌, ◌+◌, ℕ, Bool, true, false, List, [], length, take, drop, refl, ap, sym, subst, arith, ◌≢◌, Option, Some, None, false≢true, HasRisen, input_of, CommandLine, Check, Run, Replay, Model, Races as RacesOf, Image as ImageOf, Make, Verify, CommandStatus, Done, Words, Source, Trap, Entangled, Fuel, Pool, ReadFault, WriteFault, NoMemory, Trace, CallResult, AnswersLine, AnswersWords, LeavesLine, LeavesNone, DeliversLine, DeliversWords, ReturnsNothing, IsSilent, nothing_given, is_reading, limit_of, source_bytes_for, CallStatus, Answered, AnswerStatus, Reads, ReadsNothing, ReadsUpTo, SourceState, HasRead, HasTaken, IsCall, AnswersCommand, Ends, call_reads, call_status, line_reads}
+use Rattle.command_core.proofs.Common.{◌≡◌, ◌≤◌, ◌+◌, ℕ, Bool, true, false, List, [], length, take, drop, refl, ap, sym, subst, arith, ◌≢◌, Option, Some, None, false≢true, HasRisen, input_of, CommandLine, Check, Run, Replay, Model, Races as RacesOf, Image as ImageOf, Make, Verify, CommandStatus, Done, Words, Source, Trap, Entangled, Fuel, Pool, ReadFault, WriteFault, NoMemory, Trace, CallResult, AnswersLine, AnswersWords, LeavesLine, LeavesNone, DeliversLine, DeliversWords, ReturnsNothing, IsSilent, nothing_given, is_reading, limit_of, source_bytes_for, CallStatus, Answered, AnswerStatus, Reads, ReadsNothing, ReadsUpTo, SourceState, HasRead, HasTaken, IsWholeCall, AnswersCommand, AnswersInput, call_reads, call_status, line_reads}
 use Rattle.command_answers.specs.declared.answer.CommandStatus.TheVariants.{Races, Image}
 use Rattle.whole_call.specs.declared.status.CallStatus.TheVariants.{ReadFault as ReadFailed, WriteFault as WriteFailed, NoMemory as MemoryFailed}
 use Rattle.whole_call.proofs.Calls as calls
@@ -95,13 +95,13 @@ module _ (before after : SourceState) where
 
 -- HOW A CALL ENDS
 
-nothing_ends : (asked : Option CommandLine) (input : List ℕ) (r : CallResult) (w : Option (List ℕ)) (s : CommandStatus) → IsSilent s → ReturnsNothing s r → Ends asked input r w w
+nothing_ends : (asked : Option CommandLine) (input : List ℕ) (r : CallResult) (w : Option (List ℕ)) (s : CommandStatus) → IsSilent s → ReturnsNothing s r → AnswersInput asked input r w w
 nothing_ends None input r w s ok h = nothing_given AnswersWords LeavesNone r w s ok h
 nothing_ends (Some line) input r w s ok h = nothing_given (AnswersLine line input) (LeavesLine line input) r w s ok h
 
 module _ (asked : Option CommandLine) (r : CallResult) (before after : SourceState) (w : Option (List ℕ)) (WriteFails : Type 0) where
-  ends_as : (s : CommandStatus) → r.status ≡ s → IsCall (call_reads asked) (λ input. Ends asked input r w w) WriteFails (call_status s) before after → AnswersCommand asked r before after w w WriteFails
-  ends_as s e is = subst (λ x. IsCall (call_reads asked) (λ input. Ends asked input r w w) WriteFails (call_status x) before after) (sym e) is
+  ends_as : (s : CommandStatus) → r.status ≡ s → IsWholeCall (call_reads asked) (λ input. AnswersInput asked input r w w) WriteFails (call_status s) before after → AnswersCommand asked r before after w w WriteFails
+  ends_as s e is = subst (λ x. IsWholeCall (call_reads asked) (λ input. AnswersInput asked input r w w) WriteFails (call_status x) before after) (sym e) is
 
   -- reading failed
   pub without_input : ReturnsNothing ReadFault r → call_reads asked ≢ ReadsNothing → HasRisen before.faults after.faults → AnswersCommand asked r before after w w WriteFails
@@ -116,7 +116,7 @@ pub unread_words : (asked : Option CommandLine) (r : CallResult) (source : Sourc
 unread_words asked r source w W h = without_memory asked r source source w W h (calls.nothing_taken (call_reads asked) source)
 
 -- an input was answered
-pub served : (asked : Option CommandLine) (r : CallResult) (before after : SourceState) (w w' : Option (List ℕ)) (WriteFails : Type 0) (input : List ℕ) → HasRead (call_reads asked) before after input → Ends asked input r w w' → r.status ≢ ReadFault
+pub served : (asked : Option CommandLine) (r : CallResult) (before after : SourceState) (w w' : Option (List ℕ)) (WriteFails : Type 0) (input : List ℕ) → HasRead (call_reads asked) before after input → AnswersInput asked input r w w' → r.status ≢ ReadFault
     → (r.status ≡ WriteFault → WriteFails) → AnswersCommand asked r before after w w' WriteFails
 served asked r before after w w' W input read ends none fails =
     calls.with_input _ _ W _ _ (call_status r.status) input read ends (λ e. none (read_failed r.status e)) (λ e. fails (write_failed r.status e))

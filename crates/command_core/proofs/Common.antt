@@ -15,7 +15,7 @@ pub use Rattle.command_answers.specs.declared.answer.CommandStatus.{CommandStatu
 pub use Rattle.command_answers.specs.declared.answer.CommandStatus.TheVariants.{Done, Words, Source, Trap, Entangled, Fuel, Pool, ReadFault, WriteFault, NoMemory, Trace}
 pub use Rattle.command_answers.specs.declared.wanted.Wanted.{Wanted}
 pub use Rattle.command_answers.specs.declared.wanted.Wanted.TheVariants.{Amid}
-pub use Rattle.command_core.specs.Call.{AnswersCommand, Ends, call_reads, call_status, line_reads}
+pub use Rattle.command_core.specs.Call.{AnswersCommand, AnswersInput, call_reads, call_status, line_reads}
 pub use Rattle.command_core.specs.Outcomes.{AnswersOutcome}
 pub use Rattle.command_line.specs.CommandLine.{command_line}
 pub use Rattle.command_line.specs.below.run_trace.{SettingsValue}
@@ -30,12 +30,12 @@ pub use Rattle.std.proofs.Common.{◌≡◌, ◌≤◌, ◌+◌, ℕ, Bool, true
 pub use Rattle.std.proofs.lemmas.Bool.{false≢true}
 pub use Rattle.std.proofs.lemmas.Result.{IfErr-weaker, IfOk-weaker}
 pub use Rattle.std.specs.Prelude.{◌≢◌, Option, None, IfSome, IfOk, Err, Result, map, string_bytes}
-pub use Rattle.whole_call.specs.Call.{IsCall}
+pub use Rattle.whole_call.specs.Call.{IsWholeCall}
 pub use Rattle.whole_call.specs.Input.{Reads, ReadsNothing, ReadsUpTo, SourceState, HasRead, HasTaken}
 pub use Rattle.whole_call.specs.declared.status.AnswerStatus.{AnswerStatus}
 pub use Rattle.whole_call.specs.declared.status.CallStatus.{CallStatus}
 pub use Rattle.whole_call.specs.declared.status.CallStatus.TheVariants.{Answered}
-pub use Rattle.worker_run.specs.Outcomes.{IsRun, finish_of}
+pub use Rattle.worker_run.specs.Outcomes.{IsRunOf, finish_of}
 pub use Rattle.worker_run.specs.below.core_invariant.{SharedValue, accounts, without_journal}
 pub use Rattle.worker_run.specs.declared.end.Finish.{Finish}
 pub use Rattle.worker_run.specs.declared.end.Finish.TheVariants.{Ended}

@@ -11,7 +11,7 @@ use Rattle.whole_call.specs.declared.status.AnswerStatus.TheVariants.{Done as Do
 use Rattle.whole_call.specs.declared.status.CallStatus.{CallStatus}
 use Rattle.whole_call.specs.declared.status.CallStatus.TheVariants.{Answered, ReadFault as ReadFailed, WriteFault as WriteFailed, NoMemory as MemoryFailed}
 use Rattle.whole_call.specs.Input.{Reads, ReadsNothing, ReadsUpTo, SourceState}
-use Rattle.whole_call.specs.Call.{IsCall}
+use Rattle.whole_call.specs.Call.{IsWholeCall}
 
 -- the status of a whole call that ended in this way
 abbrev pub call_status : CommandStatus → CallStatus
@@ -50,10 +50,10 @@ call_reads None = ReadsNothing
 call_reads (Some line) = line_reads line
 
 -- arguments that are no command line are refused; a command answers its input
-abbrev pub Ends : Option CommandLine → List ℕ → CallResult → Option (List ℕ) → Option (List ℕ) → Type 0
-Ends None input = DeliversWords
-Ends (Some line) input = DeliversLine line input
+abbrev pub AnswersInput : Option CommandLine → List ℕ → CallResult → Option (List ℕ) → Option (List ℕ) → Type 0
+AnswersInput None input = DeliversWords
+AnswersInput (Some line) input = DeliversLine line input
 
 -- a whole call with this command line, with a source and a sink; `WriteFails` means that the sink failed
 abbrev pub AnswersCommand : Option CommandLine → CallResult → SourceState → SourceState → Option (List ℕ) → Option (List ℕ) → Type 0 → Type 0
-AnswersCommand asked r source left before after WriteFails = IsCall (call_reads asked) (λ input. Ends asked input r before after) WriteFails (call_status r.status) source left
+AnswersCommand asked r source left before after WriteFails = IsWholeCall (call_reads asked) (λ input. AnswersInput asked input r before after) WriteFails (call_status r.status) source left

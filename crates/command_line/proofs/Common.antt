@@ -19,12 +19,12 @@ pub use Rattle.clap.specs.declared.builder.value_parser.Reading.TheVariants.{AsW
 pub use Rattle.clap.specs.declared.error.kind.ErrorKind.{ErrorKind}
 pub use Rattle.clap.specs.declared.parser.matches.ValueSource.{ValueSource}
 pub use Rattle.clap.specs.declared.parser.matches.ValueSource.TheVariants.{CommandLine, DefaultValue}
-pub use Rattle.command_line.specs.Adds.{IsShaped}
+pub use Rattle.command_line.specs.Adds.{SubcommandIsShaped}
 pub use Rattle.command_line.specs.App.{app}
-pub use Rattle.command_line.specs.CommandLine.{file_in, options_in, asked, command_line, settings_in, HasSize, flag_in, number_in}
+pub use Rattle.command_line.specs.CommandLine.{file_in, options_in, asked_command, command_line, settings_in, HasSize, flag_in, number_in}
 pub use Rattle.command_line.specs.Examples.{usual_options, FilesAreNamed, NumbersAreRead, OptionsAreRead, OthersAreRefused}
 pub use Rattle.command_line.specs.Operands.{IsOperand, Sets, AsksForMake}
-pub use Rattle.command_line.specs.Values.{FitsCommand, FitsFound, HasNumber, HasSettings, HasFlag, HasOptions}
+pub use Rattle.command_line.specs.Values.{FitsCommand, FitsFound, ArgumentIsNumber, HasSettings, HasFlag, HasOptions}
 pub use Rattle.command_line.specs.declared.line.CommandLine.TheVariants.{Check, Run, Replay, Model, Races, Image, Make, Verify}
 pub use Rattle.command_line.specs.declared.line.Options.{Options}
 pub use Rattle.run_trace.specs.Settings.{SettingsValue, usual_settings, AreSettings}

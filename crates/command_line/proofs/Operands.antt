@@ -1,5 +1,5 @@
 -- Words without a leading hyphen are positional arguments.
-use Rattle.command_line.proofs.Common.{◌≡◌, ◌∙◌, ◌&&◌, ℕ, Bool, cond, codes, true, false, refl, sym, ap, ap₂, List, [], ◌∷◌, Option, Some, None, true≢false, bytes_eq-Decides, option_and_then, is_some, fold, option_map_or, bytes_eq, long_of, long_of_rest, short_of, short_of_rest, strip_byte, Held, Row, Step, Text, Walk, after_step, arg_by_index, finished, idle, is_empty, long_or_other, nothing_held, rows_after, settled, short_or_plain, to_positional, trailing, value, word_met, Shape, Kinds, or_else, check_fault, flag_word_fault, level_fault, positional_fault, settle_fault, step_fault, stray_fault, turn_fault, word_fault, bundle_fault, is_unsigned_in, SettingsValue, digits_value, without_leading_plus, asked, command_line, file_in, options_in, settings_in, IsOperand, AsksForMake, Check, Run, Replay, Model, Races, Image, Make, Verify, Options}
+use Rattle.command_line.proofs.Common.{◌≡◌, ◌∙◌, ◌&&◌, ℕ, Bool, cond, codes, true, false, refl, sym, ap, ap₂, List, [], ◌∷◌, Option, Some, None, true≢false, bytes_eq-Decides, option_and_then, is_some, fold, option_map_or, bytes_eq, long_of, long_of_rest, short_of, short_of_rest, strip_byte, Held, Row, Step, Text, Walk, after_step, arg_by_index, finished, idle, is_empty, long_or_other, nothing_held, rows_after, settled, short_or_plain, to_positional, trailing, value, word_met, Shape, Kinds, or_else, check_fault, flag_word_fault, level_fault, positional_fault, settle_fault, step_fault, stray_fault, turn_fault, word_fault, bundle_fault, is_unsigned_in, SettingsValue, digits_value, without_leading_plus, asked_command, command_line, file_in, options_in, settings_in, IsOperand, AsksForMake, Check, Run, Replay, Model, Races, Image, Make, Verify, Options}
 use Rattle.clap.specs.Walk.{walked}
 use Rattle.clap.specs.Faults.{defaults_fault, walk_fault}
 use Rattle.clap.specs.declared.error.kind.ErrorKind.TheVariants as kind
@@ -53,7 +53,7 @@ level s walk_kinds w = or_else walk_kinds
 
 -- the line of a command, by the faults of its own level and its matches
 abbrev pub line_by : Text → Kinds → List Row → Option CommandLine
-line_by name kinds rows = cond (is_empty (or_else kinds [])) (asked name rows) None
+line_by name kinds rows = cond (is_empty (or_else kinds [])) (asked_command name rows) None
 
 module _ (s : Shape) (file : Text) (operand : IsOperand file) where
   file_level : level_fault s [] nothing_held (file ∷ []) false []
@@ -70,7 +70,7 @@ pub record IsCommand (name : Text) (s : Shape) (line : List Row → CommandLine)
   pub one : (word : Text) → command_line (name ∷ word ∷ []) ≡ line_by name (level_fault s [] nothing_held (word ∷ []) false []) (rows_after s.rules [] (word ∷ []))
   pub two : (first second : Text) → command_line (name ∷ first ∷ second ∷ [])
       ≡ line_by name (level_fault s [] nothing_held (first ∷ second ∷ []) false []) (rows_after s.rules [] (first ∷ second ∷ []))
-  pub asks : (rows : List Row) → asked name rows ≡ Some (line rows)
+  pub asks : (rows : List Row) → asked_command name rows ≡ Some (line rows)
 
 abbrev pub IsRunner : Text → (Option Text → Options → CommandLine) → Type 0
 IsRunner name line = IsCommand name (runner_shape name) (λ rows. line (file_in rows) (options_in rows))
@@ -200,7 +200,7 @@ unfolding clap_on_literals
 line_of_flagged seed size = refl
 
 asked_flagged : (seed size : Text) (h1 : IsOperand seed) (h2 : IsOperand size)
-    → asked (codes "make") (finished make_shape.rules (walked make_shape.rules [] (size_walk seed size h1 h2) (codes "--run")).held)
+    → asked_command (codes "make") (finished make_shape.rules (walked make_shape.rules [] (size_walk seed size h1 h2) (codes "--run")).held)
     ≡ Some (Make (digits_value 10 (without_leading_plus seed)) (digits_value 10 (without_leading_plus size)) true)
 unfolding clap_on_literals
 asked_flagged seed size h1 h2 = refl

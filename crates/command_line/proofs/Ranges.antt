@@ -1,13 +1,13 @@
 -- Numbers of matches in their ranges.
-use Rattle.command_line.proofs.Common.{◌≡◌, ◌≤◌, ℕ, Bool, cond, codes, true, false, refl, ap, arith, List, Option, Some, None, option_map_or, bytes_eq, digits_value, without_leading_plus, bytes_eq-Decides, AreSettings, HasSize, asked, file_in, flag_in, number_in, settings_in, options_in, FitsCommand, FitsFound, HasNumber, HasSettings, Check, Run, Replay, Model, Races, Image, Make, Verify}
+use Rattle.command_line.proofs.Common.{◌≡◌, ◌≤◌, ℕ, Bool, cond, codes, true, false, refl, ap, arith, List, Option, Some, None, option_map_or, bytes_eq, digits_value, without_leading_plus, bytes_eq-Decides, AreSettings, HasSize, asked_command, file_in, flag_in, number_in, settings_in, options_in, FitsCommand, FitsFound, ArgumentIsNumber, HasSettings, Check, Run, Replay, Model, Races, Image, Make, Verify}
 use Rattle.std.specs.Option.{option_and_then}
 use Rattle.clap.specs.Words.{Row, Text}
 use Rattle.command_line.specs.declared.line.CommandLine.{CommandLine}
 
-pub wider : (id : Text) (least most : ℕ) (rows : List Row) → most ≤ 4294967295 → HasNumber id least most rows → HasNumber id 0 4294967295 rows
+pub wider : (id : Text) (least most : ℕ) (rows : List Row) → most ≤ 4294967295 → ArgumentIsNumber id least most rows → ArgumentIsNumber id 0 4294967295 rows
 wider id least most rows lt h = (h.0, h.1, (h.2.0, h.2.1, omega arith, omega (arith, h.2.3, lt)))
 
-pub in_range : (id : Text) (least most : ℕ) (rows : List Row) → HasNumber id least most rows → (least ≤ number_in id rows) × (number_in id rows ≤ most)
+pub in_range : (id : Text) (least most : ℕ) (rows : List Row) → ArgumentIsNumber id least most rows → (least ≤ number_in id rows) × (number_in id rows ≤ most)
 in_range id least most rows h =
     let is : number_in id rows ≡ digits_value 10 (without_leading_plus h.0) = ap (λ (o : Option Text). option_map_or (λ t. digits_value 10 (without_leading_plus t)) o 0) h.1 in
     rw is (h.2.2, h.2.3)
@@ -76,9 +76,9 @@ module _ (name : Text) (rows : List Row) (h : FitsCommand name rows) where
   by_check true = tt
   by_check false = by_run (bytes_eq name (codes "run"))
 
-  pub asked_size : HasSize (asked name rows)
+  pub asked_size : HasSize (asked_command name rows)
   asked_size = by_check (bytes_eq name (codes "check"))
 
-pub found_size : (o : Option (Text × List Row)) → FitsFound o → HasSize (option_and_then (λ p. asked p.0 p.1) o)
+pub found_size : (o : Option (Text × List Row)) → FitsFound o → HasSize (option_and_then (λ p. asked_command p.0 p.1) o)
 found_size None h = tt
 found_size (Some p) h = asked_size p.0 p.1 h

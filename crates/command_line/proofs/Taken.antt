@@ -1,5 +1,5 @@
 -- What a command line without a fault has.
-use Rattle.command_line.proofs.Common.{◌≡◌, ◌∙◌, ◌||◌, ◌⊎◌, ℕ, Bool, cond, codes, true, false, not, refl, sym, ap, inl, inr, List, [], ◌∷◌, length, Option, Some, None, is_some, true≢false, find, option_and_then, option_map_or, bytes_eq, bytes_eq-Decides, Row, Text, answers_to, finished, is_empty, nothing_held, one_of, has_row, rows_after, settled, stop_after, walk, Shape, entered, is_simple, label_of, names_of, rows_at, subcommand_of, is_given, IsAmong, Kinds, check_fault, entered_fault, fault_of, is_simple_and_free, level_fault, ErrorKind, accepts-Accepts, accepts, app, asked, command_line, FitsCommand, FitsFound, HasFlag, HasNumber, HasOptions, HasSettings}
+use Rattle.command_line.proofs.Common.{◌≡◌, ◌∙◌, ◌||◌, ◌⊎◌, ℕ, Bool, cond, codes, true, false, not, refl, sym, ap, inl, inr, List, [], ◌∷◌, length, Option, Some, None, is_some, true≢false, find, option_and_then, option_map_or, bytes_eq, bytes_eq-Decides, Row, Text, answers_to, finished, is_empty, nothing_held, one_of, has_row, rows_after, settled, stop_after, walk, Shape, entered, is_simple, label_of, names_of, rows_at, subcommand_of, is_given, IsAmong, Kinds, check_fault, entered_fault, fault_of, is_simple_and_free, level_fault, ErrorKind, accepts-Accepts, accepts, app, asked_command, command_line, FitsCommand, FitsFound, HasFlag, ArgumentIsNumber, HasOptions, HasSettings}
 use Rattle.std.specs.Prelude.{option_map}
 use Rattle.clap.specs.Simple.{App}
 use Rattle.clap.specs.declared.builder.value_parser.ValueParser.TheVariants as vp
@@ -20,7 +20,7 @@ abbrev PassedRows : Shape → List Row → Type 0
 PassedRows s rows = each (IsPassed s.rules) rows
 
 number_has : (s : Shape) (rows : List Row) (id : Text) (least most : ℕ) → PassedRows s rows → ((t : Text) → Passes s.rules id t → accepts false (vp.Unsigned least most) t ≡ true)
-    → has_row id rows ≡ true → HasNumber id least most rows
+    → has_row id rows ≡ true → ArgumentIsNumber id least most rows
 number_has s rows id least most h is has =
     let t = text_in id s.rules rows h has in
     (t.0, t.1, accepts-Accepts false (vp.Unsigned least most) t.0 (is t.0 t.2))
@@ -37,7 +37,7 @@ flag_has s rows id h is has =
 
 record Fits (s : Shape) (words : List Text) : Type 0 where
   fits : FitsCommand s.name (rows_after s.rules [] words)
-  is_asked : is_some (asked s.name (rows_after s.rules [] words)) ≡ true
+  is_asked : is_some (asked_command s.name (rows_after s.rules [] words)) ≡ true
 
 abbrev FitsAll : Shape → Type 0
 FitsAll s = (words : List Text) → level_fault s [] nothing_held words false [] ≡ [] → Fits s words
@@ -92,7 +92,7 @@ runner_options name words e =
       trace = flag_has s rows (codes "trace") h (λ t p. p _ refl) (default_row (codes "trace") s.rules refl start);
     }
 
-fits_runner : (name : Text) → HasNoLimits name → bytes_eq name (codes "make") ≡ false → ((rows : List Row) → is_some (asked name rows) ≡ true)
+fits_runner : (name : Text) → HasNoLimits name → bytes_eq name (codes "make") ≡ false → ((rows : List Row) → is_some (asked_command name rows) ≡ true)
     → FitsAll (runner_shape name)
 fits_runner name none make known words e =
     let options = runner_options name words e in
@@ -124,7 +124,7 @@ limited_limits name words e =
       inner = number_has s rows (codes "inner") 16 1000000 h (λ t p. p _ refl) (default_row (codes "inner") s.rules refl start);
     }
 
-fits_limited : (name : Text) → IsOther name → bytes_eq name (codes "make") ≡ false → ((rows : List Row) → is_some (asked name rows) ≡ true)
+fits_limited : (name : Text) → IsOther name → bytes_eq name (codes "make") ≡ false → ((rows : List Row) → is_some (asked_command name rows) ≡ true)
     → FitsAll (limited_shape name)
 fits_limited name other make known words e =
     let limits = limited_limits name words e in
@@ -179,7 +179,7 @@ fits_make words e =
 -- ---- the whole
 
 abbrev IsFound : Option (Text × List Row) → Type 0
-IsFound o = FitsFound o × (is_some o ≡ true → is_some (option_and_then (λ p. asked p.0 p.1) o) ≡ true)
+IsFound o = FitsFound o × (is_some o ≡ true → is_some (option_and_then (λ p. asked_command p.0 p.1) o) ≡ true)
 
 entered_fits : (a : App) → each FitsAll a.subs → (stop : Option (Text × List Text)) → entered_fault a stop ≡ [] → IsFound (entered a stop)
 entered_fits a h None e = (tt, λ s. s)
@@ -215,7 +215,7 @@ each_fits =
 pub record IsTaken (words : List Text) : Type 0 where
   pub fits : FitsFound (subcommand_of app words)
   pub met : is_some (subcommand_of app words) ≡ true
-  pub is_asked : is_some (option_and_then (λ p. asked p.0 p.1) (subcommand_of app words)) ≡ true
+  pub is_asked : is_some (option_and_then (λ p. asked_command p.0 p.1) (subcommand_of app words)) ≡ true
 
 pub taken : (words : List Text) → fault_of app words ≡ [] → IsTaken words
 taken words e =
@@ -232,7 +232,7 @@ taken words e =
 -- ---- the answer
 
 abbrev pub asked_at : Option (Text × List Row) → Option CommandLine
-asked_at = option_and_then (λ p. asked p.0 p.1)
+asked_at = option_and_then (λ p. asked_command p.0 p.1)
 
 pub line_of : (words : List Text) → fault_of app words ≡ [] → asked_at (subcommand_of app words) ≡ command_line words
 line_of words e = ap (λ (k : Kinds). cond (is_empty k) (asked_at (subcommand_of app words)) None) (sym e)

@@ -3,5 +3,5 @@ use Rattle.std.specs.Prelude.{◌≡◌}
 use Rattle.command_line.specs.Common.{AddsSubcommand, Shape, app_of, with_subcommand, Command}
 
 -- a command with c as a subcommand gets this shape
-abbrev pub IsShaped : Shape → Command → Type 0
-IsShaped s c = (old new : Command) → AddsSubcommand old c new → app_of new ≡ with_subcommand (app_of old) s
+abbrev pub SubcommandIsShaped : Shape → Command → Type 0
+SubcommandIsShaped s c = (old new : Command) → AddsSubcommand old c new → app_of new ≡ with_subcommand (app_of old) s

@@ -105,5 +105,5 @@ app = record {
 }
 
 -- before its first subcommand
-abbrev pub bare : App
-bare = record app { top = record app.top { is_leaf = true }; subs = [] }
+abbrev pub bare_app : App
+bare_app = record app { top = record app.top { is_leaf = true }; subs = [] }

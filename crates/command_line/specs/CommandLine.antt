@@ -42,8 +42,8 @@ options_in rows = record {
 }
 
 -- what a command asks for, by its name and its matches
-abbrev pub asked : Text → List Row → Option CommandLine
-asked name rows =
+abbrev pub asked_command : Text → List Row → Option CommandLine
+asked_command name rows =
     if bytes_eq name (codes "check") then Some (Check (file_in rows))
     else (if bytes_eq name (codes "run") then Some (Run (file_in rows) (options_in rows))
     else (if bytes_eq name (codes "replay") then Some (Replay (file_in rows) (options_in rows))
@@ -58,7 +58,7 @@ asked name rows =
 -- what the words after the program's name ask for; None if they are no command line
 abbrev pub command_line : List Text → Option CommandLine
 command_line words =
-    if is_empty (fault_of app words) then option_and_then (λ p. asked p.0 p.1) (subcommand_of app words)
+    if is_empty (fault_of app words) then option_and_then (λ p. asked_command p.0 p.1) (subcommand_of app words)
     else None
 
 -- the size of a program to be made is in its range

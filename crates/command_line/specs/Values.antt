@@ -3,8 +3,8 @@ use Rattle.std.specs.Prelude.{◌≡◌, ◌⊎◌, ℕ, List, Option, Some, Non
 use Rattle.command_line.specs.Common.{size_limit, chunk_limit, fuel_limit, words_limit, worker_limit, IsUnsignedIn, Row, Text, one_of}
 
 -- the argument gives a number from `least` to `most`
-abbrev pub HasNumber : Text → ℕ → ℕ → List Row → Type 0
-HasNumber id least most rows = (t : Text) × (one_of id rows ≡ Some t) × IsUnsignedIn least most t
+abbrev pub ArgumentIsNumber : Text → ℕ → ℕ → List Row → Type 0
+ArgumentIsNumber id least most rows = (t : Text) × (one_of id rows ≡ Some t) × IsUnsignedIn least most t
 
 -- the flag is set or isn't
 abbrev pub HasFlag : Text → List Row → Type 0
@@ -12,11 +12,11 @@ HasFlag id rows = (one_of id rows ≡ Some (codes "true")) ⊎ (one_of id rows �
 
 -- the matches of `races` and `image` have all numbers, within their ranges
 pub record HasSettings (rows : List Row) : Type 0 where
-  pub workers : HasNumber (codes "workers") 1 worker_limit rows
-  pub fuel : HasNumber (codes "fuel") 1 fuel_limit rows
-  pub chunks : HasNumber (codes "chunks") 2 chunk_limit rows
-  pub leaf : HasNumber (codes "leaf") 16 words_limit rows
-  pub inner : HasNumber (codes "inner") 16 words_limit rows
+  pub workers : ArgumentIsNumber (codes "workers") 1 worker_limit rows
+  pub fuel : ArgumentIsNumber (codes "fuel") 1 fuel_limit rows
+  pub chunks : ArgumentIsNumber (codes "chunks") 2 chunk_limit rows
+  pub leaf : ArgumentIsNumber (codes "leaf") 16 words_limit rows
+  pub inner : ArgumentIsNumber (codes "inner") 16 words_limit rows
 
 -- those of a command that runs a program have these and both flags
 pub record HasOptions (rows : List Row) : Type 0 where
@@ -26,8 +26,8 @@ pub record HasOptions (rows : List Row) : Type 0 where
 
 -- the matches of `make` have both numbers, and its flag
 pub record FitsMake (rows : List Row) : Type 0 where
-  pub seed : HasNumber (codes "SEED") 0 4294967295 rows
-  pub size : HasNumber (codes "SIZE") 1 size_limit rows
+  pub seed : ArgumentIsNumber (codes "SEED") 0 4294967295 rows
+  pub size : ArgumentIsNumber (codes "SIZE") 1 size_limit rows
   pub run : HasFlag (codes "run") rows
 
 -- the matches of a command, by its name

@@ -2,8 +2,8 @@
 
 ghost use Rattle.std.specs.Prelude.{◌≡◌, IfOk, false};
 ghost use Rattle.clap.specs.Words.{App, Rule, Shape, app_of, rule_of, with_rule, with_subcommand};
-ghost use Rattle.command_line.specs.Adds.{IsShaped};
-ghost use Rattle.command_line.specs.App.{app, check, runner, limited, run, replay, model, races, image, make, verify, bare, file, number, option, flag, workers, fuel, chunks, leaf, inner};
+ghost use Rattle.command_line.specs.Adds.{SubcommandIsShaped};
+ghost use Rattle.command_line.specs.App.{app, check, runner, limited, run, replay, model, races, image, make, verify, bare_app, file, number, option, flag, workers, fuel, chunks, leaf, inner};
 
 use clap::builder::ValueParser;
 use clap::{Arg, ArgAction, Command};
@@ -100,14 +100,14 @@ pub fn with_argument<'w>(
 }
 
 fn check<'w>(alloc: Global) -> Result<Command<'w>, AllocError>
-    ensures { IfOk result (IsShaped check) }
+    ensures { IfOk result (SubcommandIsShaped check) }
 {
     Command::new(alloc, "check").arg(file(alloc))
 }
 
 // A command that runs a program.
 fn runner<'w>(alloc: Global, name: &'w str) -> Result<Command<'w>, AllocError>
-    ensures { IfOk result (IsShaped (runner name.entry.now)) }
+    ensures { IfOk result (SubcommandIsShaped (runner name.entry.now)) }
 {
     let whole = with_argument(Ok(Command::new(alloc, name)), file(alloc));
     let whole = with_argument(whole, workers(alloc));
@@ -120,26 +120,26 @@ fn runner<'w>(alloc: Global, name: &'w str) -> Result<Command<'w>, AllocError>
 }
 
 fn run<'w>(alloc: Global) -> Result<Command<'w>, AllocError>
-    ensures { IfOk result (IsShaped run) }
+    ensures { IfOk result (SubcommandIsShaped run) }
 {
     runner(alloc, "run")
 }
 
 fn replay<'w>(alloc: Global) -> Result<Command<'w>, AllocError>
-    ensures { IfOk result (IsShaped replay) }
+    ensures { IfOk result (SubcommandIsShaped replay) }
 {
     runner(alloc, "replay")
 }
 
 fn model<'w>(alloc: Global) -> Result<Command<'w>, AllocError>
-    ensures { IfOk result (IsShaped model) }
+    ensures { IfOk result (SubcommandIsShaped model) }
 {
     runner(alloc, "model")
 }
 
 // A command that reads a program with its trace, and only has limits.
 fn limited<'w>(alloc: Global, name: &'w str) -> Result<Command<'w>, AllocError>
-    ensures { IfOk result (IsShaped (limited name.entry.now)) }
+    ensures { IfOk result (SubcommandIsShaped (limited name.entry.now)) }
 {
     let whole = with_argument(Ok(Command::new(alloc, name)), file(alloc));
     let whole = with_argument(whole, workers(alloc));
@@ -150,19 +150,19 @@ fn limited<'w>(alloc: Global, name: &'w str) -> Result<Command<'w>, AllocError>
 }
 
 fn races<'w>(alloc: Global) -> Result<Command<'w>, AllocError>
-    ensures { IfOk result (IsShaped races) }
+    ensures { IfOk result (SubcommandIsShaped races) }
 {
     limited(alloc, "races")
 }
 
 fn image<'w>(alloc: Global) -> Result<Command<'w>, AllocError>
-    ensures { IfOk result (IsShaped image) }
+    ensures { IfOk result (SubcommandIsShaped image) }
 {
     limited(alloc, "image")
 }
 
 fn make<'w>(alloc: Global) -> Result<Command<'w>, AllocError>
-    ensures { IfOk result (IsShaped make) }
+    ensures { IfOk result (SubcommandIsShaped make) }
 {
     let whole = with_argument(
         Ok(Command::new(alloc, "make")),
@@ -173,14 +173,14 @@ fn make<'w>(alloc: Global) -> Result<Command<'w>, AllocError>
 }
 
 fn verify<'w>(alloc: Global) -> Result<Command<'w>, AllocError>
-    ensures { IfOk result (IsShaped verify) }
+    ensures { IfOk result (SubcommandIsShaped verify) }
 {
     Command::new(alloc, "verify").arg(file(alloc))
 }
 
 // The command without its subcommands.
-fn bare<'w>(alloc: Global) -> Command<'w>
-    ensures { app_of result ≡ bare }
+fn bare_app<'w>(alloc: Global) -> Command<'w>
+    ensures { app_of result ≡ bare_app }
 {
     Command::new(alloc, "hheap")
         .no_binary_name(true)
@@ -195,7 +195,7 @@ fn with_command<'w>(
     whole: Result<Command<'w>, AllocError>,
     part: Result<Command<'w>, AllocError>,
 ) -> Result<Command<'w>, AllocError>
-    ensures { (a : App) (s : Shape) → IfOk whole.entry (λ c. app_of c ≡ a) → IfOk part.entry (IsShaped s) → IfOk result (λ c. app_of c ≡ with_subcommand a s) }
+    ensures { (a : App) (s : Shape) → IfOk whole.entry (λ c. app_of c ≡ a) → IfOk part.entry (SubcommandIsShaped s) → IfOk result (λ c. app_of c ≡ with_subcommand a s) }
 {
     whole?.subcommand(part?)
 }
@@ -204,7 +204,7 @@ fn with_command<'w>(
 pub(crate) fn command<'w>(alloc: Global) -> Result<Command<'w>, AllocError>
     ensures { IfOk result (λ c. app_of c ≡ app) }
 {
-    let whole = with_command(Ok(bare(alloc)), check(alloc));
+    let whole = with_command(Ok(bare_app(alloc)), check(alloc));
     let whole = with_command(whole, run(alloc));
     let whole = with_command(whole, replay(alloc));
     let whole = with_command(whole, model(alloc));

@@ -4,8 +4,8 @@ ghost use Rattle.std.specs.Prelude.{◌≡◌, ◌≢◌, IfOk, None, map, is_so
 ghost use Rattle.clap.specs.Words.{found_of, rows_of, fault_of, subcommand_rows_of};
 ghost use Rattle.clap.specs.Walk.{is_empty};
 ghost use Rattle.command_line.specs.App.{app};
-ghost use Rattle.command_line.specs.CommandLine.{HasSize, asked, command_line, file_in, flag_in, number_in, settings_in, options_in};
-ghost use Rattle.command_line.specs.Values.{FitsCommand, FitsFound, HasFlag, HasNumber, HasOptions, HasSettings};
+ghost use Rattle.command_line.specs.CommandLine.{HasSize, asked_command, command_line, file_in, flag_in, number_in, settings_in, options_in};
+ghost use Rattle.command_line.specs.Values.{FitsCommand, FitsFound, HasFlag, ArgumentIsNumber, HasOptions, HasSettings};
 
 use crate::command::command;
 use crate::line::{CommandLine, FileName, Options};
@@ -16,7 +16,7 @@ use std::alloc::{AllocError, Global};
 
 // The number of an argument.
 fn number(matches: &ArgMatches, id: &str) -> u32
-    requires { HasNumber id.now 0 4294967295 (rows_of (found_of matches.now)) }
+    requires { ArgumentIsNumber id.now 0 4294967295 (rows_of (found_of matches.now)) }
     ensures { result ≡ number_in id.now (rows_of (found_of matches.now)) }
 {
     matches.get_one::<u32>(id).unwrap_or(0)
@@ -65,9 +65,9 @@ fn options(matches: &ArgMatches) -> Options
 }
 
 // What a command asks for, by its name.
-fn asked<'w>(name: &str, matches: &ArgMatches<'w>) -> Option<CommandLine<'w>>
+fn asked_command<'w>(name: &str, matches: &ArgMatches<'w>) -> Option<CommandLine<'w>>
     requires { FitsCommand name.now (rows_of (found_of matches.now)) }
-    ensures { result ≡ asked name.now (rows_of (found_of matches.now)) }
+    ensures { result ≡ asked_command name.now (rows_of (found_of matches.now)) }
 {
     match name {
         "check" => Some(CommandLine::Check {
@@ -108,10 +108,10 @@ fn asked<'w>(name: &str, matches: &ArgMatches<'w>) -> Option<CommandLine<'w>>
 // What the command that was met asks for.
 fn found<'w>(matches: &ArgMatches<'w>) -> Option<CommandLine<'w>>
     requires { FitsFound (subcommand_rows_of matches.now) }
-    ensures { result ≡ option_and_then (λ p. asked p.0 p.1) (subcommand_rows_of matches.now) }
+    ensures { result ≡ option_and_then (λ p. asked_command p.0 p.1) (subcommand_rows_of matches.now) }
 {
     match matches.subcommand() {
-        Some((name, inner)) => asked(name, inner),
+        Some((name, inner)) => asked_command(name, inner),
         None => None,
     }
 }

@@ -1,11 +1,11 @@
 -- What is known of a heap before its collection ends; and that its names are distinct.
-use Rattle.copied_part_laws.proofs.Common.{◌≡◌, ℕ, ◌+◌, ◌≤◌, ◌==◌, arith, Bool, true, false, cond, List, [], ◌∷◌, ◌++◌, inl, inr, refl, ap, sym, ◌∙◌, flat_map, eqb-true, in_append_cases, in_append_left, in_append_right, in_map, Name, MachineState, Heap, words_at, Born, Cell, Hole, Mark, Moved, size_of, ChunkValue, Located, located, objects_from, behind, first, HaveDistinctNumbers, LeafHeapValue, Survivor, olds, In, object_name, objects_of_chunks, AreLaidOut, words, HasNames, in_objects, named_by, names_in, small_lists, name_of, chunk_of, chunks_of, HeapForm, fresh_off, NamedOnce}
+use Rattle.copied_part_laws.proofs.Common.{◌≡◌, ℕ, ◌+◌, ◌≤◌, ◌==◌, arith, Bool, true, false, cond, List, [], ◌∷◌, ◌++◌, inl, inr, refl, ap, sym, ◌∙◌, flat_map, eqb-true, in_append_cases, in_append_left, in_append_right, in_map, Name, MachineState, Heap, words_at, Born, Cell, Hole, Mark, Moved, size_of, ChunkValue, Located, located, objects_from, behind, first, HaveDistinctNumbers, LeafHeapValue, Survivor, olds, In, object_name, objects_of_chunks, AreLaidOut, words, ChunksHaveNames, in_objects, named_by, names_in, small_lists, name_of, chunk_of, chunks_of, HeapForm, fresh_off, NamedOnce}
 use Rattle.copied_part_laws.proofs.ObjectsApart.{span}
 
 -- a heap with these survivors, and its account in this state of the machine
 pub record Old (h : LeafHeapValue) (ss : List Survivor) (m : MachineState) (a : Heap) : Type 0 where
   pub form : HeapForm h
-  pub names : HasNames (chunks_of h.chunks) a
+  pub names : ChunksHaveNames (chunks_of h.chunks) a
   pub named : (o q : Located) → In (objects_of_chunks (chunks_of h.chunks)) o → In (objects_of_chunks (chunks_of h.chunks)) q → object_name o ≡ object_name q → o ≡ q
   pub words : (o : Located) → In (objects_of_chunks (chunks_of h.chunks)) o → words_at m (object_name o) ≡ words o
   pub laid : AreLaidOut (chunks_of h.chunks) a.reserved

@@ -19,21 +19,21 @@ pub use Rattle.leaf_collections.proofs.below.task_machine.{names-push}
 pub use Rattle.leaf_collections.specs.LeafEnd.{AreBack, FitsCopied}
 pub use Rattle.leaf_collections.specs.below.chunk_list.{Level}
 pub use Rattle.leaf_collections.specs.below.chunk_pool.{Slot, PoolValue, slot_at, owner_of, slot_units}
-pub use Rattle.leaf_collections.specs.below.copying_gc.{Survivor, olds, last_place, reserved_of, reserved_place, AreNew, Laying, laid_all, laid_one, room_in, emptied, nothing_laid, smalls, led_chunk, unreserved, AreSurvivors, back_of, keeps, large_of, laid_of, laying_of, leaves, CanTake, HaveRoom, open_next, opened, placed_behind, led_cell, collected, old_of, is_moved, outside, IsCollected, new_address, as_reference, frame_references, references_in, ObjectFits, moves_of, redirection, laid_at, next_place, relocations, survivor_order, IsSurvivor, Starts}
+pub use Rattle.leaf_collections.specs.below.copying_gc.{Survivor, olds, last_place, reserved_of, reserved_place, AreNew, Laying, laid_all, laid_one, room_in, emptied, nothing_laid, smalls, led_chunk, unreserved, AreSurvivors, back_of, keeps, large_of, laid_of, laying_of, leaves, CanTake, HaveRoom, open_next, opened, placed_behind, led_cell, collected, old_of, is_moved, outside, IsCollected, new_address, as_reference, frame_references, references_in, ObjectFits, moves_of, redirection, laid_at, next_place, relocations, survivor_order, IsSurvivor, CopyStarts}
 pub use Rattle.leaf_collections.specs.below.core_invariant.{chunk_of, chunks_of, HeapForm, AreMeasured, take_by, belongings_of_part, AreUnits, news_of, SharedValue, accounts, frames_down, belongings_with, value_of}
 pub use Rattle.leaf_collections.specs.below.hh_lang.{ProgramText}
 pub use Rattle.leaf_collections.specs.below.hh_model.{Name, MachineState, Object, object_at, Frame, Running, Task}
 pub use Rattle.leaf_collections.specs.below.leaf_heap.{HaveDistinctNumbers, LeafHeapValue, IsCurrent, IsReserved, unit_count, IsFresh, room_of, with_places, IsSettled, AreTidy, IsTidy, counted32, room_at}
 pub use Rattle.leaf_collections.specs.below.ledger_step_laws.{aside, rested}
 pub use Rattle.leaf_collections.specs.below.mark_sweep_gc.{units_in_slots}
-pub use Rattle.leaf_collections.specs.below.object_layout.{Born, Cell, Hole, Mark, Moved, size_of, ChunkValue, Located, located, objects_from, chunk_at, Addr, moved_to, number_of, cell_of, object_words_in, held_size, held_words, words_in, led_object, cell_at, small_words, IsClosed, IsSoundReference, Birth, located_by, HasObjectAt, RefersTo}
+pub use Rattle.leaf_collections.specs.below.object_layout.{Born, Cell, Hole, Mark, Moved, size_of, ChunkValue, Located, located, objects_from, chunk_at, Addr, moved_to, number_of, cell_of, object_words_in, held_size, held_words, words_in, led_object, cell_at, small_words, HeapIsClosed, IsSoundReference, Birth, located_by, HasObjectAt, RefersTo}
 pub use Rattle.leaf_collections.specs.below.plain_vec.{is_empty}
-pub use Rattle.leaf_collections.specs.below.refinement.{In, object_name, objects_of_chunks, AreLaidOut, words, HasNames, Chunk, HoldsLarge, reserved_chunks, reserved_units, names_of, small_chunks, PartFits, part_for, Belongings, Memory, copied_object, IsReachedAt, BelongingsStand, Place, Stands, with_belongings, BegunStands, CopyFits, IsCopy, AllRead, FramesAreRead, HoldsRead, TaskIsRead, DontOverlap, HoldsAt, LeadsAt, StartsAt, part_before}
+pub use Rattle.leaf_collections.specs.below.refinement.{In, object_name, objects_of_chunks, AreLaidOut, words, ChunksHaveNames, Chunk, HoldsLarge, reserved_chunks, reserved_units, chunk_names, small_chunks, PartFits, part_for, Belongings, Memory, copied_object, IsReachedAt, BelongingsStand, LiesWithOwner, MemoryStands, with_belongings, BegunStands, CopyFits, IsCopy, AllRead, FramesAreRead, HoldsRead, TaskIsRead, DontOverlap, HoldsAt, LeadsAt, StartsAt, part_before}
 pub use Rattle.leaf_collections.specs.below.remembered_set.{same_address}
 pub use Rattle.leaf_collections.specs.below.run_ledger.{Heap, words_at, words_sum, units, laid_onto, large_survivors, room_behind, small_in, small_survivors, holds_name, begun_in, chunk_words, units_in, units_sum, Ledger, end_numbers, heap_of, in_use, let_go, object_words_of, lay, by_birth, insert_name, name_le, AreByBirth}
 pub use Rattle.leaf_collections.specs.below.run_trace.{SettingsValue}
 pub use Rattle.leaf_collections.specs.below.task_frames.{FramesValue, CallFrame, frames_of, led_frame}
-pub use Rattle.leaf_collections.specs.below.task_machine.{named_by, names_in, small_lists, name_of, IsLastLarge, IsLastSmall, large_names, AreReserved, HeapMatchesAccount, Private, Begun}
+pub use Rattle.leaf_collections.specs.below.task_machine.{named_by, names_in, small_lists, name_of, IsLastLarge, IsLastSmall, large_names, HasReservedUnits, HeapMatchesAccount, Private, Begun}
 pub use Rattle.leaf_collections.specs.below.walk_laws.{IsWalk}
 pub use Rattle.std.proofs.Common.{◌≡◌, ℕ, ◌+◌, ◌≤◌, ◌==◌, arith, Bool, true, false, cond, List, [], ◌∷◌, ◌++◌, inl, inr, refl, ap, sym, ◌∙◌, zero, suc, ◌-◌, ◌<◌, Option, Some, None, length, length-append, subst, map, nat_lt, ◌⊎◌, ◌*◌, ◌/◌, not, All, filter, ◌&&◌, ap₂, eq-eqb, ne_eqb, nat_le, slice_get, sum_by, is_some, get_or, is_lt}
 pub use Rattle.std.proofs.lemmas.Bool.{eqb-true, false≢true, cases_lt, cond-false, cond-true, cases_Bool, le-leb, leb-true, lt-leb, not-true, ltb-true, cases_eq, and_parts, le-ltb, lt-ltb}

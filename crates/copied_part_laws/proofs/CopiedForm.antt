@@ -1,5 +1,5 @@
 -- A heap after its collection has the form and the layout of every heap.
-use Rattle.copied_part_laws.proofs.Common.{◌≡◌, ℕ, zero, suc, ◌+◌, ◌-◌, ◌*◌, ◌/◌, ◌<◌, ◌≤◌, ◌==◌, ◌&&◌, not, arith, Bool, true, false, cond, Option, Some, None, List, [], ◌∷◌, ◌++◌, length, map, filter, nat_lt, inl, inr, refl, ap, ap₂, sym, subst, ◌∙◌, eq-eqb, ne_eqb, option_map, reverse, cases_lt, cond-false, cond-true, false≢true, length-map, is_empty, in_append_cases, all_from, in_map, map_in, read_in, MachineState, Heap, units, Addr, Cell, size_of, ChunkValue, words_in, cell_of, chunk_at, Located, led_object, objects_from, led_are_read, words_in-push, chunk_there, LeafHeapValue, IsReserved, room_of, with_places, Survivor, olds, AreNew, HaveRoom, Laying, nothing_laid, laid_all, laid_one, open_next, opened, placed_behind, room_in, smalls, led_cell, led_chunk, reserved_of, unreserved, AreSurvivors, collected, keeps, large_of, laid_of, laying_of, CanTake, new_reverse, within_at, all_tidy, used_led, Chunk, In, objects_of_chunks, AreLaidOut, HoldsLarge, reserved_chunks, reserved_units, words, AreReserved, HeapMatchesAccount, chunk_of, chunks_of, HeapForm, counted_from, is_spare}
+use Rattle.copied_part_laws.proofs.Common.{◌≡◌, ℕ, zero, suc, ◌+◌, ◌-◌, ◌*◌, ◌/◌, ◌<◌, ◌≤◌, ◌==◌, ◌&&◌, not, arith, Bool, true, false, cond, Option, Some, None, List, [], ◌∷◌, ◌++◌, length, map, filter, nat_lt, inl, inr, refl, ap, ap₂, sym, subst, ◌∙◌, eq-eqb, ne_eqb, option_map, reverse, cases_lt, cond-false, cond-true, false≢true, length-map, is_empty, in_append_cases, all_from, in_map, map_in, read_in, MachineState, Heap, units, Addr, Cell, size_of, ChunkValue, words_in, cell_of, chunk_at, Located, led_object, objects_from, led_are_read, words_in-push, chunk_there, LeafHeapValue, IsReserved, room_of, with_places, Survivor, olds, AreNew, HaveRoom, Laying, nothing_laid, laid_all, laid_one, open_next, opened, placed_behind, room_in, smalls, led_cell, led_chunk, reserved_of, unreserved, AreSurvivors, collected, keeps, large_of, laid_of, laying_of, CanTake, new_reverse, within_at, all_tidy, used_led, Chunk, In, objects_of_chunks, AreLaidOut, HoldsLarge, reserved_chunks, reserved_units, words, HasReservedUnits, HeapMatchesAccount, chunk_of, chunks_of, HeapForm, counted_from, is_spare}
 use Rattle.collected_heap_laws.proofs.Reading as reading
 use Rattle.copied_part_laws.proofs.BeforeTheCopy.{Old}
 use Rattle.copied_part_laws.proofs.NamesLaid.{Told}
@@ -55,7 +55,7 @@ none_spare : (ks js : List ChunkValue) → ((k : ChunkValue) → In ks k → is_
 none_spare [] js f = refl
 none_spare (k ∷ ks) js f = cond-false (is_spare (chunk_of k)) (chunk_of k ∷ reserved_chunks (chunks_of (ks ++ js))) (reserved_chunks (chunks_of (ks ++ js))) (f k (inl refl)) ∙ none_spare ks js (λ x i. f x (inr i))
 
-units_reserved : (h : List ChunkValue) (u : ℕ) (o : Option ℕ) → IsReserved h o → AreReserved h o u → map (λ (c : Chunk). c.units) (reserved_chunks (chunks_of (reserved_of h o))) ≡ reserved_units u
+units_reserved : (h : List ChunkValue) (u : ℕ) (o : Option ℕ) → IsReserved h o → HasReservedUnits h o u → map (λ (c : Chunk). c.units) (reserved_chunks (chunks_of (reserved_of h o))) ≡ reserved_units u
 units_reserved h u None w r = ap reserved_units (sym r)
 units_reserved h u (Some i) w r =
     let k : ChunkValue = chunk_at h i in

@@ -1,5 +1,5 @@
 -- The names of a heap after its collection: as its account says.
-use Rattle.copied_part_laws.proofs.Common.{◌≡◌, ◌⊎◌, ◌+◌, ◌*◌, ◌/◌, ◌<◌, ◌≤◌, ◌==◌, ◌&&◌, not, arith, Bool, true, false, cond, Option, None, List, [], ◌∷◌, ◌++◌, length, map, filter, nat_le, inl, inr, refl, ap, sym, subst, ◌∙◌, eq-eqb, reverse, flat_map, list_any, cases_Bool, cases_lt, cond-false, cond-true, eqb-true, false≢true, le-leb, leb-true, lt-leb, not-true, append-nil, in_append_cases, in_flat, in_from_kept, in_kept, in_map, map_in, read_in, Name, MachineState, Heap, laid_onto, large_survivors, room_behind, small_in, small_survivors, units, words_at, holds_name, holds_from_in, in_from_holds, Addr, Born, Cell, size_of, ChunkValue, cell_at, words_in, cell_of, Located, located, objects_from, Once, once_from, cell_in, LeafHeapValue, IsReserved, IsSettled, same_address, Survivor, olds, old_of, HaveRoom, Laying, nothing_laid, is_moved, laid_all, room_in, led_chunk, reserved_of, unreserved, AreSurvivors, keeps, large_of, laid_of, laying_of, CanTake, in_small, olds_small, small_ones, in_unreserved, new_reverse, any_here, any_none, first_of, Chunk, In, object_name, objects_of_chunks, words, HasNames, names_of, small_chunks, from_flat, in_objects, large_names, names_in, small_lists, chunk_of, chunks_of, object_seen, seen_object, large_are, names_are, small_names, inside_from, NamedOnce}
+use Rattle.copied_part_laws.proofs.Common.{◌≡◌, ◌⊎◌, ◌+◌, ◌*◌, ◌/◌, ◌<◌, ◌≤◌, ◌==◌, ◌&&◌, not, arith, Bool, true, false, cond, Option, None, List, [], ◌∷◌, ◌++◌, length, map, filter, nat_le, inl, inr, refl, ap, sym, subst, ◌∙◌, eq-eqb, reverse, flat_map, list_any, cases_Bool, cases_lt, cond-false, cond-true, eqb-true, false≢true, le-leb, leb-true, lt-leb, not-true, append-nil, in_append_cases, in_flat, in_from_kept, in_kept, in_map, map_in, read_in, Name, MachineState, Heap, laid_onto, large_survivors, room_behind, small_in, small_survivors, units, words_at, holds_name, holds_from_in, in_from_holds, Addr, Born, Cell, size_of, ChunkValue, cell_at, words_in, cell_of, Located, located, objects_from, Once, once_from, cell_in, LeafHeapValue, IsReserved, IsSettled, same_address, Survivor, olds, old_of, HaveRoom, Laying, nothing_laid, is_moved, laid_all, room_in, led_chunk, reserved_of, unreserved, AreSurvivors, keeps, large_of, laid_of, laying_of, CanTake, in_small, olds_small, small_ones, in_unreserved, new_reverse, any_here, any_none, first_of, Chunk, In, object_name, objects_of_chunks, words, ChunksHaveNames, chunk_names, small_chunks, from_flat, in_objects, large_names, names_in, small_lists, chunk_of, chunks_of, object_seen, seen_object, large_are, names_are, small_names, inside_from, NamedOnce}
 use Rattle.leaf_collections.proofs.below.copying_gc.Moves as moves
 use Rattle.collected_heap_laws.proofs.Reading as reading
 use Rattle.copied_part_laws.proofs.SurvivorOrder.{single_names, small_survivors_are, sorted_names}
@@ -93,13 +93,13 @@ module _ (h : LeafHeapValue) (from : List (Option Addr)) (ss : List Survivor) (n
       let le : size_of (cell_of h.chunks o.at) ≤ 1024 = leb-true (size_of (cell_of h.chunks o.at)) 1024 e in
       let s : (H.chunk.size == 1024) ≡ true = small_chunk o H.chunk H.there H.object (omega (arith, w, le)) in
       let k : In (small_chunks (chunks_of h.chunks)) (chunk_of H.chunk) = in_kept (λ (c : Chunk). not c.large) (chunks_of h.chunks) (chunk_of H.chunk) (in_map chunk_of h.chunks H.chunk H.there) (ap (λ b. not (not b)) s) in
-      let l : In a.chunks (names_of (chunk_of H.chunk)) = subst (λ ns. In ns (names_of (chunk_of H.chunk))) O.names.small (in_map names_of (small_chunks (chunks_of h.chunks)) (chunk_of H.chunk) k) in
-      in_flat (λ ns. ns) a.chunks (names_of (chunk_of H.chunk)) (object_name o) l (in_map object_name (chunk_of H.chunk).objects o H.object)
+      let l : In a.chunks (chunk_names (chunk_of H.chunk)) = subst (λ ns. In ns (chunk_names (chunk_of H.chunk))) O.names.small (in_map chunk_names (small_chunks (chunks_of h.chunks)) (chunk_of H.chunk) k) in
+      in_flat (λ ns. ns) a.chunks (chunk_names (chunk_of H.chunk)) (object_name o) l (in_map object_name (chunk_of H.chunk).objects o H.object)
 
   is_small_one : (n : Name) → In (small_in a) n → (o : Located) × In (objects_of_chunks (chunks_of h.chunks)) o × (object_name o ≡ n) × (is_moved h.chunks o.at ≡ true)
   is_small_one n i =
       let f = from_flat (λ ns. ns) a.chunks n i in
-      let c = map_in names_of (small_chunks (chunks_of h.chunks)) f.0 (subst (λ ns. In ns f.0) (sym O.names.small) f.1) in
+      let c = map_in chunk_names (small_chunks (chunks_of h.chunks)) f.0 (subst (λ ns. In ns f.0) (sym O.names.small) f.1) in
       let o = map_in object_name c.0.objects n (subst (λ ns. In ns n) (sym c.2) f.2) in
       let k = in_from_kept (λ (c : Chunk). not c.large) (chunks_of h.chunks) c.0 c.1 in
       let there : In (objects_of_chunks (chunks_of h.chunks)) o.0 = in_objects (chunks_of h.chunks) c.0 o.0 k.0 o.1 in
@@ -275,7 +275,7 @@ module _ (h : LeafHeapValue) (from : List (Option Addr)) (ss : List Survivor) (n
   abbrev Now : Heap
   Now = record a { chunks = laid_onto m [] (small_survivors a); large = large_survivors a; room = room_behind m (laid_onto m [] (small_survivors a)); since = 0; begun = None }
 
-  pub names : HasNames (chunks_of (L ++ (K ++ R))) Now
+  pub names : ChunksHaveNames (chunks_of (L ++ (K ++ R))) Now
   names = record { small = small_names (L ++ (K ++ R)) ∙ small_now; large = large_are (L ++ (K ++ R)) ∙ large_now }
 
   -- the room of the last laid chunk

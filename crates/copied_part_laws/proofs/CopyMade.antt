@@ -1,5 +1,5 @@
 -- The result of a leaf collection on a part is a copy of it.
-use Rattle.copied_part_laws.proofs.Common.{◌≡◌, ℕ, ◌+◌, arith, Option, Some, None, is_some, List, [], ◌∷◌, ◌++◌, length, map, filter, inl, inr, refl, ap, ap₂, sym, subst, ◌∙◌, option_map, reverse, unwrap_or, contains_from_in, in_append_cases, in_from_contains, in_map, map_in, ProgramText, Object, MachineState, object_at, SettingsValue, Heap, Ledger, heap_of, let_go, words_at, object_words_of, heap_machine, Addr, ChunkValue, number_of, Located, LeafHeapValue, with_places, Level, CallFrame, FramesValue, frames_of, led_frame, Survivor, olds, outside, led_chunk, new_address, reserved_of, unreserved, AreSurvivors, collected, keeps, large_of, laid_of, IsCollected, moves_are_told, rested, rested_view, rested_worker, Begun, Chunk, Belongings, In, Memory, copied_object, object_name, objects_of_chunks, AreLaidOut, words, IsReachedAt, HasNames, BelongingsStand, Place, Stands, with_belongings, BegunStands, CopyFits, IsCopy, at_belongings, chunk_of, chunks_of, HeapForm, frames_down, refs_long, inside_from, CopiesFit, CollectionHasBegun, part_belongings}
+use Rattle.copied_part_laws.proofs.Common.{◌≡◌, ℕ, ◌+◌, arith, Option, Some, None, is_some, List, [], ◌∷◌, ◌++◌, length, map, filter, inl, inr, refl, ap, ap₂, sym, subst, ◌∙◌, option_map, reverse, unwrap_or, contains_from_in, in_append_cases, in_from_contains, in_map, map_in, ProgramText, Object, MachineState, object_at, SettingsValue, Heap, Ledger, heap_of, let_go, words_at, object_words_of, heap_machine, Addr, ChunkValue, number_of, Located, LeafHeapValue, with_places, Level, CallFrame, FramesValue, frames_of, led_frame, Survivor, olds, outside, led_chunk, new_address, reserved_of, unreserved, AreSurvivors, collected, keeps, large_of, laid_of, IsCollected, moves_are_told, rested, rested_view, rested_worker, Begun, Chunk, Belongings, In, Memory, copied_object, object_name, objects_of_chunks, AreLaidOut, words, IsReachedAt, ChunksHaveNames, BelongingsStand, LiesWithOwner, MemoryStands, with_belongings, BegunStands, CopyFits, IsCopy, at_belongings, chunk_of, chunks_of, HeapForm, frames_down, refs_long, inside_from, CopiesFit, CollectionHasBegun, part_belongings}
 use Rattle.leaf_collections.specs.below.copying_gc.{Moved}
 use Rattle.address_laws.proofs.Extent as extent
 use Rattle.copied_part_laws.proofs.CopiedForm as forming
@@ -49,7 +49,7 @@ module _ (p : ProgramText) (st : SettingsValue) (t : ℕ) (h : LeafHeapValue) (v
   abbrev pub a : Heap
   a = heap_of l t
 
-  pub stands : Stands V lt
+  pub stands : MemoryStands V lt
   stands = B.fits.fits.stands
 
   pub belongings : BelongingsStand V lt t
@@ -64,9 +64,9 @@ module _ (p : ProgramText) (st : SettingsValue) (t : ℕ) (h : LeafHeapValue) (v
   pub object_among_own : (o : Located) → In (objects_of_chunks (chunks_of h.chunks)) o → In (objects_of_chunks (V.belongings t).chunks) o
   object_among_own o i = subst (λ (z : Belongings). In (objects_of_chunks z.chunks) o) (sym own_belongings) i
 
-  names : HasNames (chunks_of h.chunks) a
+  names : ChunksHaveNames (chunks_of h.chunks) a
   names =
-      let n : HasNames (chunks_of h.chunks) (heap_of lt t) = subst (λ (z : Belongings). HasNames z.chunks (heap_of lt t)) own_belongings belongings.names in
+      let n : ChunksHaveNames (chunks_of h.chunks) (heap_of lt t) = subst (λ (z : Belongings). ChunksHaveNames z.chunks (heap_of lt t)) own_belongings belongings.names in
       record { small = n.small ∙ rested_view (λ x. x.chunks) (λ x. refl) l t; large = n.large ∙ rested_view (λ x. x.large) (λ x. refl) l t }
 
   laid : AreLaidOut (chunks_of h.chunks) a.reserved
@@ -80,7 +80,7 @@ module _ (p : ProgramText) (st : SettingsValue) (t : ℕ) (h : LeafHeapValue) (v
       let c = stands.contents t o (rested_worker l t) (object_among_own o i) in
       let x : Object = c.0 in
       let e : words_at l.machine (object_name o) ≡ object_words_of (Some c.0) = ap (λ (m : MachineState). object_words_of (object_at m.store (object_name o))) (sym (heap_machine l t let_go)) ∙ ap object_words_of c.1 in
-      let r : length c.0.refs ≡ length o.refs = sym (refs_long (Place V lt) o.refs c.0.refs c.2.refs) in
+      let r : length c.0.refs ≡ length o.refs = sym (refs_long (LiesWithOwner V lt) o.refs c.0.refs c.2.refs) in
       let n : length c.0.ints ≡ length o.ints = ap (λ zs. length zs) (sym c.2.ints) in
       e ∙ (let q : 2 + length c.0.refs + length c.0.ints ≡ 2 + length o.refs + length o.ints = omega (arith, r, n) in q)
 

@@ -1,5 +1,5 @@
 -- What a collection returns, and when it can begin to copy.
-use Rattle.copied_part_laws.proofs.Common.{◌≡◌, ℕ, All, Option, Some, None, List, [], ◌∷◌, length, map, slice_get, inl, inr, refl, ap, sym, subst, ◌∙◌, same_Some, flat_in, got_in, in_append_cases, all_from, read_in, ProgramText, Frame as ModelFrame, Name, MachineState, Running, Task, SettingsValue, Ledger, heap_of, let_go, heap_machine, Addr, ChunkValue, held_words, IsClosed, IsSoundReference, LeafHeapValue, counted32, unit_count, Level, CallFrame, FramesValue, frames_of, as_reference, frame_references as refs_held, outside, references_in, rested_view, rested_worker, Begun, Belongings, In, Memory, AllRead, FramesAreRead, HoldsRead, TaskIsRead, Place, chunks_of, frames_down, BegunCanCopy, CanCopy, CollectionHasBegun, NumbersAreSaid}
+use Rattle.copied_part_laws.proofs.Common.{◌≡◌, ℕ, All, Option, Some, None, List, [], ◌∷◌, length, map, slice_get, inl, inr, refl, ap, sym, subst, ◌∙◌, same_Some, flat_in, got_in, in_append_cases, all_from, read_in, ProgramText, Frame as ModelFrame, Name, MachineState, Running, Task, SettingsValue, Ledger, heap_of, let_go, heap_machine, Addr, ChunkValue, held_words, HeapIsClosed, IsSoundReference, LeafHeapValue, counted32, unit_count, Level, CallFrame, FramesValue, frames_of, as_reference, frame_references as refs_held, outside, references_in, rested_view, rested_worker, Begun, Belongings, In, Memory, AllRead, FramesAreRead, HoldsRead, TaskIsRead, LiesWithOwner, chunks_of, frames_down, BegunCanCopy, CanCopy, CollectionHasBegun, NumbersAreSaid}
 use Rattle.heap_marking.proofs.HeapClosed as reads
 use Rattle.copied_part_laws.proofs.CopyMade as copying
 use Rattle.copied_part_laws.proofs.CopyCounts as counting
@@ -40,7 +40,7 @@ module _ (p : ProgramText) (st : SettingsValue) (t : ℕ) (h : LeafHeapValue) (v
   lt = copying.lt p st t h view count s b news v l B
 
   abbrev At : Name → Addr → Type 0
-  At n r = Place V lt n r
+  At n r = LiesWithOwner V lt n r
 
   belongings : (V.belongings t).chunks ≡ chunks_of h.chunks
   belongings = ap (λ (z : Belongings). z.chunks) (copying.own_belongings p st t h view count s b news v l B)
@@ -49,7 +49,7 @@ module _ (p : ProgramText) (st : SettingsValue) (t : ℕ) (h : LeafHeapValue) (v
   sound_at : (n : Name) (r : Addr) → At n r → IsSoundReference h.chunks (Some r)
   sound_at = reads.sound_at V lt (copying.stands p st t h view count s b news v l B) t (rested_worker l t) h.chunks belongings B.form.shaped.apart B.form.near
 
-  closed : IsClosed h.chunks
+  closed : HeapIsClosed h.chunks
   closed = reads.closed V lt (copying.stands p st t h view count s b news v l B) t (rested_worker l t) h.chunks belongings B.form.shaped.apart B.form.near
 
   module _ (x : Task) (is : slice_get l.machine.tasks t ≡ Some x) (runs : x.status ≡ Running) (rooted : All (IsSoundReference h.chunks) (map as_reference b.roots)) where

@@ -1,5 +1,5 @@
 -- The survivors of a leaf collection are what the registers and the roots reach, in the sense of the relation.
-use Rattle.copied_part_laws.proofs.Common.{◌≡◌, ℕ, zero, suc, Option, Some, List, [], ◌∷◌, map, inl, inr, ap, sym, subst, ◌∙◌, contains_from_in, flat_in, got_in, in_append_cases, in_append_left, in_append_right, in_flat, in_from_contains, in_map, map_in, IsWalk, Addr, cell_of, ChunkValue, HasObjectAt, RefersTo, Located, HaveDistinctNumbers, CallFrame, FramesValue, frames_of, IsSurvivor, Starts, as_reference, frame_references, outside, references_in, Belongings, In, objects_of_chunks, HoldsAt, IsReachedAt, LeadsAt, StartsAt, chunks_of, frames_down, held_seen, seen_held}
+use Rattle.copied_part_laws.proofs.Common.{◌≡◌, ℕ, zero, suc, Option, Some, List, [], ◌∷◌, map, inl, inr, ap, sym, subst, ◌∙◌, contains_from_in, flat_in, got_in, in_append_cases, in_append_left, in_append_right, in_flat, in_from_contains, in_map, map_in, IsWalk, Addr, cell_of, ChunkValue, HasObjectAt, RefersTo, Located, HaveDistinctNumbers, CallFrame, FramesValue, frames_of, IsSurvivor, CopyStarts, as_reference, frame_references, outside, references_in, Belongings, In, objects_of_chunks, HoldsAt, IsReachedAt, LeadsAt, StartsAt, chunks_of, frames_down, held_seen, seen_held}
 
 -- the frames of a stack from the bottom are those from the top, reversed
 pub from_stack : (s : FramesValue) (g : CallFrame) → In (frames_of s) g → In (frames_down s) g
@@ -46,7 +46,7 @@ module _ (ks : List ChunkValue) (A : HaveDistinctNumbers ks) (belongings : Belon
 
   -- ---- WALKS
 
-  starts_to : (a : Addr) → StartsAt belongings roots a → Starts ks (outside s roots) a
+  starts_to : (a : Addr) → StartsAt belongings roots a → CopyStarts ks (outside s roots) a
   starts_to a w = (
     live_at a w.0 w.1,
     contains_from_in (outside s roots) (Some a) (elim w.2 [
@@ -55,7 +55,7 @@ module _ (ks : List ChunkValue) (A : HaveDistinctNumbers ks) (belongings : Belon
     ]),
   )
 
-  starts_back : (a : Addr) → Starts ks (outside s roots) a → StartsAt belongings roots a
+  starts_back : (a : Addr) → CopyStarts ks (outside s roots) a → StartsAt belongings roots a
   starts_back a w =
       let o = object_at a w.0 in (
         o.0,
@@ -75,11 +75,11 @@ module _ (ks : List ChunkValue) (A : HaveDistinctNumbers ks) (belongings : Belon
       let q = object_at a w.1 in
       (o.0, q.0, o.1, subst (λ rs. In rs (Some a)) (sym (refs_at m o.0 o.1)) (in_from_contains (cell_of ks m).refs (Some a) w.2), q.1)
 
-  walk_to : (k : ℕ) (a : Addr) → IsWalk (StartsAt belongings roots) (LeadsAt belongings) k a → IsWalk (Starts ks (outside s roots)) (RefersTo ks) k a
+  walk_to : (k : ℕ) (a : Addr) → IsWalk (StartsAt belongings roots) (LeadsAt belongings) k a → IsWalk (CopyStarts ks (outside s roots)) (RefersTo ks) k a
   walk_to zero a w = starts_to a w
   walk_to (suc k) a w = (w.0, walk_to k w.0 w.1, leads_to w.0 a w.2)
 
-  walk_back : (k : ℕ) (a : Addr) → IsWalk (Starts ks (outside s roots)) (RefersTo ks) k a → IsWalk (StartsAt belongings roots) (LeadsAt belongings) k a
+  walk_back : (k : ℕ) (a : Addr) → IsWalk (CopyStarts ks (outside s roots)) (RefersTo ks) k a → IsWalk (StartsAt belongings roots) (LeadsAt belongings) k a
   walk_back zero a w = starts_back a w
   walk_back (suc k) a w = (w.0, walk_back k w.0 w.1, leads_back w.0 a w.2)
 

@@ -4,7 +4,7 @@ use Rattle.leaf_collections.specs.below.hh_lang.{ProgramText}
 use Rattle.leaf_collections.specs.below.hh_model.{Running, Task}
 use Rattle.leaf_collections.specs.below.run_trace.{SettingsValue}
 use Rattle.leaf_collections.specs.below.run_ledger.{Ledger, end_numbers, heap_of, units_in}
-use Rattle.leaf_collections.specs.below.object_layout.{Addr, ChunkValue, IsClosed, IsSoundReference}
+use Rattle.leaf_collections.specs.below.object_layout.{Addr, ChunkValue, HeapIsClosed, IsSoundReference}
 use Rattle.leaf_collections.specs.below.leaf_heap.{LeafHeapValue}
 use Rattle.leaf_collections.specs.below.chunk_list.{Level}
 use Rattle.leaf_collections.specs.below.task_frames.{FramesValue}
@@ -43,7 +43,7 @@ NumbersAreSaid =
 -- WHEN IT CAN BE COPIED, apart from its roots: each reference of its frames and of its objects into its heap leads to
 -- an object there
 pub record CanCopy (h : LeafHeapValue) (frames : FramesValue) (roots : List Addr) : Type 0 where
-  pub closed : IsClosed h.chunks
+  pub closed : HeapIsClosed h.chunks
   pub outside : All (IsSoundReference h.chunks) (outside frames roots)
 
 abbrev pub BegunCanCopy : Type 0

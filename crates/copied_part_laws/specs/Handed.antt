@@ -5,13 +5,13 @@ use Rattle.leaf_collections.specs.below.leaf_heap.{LeafHeapValue}
 use Rattle.leaf_collections.specs.below.task_frames.{FramesValue}
 use Rattle.leaf_collections.specs.below.copying_gc.{Moved, ToChunks, CanTake, IsCollected}
 use Rattle.leaf_collections.specs.below.task_machine.{Begun, Private}
-use Rattle.leaf_collections.specs.below.core_invariant.{Fits, HasBegun, IsSharedValue, SharedValue}
+use Rattle.leaf_collections.specs.below.core_invariant.{WorkerPartFits, CopyingHasBegun, IsSharedValue, SharedValue}
 use Rattle.leaf_collections.specs.LeafEnd.{FitsCopied}
 
 -- a part that fits with its begun collection, before the run's end, and the chunks that this took
 pub record IsCopying (w : SharedValue) (worker : ℕ) (p : Private) (b : Begun) (news : List ChunkValue) : Type 0 where
   pub shared : IsSharedValue w
-  pub fits : Fits w worker p
+  pub fits : WorkerPartFits w worker p
   pub fresh : p.fresh ≡ 0
   pub begun : p.begun ≡ Some b
   pub new : CanTake p.heap.chunks news
@@ -25,5 +25,5 @@ CopiedFits =
 -- a part that has just begun its collection is so
 abbrev pub BegunIsCopying : Type 0
 BegunIsCopying =
-    (w : SharedValue) (worker : ℕ) (old new : Private) (roots : List Addr) (to : ToChunks) → HasBegun old new roots to → IsSharedValue w → Fits w worker new → new.fresh ≡ 0
+    (w : SharedValue) (worker : ℕ) (old new : Private) (roots : List Addr) (to : ToChunks) → CopyingHasBegun old new roots to → IsSharedValue w → WorkerPartFits w worker new → new.fresh ≡ 0
     → IsCopying w worker new (record { roots = roots; news = map number_of to.chunks.items }) to.chunks.items

@@ -1,5 +1,5 @@
 -- What a search finds is what survives.
-use Rattle.copying_gc.proofs.Common.{◌≡◌, ℕ, suc, ◌+◌, ◌<◌, ◌≤◌, List, [], ◌∷◌, ◌++◌, length, get_or, take, fold, refl, sym, ap, ◌∙◌, subst, arith, inl, inr, Option, Some, None, Contains, ◌↔◌, length-append, All, map, append_assoc, append-nil, take_more, take_all, get_or_append_left, take-append-le, fold-append, Addr, Birth, Cell, Born, IsBorn, IsObject, ChunkValue, cell_of, IsClosed, HasObjectAt, IsSoundReference, RefersTo, Once, once_push, In, in_append_left, in_append_right, in_append_cases, contains_from_in, in_from_contains, all_from, in_read, read_in, reached_within, CallFrame, Survivor, olds, old_of, IsSurvivor, Starts, CollectorValue, found_in, all_found, visited_reference, visited_at, birth_in, IsTarget, frame_references, as_reference, with_chunks}
+use Rattle.copying_gc.proofs.Common.{◌≡◌, ℕ, suc, ◌+◌, ◌<◌, ◌≤◌, List, [], ◌∷◌, ◌++◌, length, get_or, take, fold, refl, sym, ap, ◌∙◌, subst, arith, inl, inr, Option, Some, None, Contains, ◌↔◌, length-append, All, map, append_assoc, append-nil, take_more, take_all, get_or_append_left, take-append-le, fold-append, Addr, Birth, Cell, Born, IsBorn, IsObject, ChunkValue, cell_of, HeapIsClosed, HasObjectAt, IsSoundReference, RefersTo, Once, once_push, In, in_append_left, in_append_right, in_append_cases, contains_from_in, in_from_contains, all_from, in_read, read_in, reached_within, CallFrame, Survivor, olds, old_of, IsSurvivor, CopyStarts, CollectorValue, found_in, all_found, visited_reference, visited_at, birth_in, IsTarget, frame_references, as_reference, with_chunks}
 use Rattle.object_layout.proofs.ChunkLaws as laws
 use Rattle.address_laws.proofs.Puts as puts
 use Rattle.copying_gc.proofs.FoundLemmas as marks
@@ -145,7 +145,7 @@ module _ (h : List ChunkValue) (from : List (Option Addr)) where
       → (a : Addr) → Contains (olds s.found) a ↔ IsSurvivor h from a
   found_exactly s d first closed a = (
     λ c. d.kept a (in_from_contains (olds s.found) a c),
-    λ w. contains_from_in (olds s.found) a (reached_within (Starts h from) (RefersTo h) (In (olds s.found))
+    λ w. contains_from_in (olds s.found) a (reached_within (CopyStarts h from) (RefersTo h) (In (olds s.found))
         (λ b q. first b (in_from_contains from (Some b) q.1) q.0)
         (λ m b i q. closed m b i (in_from_contains (cell_of h m).refs (Some b) q.2) q.1)
         a w),
@@ -159,7 +159,7 @@ module _ (h : List ChunkValue) (from : List (Option Addr)) where
     pub within : n ≤ length s.found
 
   pub survivor_live : (a : Addr) → IsSurvivor h from a → HasObjectAt h a
-  survivor_live a w = reached_within (Starts h from) (RefersTo h) (HasObjectAt h) (λ b q. q.0) (λ m b i q. q.1) a w
+  survivor_live a w = reached_within (CopyStarts h from) (RefersTo h) (HasObjectAt h) (λ b q. q.0) (λ m b i q. q.1) a w
 
   in_olds : (xs : List Survivor) (x : Survivor) → In xs x → In (olds xs) x.old
   in_olds [] x i = i
@@ -208,7 +208,7 @@ module _ (h : List ChunkValue) (from : List (Option Addr)) where
 
 -- ---- what calls require
 
-module _ (h : List ChunkValue) (from : List (Option Addr)) (closed : IsClosed h) (s : CollectorValue) (d : Discovered h from s) where
+module _ (h : List ChunkValue) (from : List (Option Addr)) (closed : HeapIsClosed h) (s : CollectorValue) (d : Discovered h from s) where
   pub target_now : (r : Option Addr) → IsSoundReference h r → IsTarget s.heap.chunks r
   target_now r t = subst (λ (k : List ChunkValue). IsTarget k r) (sym d.marked) (marks.found_target h (olds s.found) r (marks.sound_target h r t))
 

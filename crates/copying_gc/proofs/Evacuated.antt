@@ -1,32 +1,32 @@
 -- The old heap after the survivors are copied and all references are updated.
-use Rattle.copying_gc.proofs.Common.{◌≡◌, ℕ, ◌+◌, ◌<◌, ◌≤◌, Bool, true, false, cond, List, [], ◌∷◌, ◌++◌, length, fold, refl, sym, ap, ◌∙◌, subst, arith, inl, inr, Option, Contains, ◌↔◌, All, take, drop, nat_le, IsPermutation, take_all, drop_all, append-nil, sum_by, sum_by-cons, IsPermutation-map, IsPermutation-sym, Contains-permutation, sum_by-IsPermutation, Addr, Cell, Moved, IsObject, size_of, with_mark, ChunkValue, cell_of, IsClosed, IsSoundReference, addr_cases, Once, is_same, same_address, In, in_from_contains, contains_from_in, AreAlike, Survivor, IsSurvivor, olds, old_of, HaveNames, all_found, found_in, nothing_laid, is_moved, smalls, relocations, AreNew, laid_at, CollectorValue, copied, copied_one, followed_ref, followed_large, redirected, led_cell, IsVacated}
+use Rattle.copying_gc.proofs.Common.{◌≡◌, ℕ, ◌+◌, ◌<◌, ◌≤◌, Bool, true, false, cond, List, [], ◌∷◌, ◌++◌, length, fold, refl, sym, ap, ◌∙◌, subst, arith, inl, inr, Option, Contains, ◌↔◌, All, take, drop, nat_le, IsPermutation, take_all, drop_all, append-nil, sum_by, sum_by-cons, IsPermutation-map, IsPermutation-sym, Contains-permutation, sum_by-IsPermutation, Addr, Cell, Moved, IsObject, size_of, with_mark, ChunkValue, cell_of, HeapIsClosed, IsSoundReference, addr_cases, Once, is_same, same_address, In, in_from_contains, contains_from_in, HaveSameShape, Survivor, IsSurvivor, olds, old_of, HaveNames, all_found, found_in, nothing_laid, is_moved, smalls, relocations, AreNew, laid_at, CollectorValue, copied, copied_one, followed_ref, followed_large, redirected, led_cell, IsVacated}
 use Rattle.copying_gc.proofs.Moves as moves
 use Rattle.copying_gc.proofs.Larges as larges
 use Rattle.copying_gc.proofs.Leading as leading
 
-alike_found : (h : List ChunkValue) (xs : List Addr) → AreAlike h (all_found h xs)
+alike_found : (h : List ChunkValue) (xs : List Addr) → HaveSameShape h (all_found h xs)
 alike_found h [] = larges.alike_itself h
 alike_found h (x ∷ xs) = larges.alike_then h (found_in h x) (all_found (found_in h x) xs) (larges.alike_put h x (with_mark (cell_of h x) (Moved x)) refl) (alike_found (found_in h x) xs)
 
-alike_step : (k : CollectorValue) (s : Survivor) (b : Bool) → AreAlike k.heap.chunks (cond b (copied_one k s) k).heap.chunks
+alike_step : (k : CollectorValue) (s : Survivor) (b : Bool) → HaveSameShape k.heap.chunks (cond b (copied_one k s) k).heap.chunks
 alike_step k s true = larges.alike_put k.heap.chunks s.old (with_mark (cell_of k.heap.chunks s.old) (Moved (laid_at k.laying (size_of (cell_of k.heap.chunks s.old))))) refl
 alike_step k s false = larges.alike_itself k.heap.chunks
 
-alike_copied : (k : CollectorValue) (ss : List Survivor) → AreAlike k.heap.chunks (fold copied k ss).heap.chunks
+alike_copied : (k : CollectorValue) (ss : List Survivor) → HaveSameShape k.heap.chunks (fold copied k ss).heap.chunks
 alike_copied k [] = larges.alike_itself k.heap.chunks
 alike_copied k (s ∷ ss) = larges.alike_then k.heap.chunks (copied k s).heap.chunks (fold copied (copied k s) ss).heap.chunks (alike_step k s (is_moved k.heap.chunks s.old)) (alike_copied (copied k s) ss)
 
-module _ (h : List ChunkValue) (from : List (Option Addr)) (closed : IsClosed h) (sound : All (IsSoundReference h) from)
+module _ (h : List ChunkValue) (from : List (Option Addr)) (closed : HeapIsClosed h) (sound : All (IsSoundReference h) from)
     (ss : List Survivor) (found : List Addr) (spare : List ChunkValue)
     (kept : (a : Addr) → Contains (olds ss) a ↔ IsSurvivor h from a) (once : Once (olds ss))
     (all : (a : Addr) → In (olds ss) a → In found a) (back : (a : Addr) → In found a → In (olds ss) a)
     (names : HaveNames h ss)
     (k : CollectorValue) (k_old : k.heap.chunks ≡ all_found h found) (k_laying : k.laying ≡ nothing_laid spare) (k_moved : k.moved ≡ [])
     (new : AreNew spare) (t : CollectorValue) (is : t ≡ fold copied k ss) where
-  alike : AreAlike h (fold followed_large t.heap.chunks ss)
+  alike : HaveSameShape h (fold followed_large t.heap.chunks ss)
   alike =
       larges.alike_then h t.heap.chunks (fold followed_large t.heap.chunks ss)
-      (subst (λ (z : CollectorValue). AreAlike h z.heap.chunks) (sym is) (larges.alike_then h k.heap.chunks (fold copied k ss).heap.chunks (subst (AreAlike h) (sym k_old) (alike_found h found)) (alike_copied k ss)))
+      (subst (λ (z : CollectorValue). HaveSameShape h z.heap.chunks) (sym is) (larges.alike_then h k.heap.chunks (fold copied k ss).heap.chunks (subst (HaveSameShape h) (sym k_old) (alike_found h found)) (alike_copied k ss)))
       (larges.alike_larges t.heap.chunks ss)
 
   large : (a : Addr) → Contains (olds ss) a → is_moved h a ≡ false → cell_of (fold followed_large t.heap.chunks ss) a ≡ led_cell (redirected (relocations (nothing_laid spare) h (smalls h (olds ss)))) (with_mark (cell_of h a) (Moved a))

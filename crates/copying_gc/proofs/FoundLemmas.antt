@@ -1,5 +1,5 @@
 -- A heap with some objects marked as found.
-use Rattle.copying_gc.proofs.Common.{◌≡◌, ℕ, List, [], ◌∷◌, ◌++◌, length, refl, sym, ap, ◌∙◌, subst, arith, inl, inr, Option, Some, None, get_or, All, fold, Addr, Birth, Cell, Mark, Born, Moved, Hole, IsBorn, IsObject, with_mark, ChunkValue, cell_of, place_in, place_of, HasObjectAt, IsSoundReference, In, addr_cases, length-put, place_of-put, CollectorValue, found_in, all_found, birth_in, visited_reference, visited_at, IsTarget}
+use Rattle.copying_gc.proofs.Common.{◌≡◌, ℕ, List, [], ◌∷◌, ◌++◌, length, refl, sym, ap, ◌∙◌, subst, arith, inl, inr, Option, Some, None, get_or, All, fold, Addr, Birth, Cell, Mark, Born, Moved, Hole, IsBorn, IsObject, with_mark, ChunkValue, cell_of, place_in, chunk_position, HasObjectAt, IsSoundReference, In, addr_cases, length-put, place_of-put, CollectorValue, found_in, all_found, birth_in, visited_reference, visited_at, IsTarget}
 use Rattle.object_layout.proofs.ChunkLaws as laws
 use Rattle.address_laws.proofs.Puts as puts
 
@@ -41,7 +41,7 @@ pub found_push : (h : List ChunkValue) (xs : List Addr) (a : Addr) → all_found
 found_push h [] a = refl
 found_push h (x ∷ xs) a = found_push (found_in h x) xs a
 
-pub found_place : (h : List ChunkValue) (xs : List Addr) (n : ℕ) → place_of (all_found h xs) n ≡ place_of h n
+pub found_place : (h : List ChunkValue) (xs : List Addr) (n : ℕ) → chunk_position (all_found h xs) n ≡ chunk_position h n
 found_place h [] n = refl
 found_place h (x ∷ xs) n = found_place (found_in h x) xs n ∙ place_of-put h x (with_mark (cell_of h x) (Moved x)) n
 

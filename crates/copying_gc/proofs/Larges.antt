@@ -1,15 +1,15 @@
 -- The references of the large survivors, updated one object after another; and what keeps the shape of a heap.
-use Rattle.copying_gc.proofs.Common.{◌≡◌, Bool, true, false, cond, List, [], ◌∷◌, fold, refl, sym, ap, ◌∙◌, subst, inl, inr, eqb, Option, get_or, nat_le, cases_Bool, false≢true, Addr, Cell, IsObject, size_of, ChunkValue, cell_of, put_object, Once, map-put_cell, In, contains_from_in, in_map, AreAlike, Survivor, olds, old_of, IsTarget, is_moved, followed_ref, followed_at, followed_large, led_cell, HasTargets, CanFollow}
+use Rattle.copying_gc.proofs.Common.{◌≡◌, Bool, true, false, cond, List, [], ◌∷◌, fold, refl, sym, ap, ◌∙◌, subst, inl, inr, eqb, Option, get_or, nat_le, cases_Bool, false≢true, Addr, Cell, IsObject, size_of, ChunkValue, cell_of, put_object, Once, map-put_cell, In, contains_from_in, in_map, HaveSameShape, Survivor, olds, old_of, IsTarget, is_moved, followed_ref, followed_at, followed_large, led_cell, HasTargets, CanBeFollowed}
 use Rattle.object_layout.proofs.ChunkLaws as laws
 use Rattle.copying_gc.proofs.FollowLemmas as follows
 
 -- ---- shape
 
-pub alike_itself : (h : List ChunkValue) → AreAlike h h
+pub alike_itself : (h : List ChunkValue) → HaveSameShape h h
 alike_itself [] = tt
 alike_itself (k ∷ ks) = ((refl, refl, refl), alike_itself ks)
 
-pub alike_then : (h g e : List ChunkValue) → AreAlike h g → AreAlike g e → AreAlike h e
+pub alike_then : (h g e : List ChunkValue) → HaveSameShape h g → HaveSameShape g e → HaveSameShape h e
 alike_then [] [] [] a b = tt
 alike_then [] [] (z ∷ e) a b = b
 alike_then [] (y ∷ g) e a b = absurd a
@@ -17,7 +17,7 @@ alike_then (x ∷ h) [] e a b = absurd a
 alike_then (x ∷ h) (y ∷ g) [] a b = b
 alike_then (x ∷ h) (y ∷ g) (z ∷ e) a b = ((b.0.0 ∙ a.0.0, b.0.1 ∙ a.0.1, b.0.2 ∙ a.0.2), alike_then h g e a.1 b.1)
 
-pub alike_put : (h : List ChunkValue) (x : Addr) (c : Cell) → size_of c ≡ size_of (cell_of h x) → AreAlike h (put_object h x c)
+pub alike_put : (h : List ChunkValue) (x : Addr) (c : Cell) → size_of c ≡ size_of (cell_of h x) → HaveSameShape h (put_object h x c)
 alike_put [] x c s = tt
 alike_put (k ∷ ks) x c s =
     elim (cases_Bool (eqb k.number x.chunk)) [
@@ -43,11 +43,11 @@ followed_at_same : (g : List ChunkValue) (s : Survivor) (b : Bool) (r : Option A
 followed_at_same g s true r = refl
 followed_at_same g s false r = follows.followed_ref_put g s.old (led_cell (followed_ref g) (cell_of g s.old)) refl (follows.size_led (followed_ref g) (cell_of g s.old)) r
 
-alike_at : (g : List ChunkValue) (s : Survivor) (b : Bool) → AreAlike g (cond b g (followed_at g s.old))
+alike_at : (g : List ChunkValue) (s : Survivor) (b : Bool) → HaveSameShape g (cond b g (followed_at g s.old))
 alike_at g s true = alike_itself g
 alike_at g s false = alike_put g s.old (led_cell (followed_ref g) (cell_of g s.old)) (follows.size_led (followed_ref g) (cell_of g s.old))
 
-pub alike_larges : (g : List ChunkValue) (ss : List Survivor) → AreAlike g (fold followed_large g ss)
+pub alike_larges : (g : List ChunkValue) (ss : List Survivor) → HaveSameShape g (fold followed_large g ss)
 alike_larges g [] = alike_itself g
 alike_larges g (s ∷ ss) = alike_then g (followed_large g s) (fold followed_large (followed_large g s) ss) (alike_at g s (is_moved g s.old)) (alike_larges (followed_large g s) ss)
 
@@ -57,7 +57,7 @@ not_again s ss o t i e = o.0 (contains_from_in (olds ss) s.old (subst (In (olds 
 targets_after : (g : List ChunkValue) (s : Survivor) (c : Cell) → HasTargets g c → HasTargets (followed_large g s) c
 targets_after g s c t = (t.0, λ k d l. target_at g s (is_moved g s.old) (get_or c.refs k d) (t.1 k d l))
 
-pub can_follow : (g : List ChunkValue) (ss : List Survivor) → Once (olds ss) → ((s : Survivor) → In ss s → HasTargets g (cell_of g s.old)) → CanFollow g ss
+pub can_follow : (g : List ChunkValue) (ss : List Survivor) → Once (olds ss) → ((s : Survivor) → In ss s → HasTargets g (cell_of g s.old)) → CanBeFollowed g ss
 can_follow g [] o t = tt
 can_follow g (s ∷ ss) o t = (
   t s (inl refl),

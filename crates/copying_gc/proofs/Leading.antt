@@ -1,5 +1,5 @@
 -- References of the survivors, and their updates.
-use Rattle.copying_gc.proofs.Common.{◌≡◌, ℕ, suc, ◌+◌, ◌*◌, ◌/◌, ◌<◌, ◌≤◌, Bool, true, false, cond, List, [], ◌∷◌, ◌++◌, length, get_or, map, fold, refl, sym, ap, ◌∙◌, subst, arith, inl, inr, Option, Some, None, Contains, ◌↔◌, All, nat_lt, unwrap_or, cases_lt, lt-ltb, le-ltb, false≢true, All-cons, All-head, All-tail, Addr, Cell, Moved, IsObject, moved_to, size_of, with_mark, ChunkValue, cell_of, place_of, IsClosed, HasObjectAt, IsSoundReference, Once, In, in_from_contains, contains_from_in, in_map, in_read, Survivor, IsSurvivor, olds, old_of, HaveNames, all_found, IsTarget, Laying, is_moved, smalls, laid_all, laid_one, opened, open_next, placed_behind, room_in, relocations, nothing_laid, AreNew, HaveRoom, CollectorValue, copied, copied_one, IsReady, followed, followed_ref, new_address, redirected, led_cell, led_chunk, HasTargets}
+use Rattle.copying_gc.proofs.Common.{◌≡◌, ℕ, suc, ◌+◌, ◌*◌, ◌/◌, ◌<◌, ◌≤◌, Bool, true, false, cond, List, [], ◌∷◌, ◌++◌, length, get_or, map, fold, refl, sym, ap, ◌∙◌, subst, arith, inl, inr, Option, Some, None, Contains, ◌↔◌, All, nat_lt, unwrap_or, cases_lt, lt-ltb, le-ltb, false≢true, All-cons, All-head, All-tail, Addr, Cell, Moved, IsObject, moved_to, size_of, with_mark, ChunkValue, cell_of, chunk_position, HeapIsClosed, HasObjectAt, IsSoundReference, Once, In, in_from_contains, contains_from_in, in_map, in_read, Survivor, IsSurvivor, olds, old_of, HaveNames, all_found, IsTarget, Laying, is_moved, smalls, laid_all, laid_one, opened, open_next, placed_behind, room_in, relocations, nothing_laid, AreNew, HaveRoom, CollectorValue, copied, copied_one, CanBeCopied, followed, followed_ref, new_address, redirected, led_cell, led_chunk, HasTargets}
 use Rattle.object_layout.proofs.ChunkLaws as laws
 use Rattle.copying_gc.specs.Laid.{small_words}
 use Rattle.address_laws.proofs.Puts as puts
@@ -82,14 +82,14 @@ module _ (old : List ChunkValue) (ps : List (Addr × Addr)) where
 
 -- ---- how references are updated
 
-followed_in : (g : List ChunkValue) (a : Addr) → place_of g a.chunk < length g → followed g a ≡ moved_to (cell_of g a).mark
-followed_in g a l = rw (lt-ltb (place_of g a.chunk) (length g) l) refl
+followed_in : (g : List ChunkValue) (a : Addr) → chunk_position g a.chunk < length g → followed g a ≡ moved_to (cell_of g a).mark
+followed_in g a l = rw (lt-ltb (chunk_position g a.chunk) (length g) l) refl
 
-followed_out : (g : List ChunkValue) (a : Addr) → length g ≤ place_of g a.chunk → followed g a ≡ Some a
-followed_out g a l = rw (le-ltb (place_of g a.chunk) (length g) l) refl
+followed_out : (g : List ChunkValue) (a : Addr) → length g ≤ chunk_position g a.chunk → followed g a ≡ Some a
+followed_out g a l = rw (le-ltb (chunk_position g a.chunk) (length g) l) refl
 
 -- h: the heap; ss: the survivors in order; found: in the order in which they were found; k: before the copying
-module _ (h : List ChunkValue) (from : List (Option Addr)) (closed : IsClosed h) (sound : All (IsSoundReference h) from)
+module _ (h : List ChunkValue) (from : List (Option Addr)) (closed : HeapIsClosed h) (sound : All (IsSoundReference h) from)
     (ss : List Survivor) (found : List Addr) (spare : List ChunkValue)
     (kept : (a : Addr) → Contains (olds ss) a ↔ IsSurvivor h from a) (once : Once (olds ss))
     (all : (a : Addr) → In (olds ss) a → In found a)
@@ -99,7 +99,7 @@ module _ (h : List ChunkValue) (from : List (Option Addr)) (closed : IsClosed h)
   pub as_were : AreAs h k.heap.chunks ss
   as_were = subst (λ (old : List ChunkValue). AreAs h old ss) (sym k_old) (moves.are_as h found ss (born h ss names))
 
-  pub can_copy : HaveRoom (nothing_laid spare) h (smalls h (olds ss)) → IsReady k ss
+  pub can_copy : HaveRoom (nothing_laid spare) h (smalls h (olds ss)) → CanBeCopied k ss
   can_copy room = moves.are_ready h k ss once as_were (subst (λ (y : Laying). HaveRoom y h (smalls h (olds ss))) (sym k_laying) room)
 
   pub lives : (a : Addr) → In (olds ss) a → HasObjectAt h a
@@ -133,10 +133,10 @@ module _ (h : List ChunkValue) (from : List (Option Addr)) (closed : IsClosed h)
         ∙ (moves.copied_moved h k (small_ones h ss) small_once small_as
         ∙ (ap (λ (ps : List (Addr × Addr)). ps ++ relocations k.laying h (olds (small_ones h ss))) k_moved ∙ places_are))
 
-    place_is : (n : ℕ) → place_of t.heap.chunks n ≡ place_of h n
+    place_is : (n : ℕ) → chunk_position t.heap.chunks n ≡ chunk_position h n
     place_is n =
-        ap (λ (z : CollectorValue). place_of z.heap.chunks n) t_is ∙ (moves.copied_place h k (small_ones h ss) n
-        ∙ (ap (λ (old : List ChunkValue). place_of old n) k_old ∙ marks.found_place h found n))
+        ap (λ (z : CollectorValue). chunk_position z.heap.chunks n) t_is ∙ (moves.copied_place h k (small_ones h ss) n
+        ∙ (ap (λ (old : List ChunkValue). chunk_position old n) k_old ∙ marks.found_place h found n))
 
     length_is : length t.heap.chunks ≡ length h
     length_is =
@@ -163,7 +163,7 @@ module _ (h : List ChunkValue) (from : List (Option Addr)) (closed : IsClosed h)
         → Leads t.heap.chunks (relocations (nothing_laid spare) h (smalls h (olds ss))) r
     leads_reference None s reach = (refl, tt)
     leads_reference (Some a) s reach = (
-      elim (cases_lt (place_of h a.chunk) (length h)) [
+      elim (cases_lt (chunk_position h a.chunk) (length h)) [
         | inl l ↦
             let p = place_is a.chunk in let n = length_is in
             let i : In (olds ss) a = in_from_contains (olds ss) a ((kept a).1 (reach a refl (s l).0)) in

@@ -1,5 +1,5 @@
 -- The result of the copying.
-use Rattle.copying_gc.proofs.Common.{◌≡◌, ℕ, Bool, true, false, cond, List, [], ◌∷◌, ◌++◌, length, filter, fold, refl, sym, ap, ◌∙◌, subst, arith, inl, inr, eqb, eqb-true, Option, Some, None, nat_le, cases_Bool, and_parts, false≢true, append_assoc, append-nil, Addr, Birth, Cell, Mark, Born, Moved, IsBorn, IsObject, moved_to, size_of, with_mark, ChunkValue, cell_of, place_of, put_object, HasObjectAt, Once, is_same, new_of, same_address, In, contains_from_in, in_from_contains, in_map, addr_cases, length-put, place_of-put, Survivor, olds, old_of, all_found, found_in, IsTarget, Laying, is_moved, smalls, laid_one, laid_at, relocations, laid_all, ObjectFits, HaveRoom, CollectorValue, copied, copied_one, survivor_cell, IsReady, new_address}
+use Rattle.copying_gc.proofs.Common.{◌≡◌, ℕ, Bool, true, false, cond, List, [], ◌∷◌, ◌++◌, length, filter, fold, refl, sym, ap, ◌∙◌, subst, arith, inl, inr, eqb, eqb-true, Option, Some, None, nat_le, cases_Bool, and_parts, false≢true, append_assoc, append-nil, Addr, Birth, Cell, Mark, Born, Moved, IsBorn, IsObject, moved_to, size_of, with_mark, ChunkValue, cell_of, chunk_position, put_object, HasObjectAt, Once, is_same, new_of, same_address, In, contains_from_in, in_from_contains, in_map, addr_cases, length-put, place_of-put, Survivor, olds, old_of, all_found, found_in, IsTarget, Laying, is_moved, smalls, laid_one, laid_at, relocations, laid_all, ObjectFits, HaveRoom, CollectorValue, copied, copied_one, survivor_cell, CanBeCopied, new_address}
 use Rattle.object_layout.proofs.ChunkLaws as laws
 use Rattle.address_laws.proofs.Puts as puts
 use Rattle.copying_gc.proofs.FoundLemmas as marks
@@ -113,9 +113,9 @@ module _ (h : List ChunkValue) where
 
   -- an object that fits can be copied
   ready_step : (k : CollectorValue) (s : Survivor) (ss : List Survivor) → Once (olds (s ∷ ss)) → AreAs k.heap.chunks (s ∷ ss)
-      → ((k' : CollectorValue) → AreAs k'.heap.chunks ss → HaveRoom k'.laying h (smalls h (olds ss)) → IsReady k' ss)
+      → ((k' : CollectorValue) → AreAs k'.heap.chunks ss → HaveRoom k'.laying h (smalls h (olds ss)) → CanBeCopied k' ss)
       → (b : Bool) → is_moved h s.old ≡ b → HaveRoom k.laying h (cond b (s.old ∷ smalls h (olds ss)) (smalls h (olds ss)))
-      → (b ≡ true → ObjectFits k.laying (size_of (cell_of k.heap.chunks s.old))) × IsReady (cond b (copied_one k s) k) ss
+      → (b ≡ true → ObjectFits k.laying (size_of (cell_of k.heap.chunks s.old))) × CanBeCopied (cond b (copied_one k s) k) ss
   ready_step k s ss o as' rest true is room =
       let e = (as' s (inl refl)).0 in (
         λ _. subst (λ (c : Cell). ObjectFits k.laying (size_of c)) (sym e) room.0,
@@ -123,13 +123,13 @@ module _ (h : List ChunkValue) where
       )
   ready_step k s ss o as' rest false is room = ((λ e. absurd (false≢true e)), rest k (λ t i. as' t (inr i)) room)
 
-  pub are_ready : (k : CollectorValue) (ss : List Survivor) → Once (olds ss) → AreAs k.heap.chunks ss → HaveRoom k.laying h (smalls h (olds ss)) → IsReady k ss
+  pub are_ready : (k : CollectorValue) (ss : List Survivor) → Once (olds ss) → AreAs k.heap.chunks ss → HaveRoom k.laying h (smalls h (olds ss)) → CanBeCopied k ss
   are_ready k [] o as' room = tt
   are_ready k (s ∷ ss) o as' room =
       let same = same_small k.heap.chunks s (as' s (inl refl)).0 in
       let r = ready_step k s ss o as' (λ k' a q. are_ready k' ss o.1 a q) (is_moved h s.old) refl room in
-      let t : (is_moved k.heap.chunks s.old ≡ true → ObjectFits k.laying (size_of (cell_of k.heap.chunks s.old))) × IsReady (cond (is_moved k.heap.chunks s.old) (copied_one k s) k) ss
-      = subst (λ (b : Bool). (b ≡ true → ObjectFits k.laying (size_of (cell_of k.heap.chunks s.old))) × IsReady (cond b (copied_one k s) k) ss) (sym same) r in
+      let t : (is_moved k.heap.chunks s.old ≡ true → ObjectFits k.laying (size_of (cell_of k.heap.chunks s.old))) × CanBeCopied (cond (is_moved k.heap.chunks s.old) (copied_one k s) k) ss
+      = subst (λ (b : Bool). (b ≡ true → ObjectFits k.laying (size_of (cell_of k.heap.chunks s.old))) × CanBeCopied (cond b (copied_one k s) k) ss) (sym same) r in
       (((as' s (inl refl)).1, t.0), t.1)
 
   -- ---- by the original heap; ss are small from here on
@@ -177,7 +177,7 @@ module _ (h : List ChunkValue) where
             ∙ ap (λ (d : Cell). Some (new_address (relocations (laid_one k.laying d) h (olds ss)) a)) (as' s (inl refl)).0)
       ]
 
-  pub copied_place : (k : CollectorValue) (ss : List Survivor) (n : ℕ) → place_of (fold copied_one k ss).heap.chunks n ≡ place_of k.heap.chunks n
+  pub copied_place : (k : CollectorValue) (ss : List Survivor) (n : ℕ) → chunk_position (fold copied_one k ss).heap.chunks n ≡ chunk_position k.heap.chunks n
   copied_place k [] n = refl
   copied_place k (s ∷ ss) n = copied_place (copied_one k s) ss n ∙ place_of-put k.heap.chunks s.old (with_mark (cell_of k.heap.chunks s.old) (Moved (laid_at k.laying (size_of (cell_of k.heap.chunks s.old))))) n
 

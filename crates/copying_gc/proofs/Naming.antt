@@ -1,5 +1,5 @@
 -- Large survivors get their names back, and the heap is as specified.
-use Rattle.copying_gc.proofs.Common.{◌≡◌, ℕ, zero, suc, ◌<◌, ◌≤◌, Bool, true, false, cond, List, [], ◌∷◌, ◌++◌, length, map, filter, fold, refl, sym, ap, ◌∙◌, subst, arith, inl, inr, ◌⊎◌, Option, Some, None, is_some, nat_le, remove, not, list_any, cases_lt, false≢true, and_parts, le-leb, lt-ltb, Addr, Birth, Cell, Mark, Born, Moved, IsBorn, IsObject, no_cell, size_of, with_mark, ChunkValue, number_of, cell_at, cell_of, chunk_at, place_of, place_in, put_object, HasObjectAt, Once, same_address, AreTidy, IsTidy, none_there, In, contains_from_in, in_from_kept, in_append_cases, in_map, map_in, read_in, length-put, place_of-put, chunk_there, AreAlike, numbers, Distinct, Survivor, olds, old_of, HaveNames, led_cell, led_chunk, unreserved, reserved_of, with_birth_name, CanName, keeps}
+use Rattle.copying_gc.proofs.Common.{◌≡◌, ℕ, zero, suc, ◌<◌, ◌≤◌, Bool, true, false, cond, List, [], ◌∷◌, ◌++◌, length, map, filter, fold, refl, sym, ap, ◌∙◌, subst, arith, inl, inr, ◌⊎◌, Option, Some, None, is_some, nat_le, remove, not, list_any, cases_lt, false≢true, and_parts, le-leb, lt-ltb, Addr, Birth, Cell, Mark, Born, Moved, IsBorn, IsObject, no_cell, size_of, with_mark, ChunkValue, number_of, cell_at, cell_of, chunk_at, chunk_position, place_in, put_object, HasObjectAt, Once, same_address, AreTidy, IsTidy, none_there, In, contains_from_in, in_from_kept, in_append_cases, in_map, map_in, read_in, length-put, place_of-put, chunk_there, HaveSameShape, numbers, Distinct, Survivor, olds, old_of, HaveNames, led_cell, led_chunk, unreserved, reserved_of, with_birth_name, CanName, keeps}
 use Rattle.object_layout.proofs.ChunkLaws as laws
 use Rattle.address_laws.proofs.Puts as puts
 use Rattle.copying_gc.proofs.Larges as larges
@@ -24,7 +24,7 @@ name_other : (g : List ChunkValue) (s : Survivor) (a : Addr) (b : Bool) → (s.o
 name_other g s a true n = puts.mark_other g s.old (Born s.birth) a n
 name_other g s a false n = refl
 
-place_at : (g : List ChunkValue) (s : Survivor) (n : ℕ) (b : Bool) → place_of (cond b (put_object g s.old (with_mark (cell_of g s.old) (Born s.birth))) g) n ≡ place_of g n
+place_at : (g : List ChunkValue) (s : Survivor) (n : ℕ) (b : Bool) → chunk_position (cond b (put_object g s.old (with_mark (cell_of g s.old) (Born s.birth))) g) n ≡ chunk_position g n
 place_at g s n true = place_of-put g s.old (with_mark (cell_of g s.old) (Born s.birth)) n
 place_at g s n false = refl
 
@@ -32,17 +32,17 @@ length_at : (g : List ChunkValue) (s : Survivor) (b : Bool) → length (cond b (
 length_at g s true = length-put g s.old (with_mark (cell_of g s.old) (Born s.birth))
 length_at g s false = refl
 
-alike_at : (g : List ChunkValue) (s : Survivor) (b : Bool) → AreAlike g (cond b (put_object g s.old (with_mark (cell_of g s.old) (Born s.birth))) g)
+alike_at : (g : List ChunkValue) (s : Survivor) (b : Bool) → HaveSameShape g (cond b (put_object g s.old (with_mark (cell_of g s.old) (Born s.birth))) g)
 alike_at g s true = larges.alike_put g s.old (with_mark (cell_of g s.old) (Born s.birth)) refl
 alike_at g s false = larges.alike_itself g
 
-place_named : (g : List ChunkValue) (s : Survivor) (n : ℕ) → place_of (with_birth_name g s) n ≡ place_of g n
+place_named : (g : List ChunkValue) (s : Survivor) (n : ℕ) → chunk_position (with_birth_name g s) n ≡ chunk_position g n
 place_named g s n = place_at g s n (is_some (place_in g s.old.chunk))
 
 length_named : (g : List ChunkValue) (s : Survivor) → length (with_birth_name g s) ≡ length g
 length_named g s = length_at g s (is_some (place_in g s.old.chunk))
 
-pub alike_names : (g : List ChunkValue) (ss : List Survivor) → AreAlike g (fold with_birth_name g ss)
+pub alike_names : (g : List ChunkValue) (ss : List Survivor) → HaveSameShape g (fold with_birth_name g ss)
 alike_names g [] = larges.alike_itself g
 alike_names g (s ∷ ss) = larges.alike_then g (with_birth_name g s) (fold with_birth_name (with_birth_name g s) ss) (alike_at g s (is_some (place_in g s.old.chunk))) (alike_names (with_birth_name g s) ss)
 
@@ -50,20 +50,20 @@ pub names_other : (g : List ChunkValue) (ss : List Survivor) (a : Addr) → (In 
 names_other g [] a n = refl
 names_other g (s ∷ ss) a n = names_other (with_birth_name g s) ss a (λ i. n (inr i)) ∙ name_other g s a (is_some (place_in g s.old.chunk)) (λ e. n (inl e))
 
-pub names_nowhere : (g : List ChunkValue) (ss : List Survivor) (a : Addr) → length g ≤ place_of g a.chunk → cell_of (fold with_birth_name g ss) a ≡ no_cell
+pub names_nowhere : (g : List ChunkValue) (ss : List Survivor) (a : Addr) → length g ≤ chunk_position g a.chunk → cell_of (fold with_birth_name g ss) a ≡ no_cell
 names_nowhere g [] a l = laws.cell_of-none g a l
 names_nowhere g (s ∷ ss) a l =
     let p = place_named g s a.chunk in let n = length_named g s in
     names_nowhere (with_birth_name g s) ss a (omega arith)
 
-owned_test : (g : List ChunkValue) (n : ℕ) → place_of g n < length g → is_some (place_in g n) ≡ true
-owned_test g n l = rw (lt-ltb (place_of g n) (length g) l) refl
+owned_test : (g : List ChunkValue) (n : ℕ) → chunk_position g n < length g → is_some (place_in g n) ≡ true
+owned_test g n l = rw (lt-ltb (chunk_position g n) (length g) l) refl
 
 name_here : (g : List ChunkValue) (s : Survivor) (b : Bool) → b ≡ true → IsObject (cell_of g s.old).mark → cell_of (cond b (put_object g s.old (with_mark (cell_of g s.old) (Born s.birth))) g) s.old ≡ with_mark (cell_of g s.old) (Born s.birth)
 name_here g s true e o = laws.cell_of-put_same g s.old (with_mark (cell_of g s.old) (Born s.birth)) o
 name_here g s false e o = absurd (false≢true e)
 
-pub names_same : (g : List ChunkValue) (ss : List Survivor) → Once (olds ss) → (s : Survivor) → In ss s → place_of g s.old.chunk < length g → IsObject (cell_of g s.old).mark
+pub names_same : (g : List ChunkValue) (ss : List Survivor) → Once (olds ss) → (s : Survivor) → In ss s → chunk_position g s.old.chunk < length g → IsObject (cell_of g s.old).mark
     → cell_of (fold with_birth_name g ss) s.old ≡ with_mark (cell_of g s.old) (Born s.birth)
 names_same g [] o s i l ob = absurd i
 names_same g (t ∷ ss) o s (inl e) l ob =
@@ -76,7 +76,7 @@ names_same g (t ∷ ss) o s (inr i) l ob =
     let p = place_named g t s.old.chunk in let m = length_named g t in
     names_same (with_birth_name g t) ss o.1 s i (omega arith) (subst (λ (c : Cell). IsObject c.mark) (sym there) ob) ∙ ap (λ (c : Cell). with_mark c (Born s.birth)) there
 
-pub can_name : (g : List ChunkValue) (ss : List Survivor) → Once (olds ss) → ((s : Survivor) → In ss s → place_of g s.old.chunk < length g → IsObject (cell_of g s.old).mark) → CanName g ss
+pub can_name : (g : List ChunkValue) (ss : List Survivor) → Once (olds ss) → ((s : Survivor) → In ss s → chunk_position g s.old.chunk < length g → IsObject (cell_of g s.old).mark) → CanName g ss
 can_name g [] o t = tt
 can_name g (s ∷ ss) o t = (
   (λ e. t s (inl refl) (puts.owned g s.old.chunk e)),
@@ -89,7 +89,7 @@ can_name g (s ∷ ss) o t = (
 
 -- ---- the whole
 
-owned_in : (ks : List ChunkValue) (n : ℕ) → place_of ks n < length ks → In (numbers ks) n
+owned_in : (ks : List ChunkValue) (n : ℕ) → chunk_position ks n < length ks → In (numbers ks) n
 owned_in ks n l =
     elim (extent.in_numbers (numbers ks) n) [
       | inl i ↦ i
@@ -249,7 +249,7 @@ module _ (h : List ChunkValue) (ss : List Survivor) (f : Option Addr → Option 
             let e = first_only k p.0 p.1 a q j in
             let u = map_in old_of ss a j in
             let s : Survivor = u.0 in
-            let owned : place_of Now a.chunk < length Now = elim (cases_lt (place_of Now a.chunk) (length Now)) [
+            let owned : chunk_position Now a.chunk < length Now = elim (cases_lt (chunk_position Now a.chunk) (length Now)) [
               | inl l ↦ l
               | inr l ↦ let z = ap (λ (c : Cell). c.mark) (sym (now_marked a k j i e) ∙ laws.cell_of-none Now a l) in absurd cc
             ] in
@@ -258,7 +258,7 @@ module _ (h : List ChunkValue) (ss : List Survivor) (f : Option Addr → Option 
             ap (λ (c : Cell). c.mark) (sym (extent.chunk_there h k d p.0 (first_of k) refl) ∙ ap (cell_of h) (sym e)) ∙ (ap (λ (x : Addr). (cell_of h x).mark) (sym u.2) ∙ born h ss names s u.1) in
             let step : cell_of (fold with_birth_name Now ss) a ≡ with_mark (cell_of Now a) (Born s.birth) =
             subst (λ (x : Addr). cell_of (fold with_birth_name Now ss) x ≡ with_mark (cell_of Now x) (Born s.birth)) u.2
-            (names_same Now ss once s u.1 (subst (λ (x : Addr). place_of Now x.chunk < length Now) (sym u.2) owned) (subst (λ (x : Addr). IsObject (cell_of Now x).mark) (sym u.2) object)) in
+            (names_same Now ss once s u.1 (subst (λ (x : Addr). chunk_position Now x.chunk < length Now) (sym u.2) owned) (subst (λ (x : Addr). IsObject (cell_of Now x).mark) (sym u.2) object)) in
             let right : cell_of Goal a ≡ led_cell f (cell_at k.cells 0) =
             goal_kept a out k i q ∙ (ap (λ (o : ℕ). cell_at (led_chunk f k).cells o) (ap (λ (x : Addr). x.offset) e)
             ∙ ap (λ (cs : List Cell). cell_at (map (led_cell f) cs) 0) (kept_alone k p.0 p.1).0) in
@@ -289,7 +289,7 @@ module _ (h : List ChunkValue) (ss : List Survivor) (f : Option Addr → Option 
       still : (b : Addr) → (In (numbers (filter (keeps ss) (unreserved h r))) b.chunk → ⊥) → cell_of (fold with_birth_name Now ss) b ≡ cell_of Now b
       still b n =
           elim (puts.in_or_not (olds ss) b) [
-            | inl j ↦ elim (cases_lt (place_of Now b.chunk) (length Now)) [
+            | inl j ↦ elim (cases_lt (chunk_position Now b.chunk) (length Now)) [
               | inl l ↦
                   let k = locate b j (owned_in Now b.chunk l) in
                   absurd (n (subst (λ (x : Addr). In (numbers (filter (keeps ss) (unreserved h r))) x.chunk) (sym k.1.1) (extent.number_there (filter (keeps ss) (unreserved h r)) k.0 k.1.0)))
@@ -304,21 +304,21 @@ module _ (h : List ChunkValue) (ss : List Survivor) (f : Option Addr → Option 
   sizes_marked [] m = refl
   sizes_marked (c ∷ cs) m = ap (λ (ns : List ℕ). size_of (led_cell f c) ∷ ns) (sizes_marked cs m)
 
-  alike_marked : (ks : List ChunkValue) → AreAlike (map (marked_chunk ss f) ks) (map (led_chunk f) ks)
+  alike_marked : (ks : List ChunkValue) → HaveSameShape (map (marked_chunk ss f) ks) (map (led_chunk f) ks)
   alike_marked [] = tt
   alike_marked (k ∷ ks) = ((refl, refl, sizes_marked k.cells (Moved (first_of k))), alike_marked ks)
 
-  alike_append : (xs ys zs : List ChunkValue) → AreAlike xs ys → AreAlike (xs ++ zs) (ys ++ zs)
+  alike_append : (xs ys zs : List ChunkValue) → HaveSameShape xs ys → HaveSameShape (xs ++ zs) (ys ++ zs)
   alike_append [] [] zs a = larges.alike_itself zs
   alike_append [] (y ∷ ys) zs a = absurd a
   alike_append (x ∷ xs) [] zs a = absurd a
   alike_append (x ∷ xs) (y ∷ ys) zs a = (a.0, alike_append xs ys zs a.1)
 
-  alike_behind : (zs xs ys : List ChunkValue) → AreAlike xs ys → AreAlike (zs ++ xs) (zs ++ ys)
+  alike_behind : (zs xs ys : List ChunkValue) → HaveSameShape xs ys → HaveSameShape (zs ++ xs) (zs ++ ys)
   alike_behind [] xs ys a = a
   alike_behind (z ∷ zs) xs ys a = ((refl, refl, refl), alike_behind zs xs ys a)
 
-  alike_back : (xs ys : List ChunkValue) → AreAlike xs ys → AreAlike ys xs
+  alike_back : (xs ys : List ChunkValue) → HaveSameShape xs ys → HaveSameShape ys xs
   alike_back [] [] a = tt
   alike_back [] (y ∷ ys) a = absurd a
   alike_back (x ∷ xs) [] a = absurd a
@@ -349,7 +349,7 @@ module _ (h : List ChunkValue) (ss : List Survivor) (f : Option Addr → Option 
   pub named_is_goal : fold with_birth_name Now ss ≡ Goal
   named_is_goal =
       let kept = filter (keeps ss) (unreserved h r) in
-      let shape : AreAlike (fold with_birth_name Now ss) Goal =
+      let shape : HaveSameShape (fold with_birth_name Now ss) Goal =
       larges.alike_then (fold with_birth_name Now ss) Now Goal (alike_back Now (fold with_birth_name Now ss) (alike_names Now ss))
       (alike_behind laid (map (marked_chunk ss f) kept ++ reserved_of h r) (map (led_chunk f) kept ++ reserved_of h r)
       (alike_append (map (marked_chunk ss f) kept) (map (led_chunk f) kept) (reserved_of h r) (alike_marked kept))) in

@@ -1,5 +1,5 @@
 -- Heaps that hold only small objects, by their counts.
-use Rattle.copying_gc.proofs.Common.{◌≡◌, ℕ, zero, suc, ◌-◌, ◌≤◌, List, [], ◌∷◌, fold, refl, subst, arith, inl, inr, eqb, cases_Bool, cases_lt, le-leb, lt-leb, Addr, Born, Cell, Hole, IsObject, Mark, Moved, size_of, ChunkValue, cell_at, cell_of, object_words_in, held_size, held_words, small_part, small_words, sum_in, Survivor, followed_large, CanFollow}
+use Rattle.copying_gc.proofs.Common.{◌≡◌, ℕ, zero, suc, ◌-◌, ◌≤◌, List, [], ◌∷◌, fold, refl, subst, arith, inl, inr, eqb, cases_Bool, cases_lt, le-leb, lt-leb, Addr, Born, Cell, Hole, IsObject, Mark, Moved, size_of, ChunkValue, cell_at, cell_of, object_words_in, held_size, held_words, small_part, small_words, sum_in, Survivor, followed_large, CanBeFollowed}
 
 part_le : (n : ℕ) → small_part n ≤ n
 part_le n =
@@ -60,9 +60,9 @@ small_at (k ∷ ks) a e o =
     ]
 
 -- without large objects, none is updated in place
-pub none_led : (ks : List ChunkValue) (ss : List Survivor) → small_words ks ≡ held_words ks → CanFollow ks ss → fold followed_large ks ss ≡ ks
+pub none_led : (ks : List ChunkValue) (ss : List Survivor) → small_words ks ≡ held_words ks → CanBeFollowed ks ss → fold followed_large ks ss ≡ ks
 none_led ks [] e h = refl
 none_led ks (s ∷ ss) e h =
     let small = le-leb (size_of (cell_of ks s.old)) 1024 (small_at ks s.old e h.0.0) in
     let same : followed_large ks s ≡ ks = rw small refl in
-    rw same (none_led ks ss e (subst (λ (g : List ChunkValue). CanFollow g ss) same h.1))
+    rw same (none_led ks ss e (subst (λ (g : List ChunkValue). CanBeFollowed g ss) same h.1))

@@ -1,5 +1,5 @@
 -- The relocation list is sorted by the old addresses.
-use Rattle.copying_gc.proofs.Common.{◌≡◌, ℕ, zero, suc, ◌+◌, ◌<◌, ◌≤◌, false, List, [], ◌∷◌, length, get_or, map, refl, sym, ap, subst, arith, inl, inr, eq-eqb, is_lt, nat_cmp, All, Option, Some, ordering_then, Ordering, IsPermutation, IsPermutation-map, IsPermutation-sym, Contains-permutation, cases_lt, lt-ltb, le-ltb, false≢true, Addr, ChunkValue, cell_of, IsClosed, HasObjectAt, IsSoundReference, RefersTo, Once, AreInOrder, In, contains_from_in, in_from_contains, read_in, reached_within, live_chunk, IsSurvivor, Starts, Laying, laid_one, relocations, address_key}
+use Rattle.copying_gc.proofs.Common.{◌≡◌, ℕ, zero, suc, ◌+◌, ◌<◌, ◌≤◌, false, List, [], ◌∷◌, length, get_or, map, refl, sym, ap, subst, arith, inl, inr, eq-eqb, is_lt, nat_cmp, All, Option, Some, ordering_then, Ordering, IsPermutation, IsPermutation-map, IsPermutation-sym, Contains-permutation, cases_lt, lt-ltb, le-ltb, false≢true, Addr, ChunkValue, cell_of, HeapIsClosed, HasObjectAt, IsSoundReference, RefersTo, Once, AreAscending, In, contains_from_in, in_from_contains, read_in, reached_within, live_chunk, IsSurvivor, CopyStarts, Laying, laid_one, relocations, address_key}
 use Rattle.copying_gc.proofs.Evacuated.{once_sorted}
 
 abbrev pub first_in : Addr × Addr → Addr
@@ -62,7 +62,7 @@ rising_tail : (m : Addr × Addr) (ms : List (Addr × Addr)) → Rising (m ∷ ms
 rising_tail m [] r = tt
 rising_tail m (n ∷ ms) r = r.1
 
-pub in_order : (ms : List (Addr × Addr)) → Rising ms → AreInOrder ms
+pub in_order : (ms : List (Addr × Addr)) → Rising ms → AreAscending ms
 in_order [] r i j d l m = absurd (omega arith)
 in_order (x ∷ xs) r i zero d l m = absurd (omega arith)
 in_order (x ∷ xs) r zero (suc j) d l m = above x xs r j d (omega arith)
@@ -77,16 +77,16 @@ in_first [] m i = i
 in_first (x ∷ xs) m (inl e) = inl (ap first_in e)
 in_first (x ∷ xs) m (inr i) = inr (in_first xs m i)
 
-pub moved_in_order : (y : Laying) (h : List ChunkValue) (xs : List Addr) (ms : List (Addr × Addr)) → IsPermutation (relocations y h xs) ms → AreSorted ms → Once xs → ((a : Addr) → In xs a → a.offset < 1024) → AreInOrder ms
+pub moved_in_order : (y : Laying) (h : List ChunkValue) (xs : List Addr) (ms : List (Addr × Addr)) → IsPermutation (relocations y h xs) ms → AreSorted ms → Once xs → ((a : Addr) → In xs a → a.offset < 1024) → AreAscending ms
 moved_in_order y h xs ms p sorted o s =
     let q : IsPermutation xs (map first_in ms) = subst (λ (zs : List Addr). IsPermutation zs (map first_in ms)) (firsts y h xs) (IsPermutation-map first_in (relocations y h xs) ms p) in
     in_order ms (rising ms sorted (once_sorted xs (map first_in ms) q o)
     (λ m i. s m.0 (in_from_contains xs m.0 (Contains-permutation (map first_in ms) xs m.0 (IsPermutation-sym xs (map first_in ms) q) (contains_from_in (map first_in ms) m.0 (in_first ms m i))))))
 
 -- a survivor has an address that a reference can hold
-pub survivor_place : (h : List ChunkValue) (from : List (Option Addr)) → IsClosed h → All (IsSoundReference h) from → (a : Addr) → IsSurvivor h from a → a.offset < 1024
+pub survivor_place : (h : List ChunkValue) (from : List (Option Addr)) → HeapIsClosed h → All (IsSoundReference h) from → (a : Addr) → IsSurvivor h from a → a.offset < 1024
 survivor_place h from closed sound a w =
-    (reached_within (Starts h from) (RefersTo h) (λ (b : Addr). HasObjectAt h b × (b.offset < 1024))
+    (reached_within (CopyStarts h from) (RefersTo h) (λ (b : Addr). HasObjectAt h b × (b.offset < 1024))
     (λ b q. (q.0, (read_in (IsSoundReference h) from (Some b) (in_from_contains from (Some b) q.1) sound (live_chunk h b q.0)).1))
     (λ m b p q. (q.1, (read_in (IsSoundReference h) (cell_of h m).refs (Some b) (in_from_contains (cell_of h m).refs (Some b) q.2) (closed m p.0) (live_chunk h b q.1)).1))
     a w).1

@@ -1,5 +1,5 @@
 -- What is read of an object of the heap in its chunk.
-use Rattle.copying_gc.proofs.Common.{◌≡◌, ℕ, ◌<◌, List, length, Some, refl, sym, ◌∙◌, subst, lt-ltb, Addr, Cell, IsObject, moved_to, ChunkValue, cell_of, place_in, place_of, cell_at, object_at, followed, IsTarget}
+use Rattle.copying_gc.proofs.Common.{◌≡◌, ℕ, ◌<◌, List, length, Some, refl, sym, ◌∙◌, subst, lt-ltb, Addr, Cell, IsObject, moved_to, ChunkValue, cell_of, place_in, chunk_position, cell_at, object_at, followed, IsTarget}
 use Rattle.object_layout.proofs.PlaceLemmas as place
 use Rattle.leaf_heap.proofs.HeapLemmas as heaps
 
@@ -17,4 +17,4 @@ target_object ks a i e t =
 pub followed_in : (ks : List ChunkValue) (a : Addr) (i : ℕ) → place_in ks a.chunk ≡ Some i → followed ks a ≡ moved_to (cell_of ks a).mark
 followed_in ks a i e =
     let found = heaps.place_found ks a.chunk i e in
-    rw (lt-ltb (place_of ks a.chunk) (length ks) (subst (λ (n : ℕ). n < length ks) found.0 found.1)) refl
+    rw (lt-ltb (chunk_position ks a.chunk) (length ks) (subst (λ (n : ℕ). n < length ks) found.0 found.1)) refl

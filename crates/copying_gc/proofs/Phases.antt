@@ -1,5 +1,5 @@
 -- What each phase of an evacuation leaves to the next.
-use Rattle.copying_gc.proofs.Common.{◌≡◌, List, [], map, fold, sym, ap, ◌∙◌, subst, Option, Contains, ◌↔◌, All, IsDistinct, IsPermutation, IsSorted, All-permutation, Addr, Born, ChunkValue, cell_of, IsClosed, IsSoundReference, Once, distinct_from, once_from, LeafHeapValue, In, FramesValue, frames_of, Survivor, as_reference, frame_references, olds, outside, survivor_order, with_chunks, HaveNames, IsSurvivor, CollectorValue, all_found, IsTarget, Laying, nothing_laid, relocations, smalls, copied, IsReady, followed_ref, followed_large, led_chunk, led_frame, CanFollow, HasTargets, laying_of, moves_of, redirection, AreSurvivors, IsVacated, CollectorBegins, IsEvacuated}
+use Rattle.copying_gc.proofs.Common.{◌≡◌, List, [], map, fold, sym, ap, ◌∙◌, subst, Option, Contains, ◌↔◌, All, IsDistinct, IsPermutation, IsSorted, All-permutation, Addr, Born, ChunkValue, cell_of, HeapIsClosed, IsSoundReference, Once, distinct_from, once_from, LeafHeapValue, In, FramesValue, frames_of, Survivor, as_reference, frame_references, olds, outside, survivor_order, with_chunks, HaveNames, IsSurvivor, CollectorValue, all_found, IsTarget, Laying, nothing_laid, relocations, smalls, copied, CanBeCopied, followed_ref, followed_large, led_chunk, led_frame, CanBeFollowed, HasTargets, laying_of, moves_of, redirection, AreSurvivors, IsVacated, CollectorBegins, IsEvacuated}
 use Rattle.object_layout.specs.Chunks.{same_address}
 use Rattle.copying_gc.proofs.Evacuated as evacuated
 use Rattle.copying_gc.proofs.FrameLemmas as frames
@@ -18,7 +18,7 @@ pub record AreFound (b : CollectorValue) (from : List (Option Addr)) (d s : Coll
   pub permuted : IsPermutation d.found s.found
   pub ordered : IsSorted survivor_order s.found
 
-module _ (b : CollectorValue) (from : List (Option Addr)) (closed : IsClosed b.heap.chunks) (sound : All (IsSoundReference b.heap.chunks) from) (d s : CollectorValue) (are : AreFound b from d s) where
+module _ (b : CollectorValue) (from : List (Option Addr)) (closed : HeapIsClosed b.heap.chunks) (sound : All (IsSoundReference b.heap.chunks) from) (d s : CollectorValue) (are : AreFound b from d s) where
   kept : (a : Addr) → Contains (olds s.found) a ↔ IsSurvivor b.heap.chunks from a
   kept = evacuated.kept_sorted (IsSurvivor b.heap.chunks from) d.found s.found are.permuted are.exactly
 
@@ -47,7 +47,7 @@ module _ (b : CollectorValue) (from : List (Option Addr)) (closed : IsClosed b.h
       ap (λ (z : CollectorValue). z.heap) are.rest ∙ (ap (λ (z : CollectorValue). z.heap) are.marked
       ∙ ap (with_chunks b.heap) (sym marks))
 
-  pub can_copy : IsReady s s.found
+  pub can_copy : CanBeCopied s s.found
   can_copy =
       leading.can_copy b.heap.chunks from closed sound s.found (olds d.found) b.laying.spare kept once all names s marks none_laid none_moved are.begins.new
       (leading.enough b.heap.chunks from closed sound s.found (olds d.found) b.laying.spare kept once all names s marks none_laid none_moved are.begins.new are.begins.enough)
@@ -68,8 +68,8 @@ module _ (b : CollectorValue) (from : List (Option Addr)) (closed : IsClosed b.h
     pub from_led : All (λ r. followed_ref t.heap.chunks r ≡ redirection b.heap.chunks s.found b.laying.spare r) from
     from_led = λ j x l. (leads j x l).0
 
-    pub can_follow : CanFollow t.heap.chunks t.found
-    can_follow = subst (CanFollow t.heap.chunks) (sym stay)
+    pub can_follow : CanBeFollowed t.heap.chunks t.found
+    can_follow = subst (CanBeFollowed t.heap.chunks) (sym stay)
         (larges.can_follow t.heap.chunks s.found once (leading.target_refs b.heap.chunks from closed sound s.found (olds d.found) b.laying.spare kept once all names s marks none_laid none_moved are.begins.new t is))
 
     -- of the heap, only the objects change
@@ -95,7 +95,7 @@ module _ (b : CollectorValue) (from : List (Option Addr)) (closed : IsClosed b.h
   survivors = record { exactly = kept; once = distinct_from (olds s.found) once; names = names; order = are.ordered }
 
 -- t: after the copying; u: with the references of the new chunks updated; e: with those of large survivors updated
-module _ (b : CollectorValue) (fs : FramesValue) (roots : List Addr) (closed : IsClosed b.heap.chunks) (sound : All (IsSoundReference b.heap.chunks) (outside fs roots)) (d s : CollectorValue) (are : AreFound b (outside fs roots) d s)
+module _ (b : CollectorValue) (fs : FramesValue) (roots : List Addr) (closed : HeapIsClosed b.heap.chunks) (sound : All (IsSoundReference b.heap.chunks) (outside fs roots)) (d s : CollectorValue) (are : AreFound b (outside fs roots) d s)
     (t : CollectorValue) (is : t ≡ fold copied s s.found)
     (u : CollectorValue) (u_is : u ≡ record t { laying = record t.laying { laid = map (led_chunk (followed_ref t.heap.chunks)) t.laying.laid } })
     (gs : FramesValue) (g_is : frames_of gs ≡ map (led_frame (followed_ref u.heap.chunks)) (frames_of fs))

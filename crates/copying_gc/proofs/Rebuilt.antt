@@ -1,5 +1,5 @@
 -- The chunks that stay: those of large survivors, unchanged except for their references.
-use Rattle.copying_gc.proofs.Common.{◌≡◌, ℕ, zero, suc, ◌<◌, Bool, true, false, cond, List, [], ◌∷◌, length, map, filter, refl, sym, ap, ◌∙◌, subst, arith, inl, inr, Option, Some, None, Contains, All, is_some, nat_le, remove, not, ◌&&◌, list_any, cases_Bool, cases_lt, false≢true, le-leb, All-head, All-tail, Addr, Cell, Moved, moved_to, size_of, with_mark, ChunkValue, cell_at, cell_of, chunk_at, is_same, AreTidy, IsReserved, IsTidy, same_address, In, contains_from_in, in_from_contains, AreAlike, numbers, Distinct, Survivor, olds, is_moved, led_cell, emptied, goes, stays, unreserved, reserved_of, keeps, leaves}
+use Rattle.copying_gc.proofs.Common.{◌≡◌, ℕ, zero, suc, ◌<◌, Bool, true, false, cond, List, [], ◌∷◌, length, map, filter, refl, sym, ap, ◌∙◌, subst, arith, inl, inr, Option, Some, None, Contains, All, is_some, nat_le, remove, not, ◌&&◌, list_any, cases_Bool, cases_lt, false≢true, le-leb, All-head, All-tail, Addr, Cell, Moved, moved_to, size_of, with_mark, ChunkValue, cell_at, cell_of, chunk_at, is_same, AreTidy, IsReserved, IsTidy, same_address, In, contains_from_in, in_from_contains, HaveSameShape, numbers, Distinct, Survivor, olds, is_moved, led_cell, emptied, goes, stays, unreserved, reserved_of, keeps, leaves}
 use Rattle.address_laws.proofs.Puts as puts
 use Rattle.copying_gc.proofs.Moves as moves
 use Rattle.address_laws.proofs.Extent as extent
@@ -122,7 +122,7 @@ module _ (ss : List Survivor) (f : Option Addr → Option Addr) where
   ArePairs (k ∷ ks) [] = ⊥
   ArePairs (k ∷ ks) (l ∷ ls) = IsPair k l × ArePairs ks ls
 
-  pub pairs : (hs gs : List ChunkValue) → AreAlike hs gs → AreTidy hs → Distinct (numbers hs) → VacatedIn hs gs → ArePairs hs gs
+  pub pairs : (hs gs : List ChunkValue) → HaveSameShape hs gs → AreTidy hs → Distinct (numbers hs) → VacatedIn hs gs → ArePairs hs gs
   pairs [] [] a t d left = tt
   pairs [] (l ∷ ls) a t d left = absurd a
   pairs (k ∷ ks) [] a t d left = absurd a
@@ -181,7 +181,7 @@ no_cells : (cs : List Cell) → map size_of cs ≡ [] → cs ≡ []
 no_cells [] e = refl
 no_cells (c ∷ cs) e = absurd cc
 
-reserved_at : (h g : List ChunkValue) (i : ℕ) → AreAlike h g → (chunk_at g i).cells ≡ [] → chunk_at g i ≡ chunk_at h i
+reserved_at : (h g : List ChunkValue) (i : ℕ) → HaveSameShape h g → (chunk_at g i).cells ≡ [] → chunk_at g i ≡ chunk_at h i
 reserved_at [] [] i a e = refl
 reserved_at [] (l ∷ ls) i a e = absurd a
 reserved_at (k ∷ ks) [] i a e = absurd a
@@ -199,6 +199,6 @@ pub none_at : (ks : List ChunkValue) (o : Option ℕ) → IsReserved ks o → No
 none_at ks None w = tt
 none_at ks (Some i) w = w.1.1
 
-pub reserved_same : (h g : List ChunkValue) (r : Option ℕ) → AreAlike h g → NoneThere g r → reserved_of g r ≡ reserved_of h r
+pub reserved_same : (h g : List ChunkValue) (r : Option ℕ) → HaveSameShape h g → NoneThere g r → reserved_of g r ≡ reserved_of h r
 reserved_same h g None a e = refl
 reserved_same h g (Some i) a e = ap (λ (k : ChunkValue). k ∷ []) (reserved_at h g i a e)

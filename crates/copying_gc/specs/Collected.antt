@@ -2,7 +2,7 @@
 use Rattle.std.specs.Prelude.{◌≡◌, ◌+◌, ◌↔◌, ◌&&◌, Bool, false, List, ◌++◌, Option, Contains, filter, length, map, nat_le, not, reverse}
 use Rattle.std.specs.List.{IsDistinct, list_any}
 use Rattle.std.specs.List.Sorted.{IsSorted}
-use Rattle.copying_gc.specs.Common.{Addr, Moved, size_of, with_mark, chunk_words, ChunkValue, cell_at, cell_of, LeafHeapValue, same_address, AreAlike}
+use Rattle.copying_gc.specs.Common.{Addr, Moved, size_of, with_mark, chunk_words, ChunkValue, cell_at, cell_of, LeafHeapValue, same_address, HaveSameShape}
 use Rattle.copying_gc.specs.declared.lists.Survivor.{Survivor}
 use Rattle.copying_gc.specs.Survivors.{HaveNames, IsSurvivor, olds, survivor_order}
 use Rattle.copying_gc.specs.Laid.{Laying, nothing_laid, is_moved, laid_all, relocations, smalls}
@@ -32,7 +32,7 @@ redirection h ss news = redirected (moves_of h ss news)
 
 -- a large survivor is where it was, marked as found, with its references updated; what doesn't survive is unchanged
 pub record IsVacated (h g : List ChunkValue) (ss : List Addr) (f : Option Addr → Option Addr) : Type 0 where
-  pub alike : AreAlike h g
+  pub alike : HaveSameShape h g
   pub large : (a : Addr) → Contains ss a → is_moved h a ≡ false → cell_of g a ≡ led_cell f (with_mark (cell_of h a) (Moved a))
   pub others : (a : Addr) → (Contains ss a → ⊥) → cell_of g a ≡ cell_of h a
 

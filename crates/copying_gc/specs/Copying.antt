@@ -27,8 +27,8 @@ abbrev pub copied : CollectorValue → Survivor → CollectorValue
 copied c s = if is_moved c.heap.chunks s.old then copied_one c s else c
 
 -- each of these is in the old heap, and fits if it is small
-abbrev pub IsReady : CollectorValue → List Survivor → Type 0
-IsReady c [] = Unit {0}
-IsReady c (s ∷ ss) =
+abbrev pub CanBeCopied : CollectorValue → List Survivor → Type 0
+CanBeCopied c [] = Unit {0}
+CanBeCopied c (s ∷ ss) =
     (IsObject (cell_of c.heap.chunks s.old).mark × (is_moved c.heap.chunks s.old ≡ true → ObjectFits c.laying (size_of (cell_of c.heap.chunks s.old))))
-    × IsReady (copied c s) ss
+    × CanBeCopied (copied c s) ss

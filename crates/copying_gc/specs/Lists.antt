@@ -1,7 +1,7 @@
 -- The arguments of a collection, and its result.
 use Rattle.std.specs.Prelude.{◌≡◌, ℕ, ◌+◌, ◌≤◌, List, [], length, map, reverse, vec_capacity}
 use Rattle.std.specs.List.Sorted.{IsPermutation}
-use Rattle.copying_gc.specs.Common.{Addr, ChunkValue, held_words, LeafHeapValue, with_places, FramesValue, frames_of, AreInOrder}
+use Rattle.copying_gc.specs.Common.{Addr, ChunkValue, held_words, LeafHeapValue, with_places, FramesValue, frames_of, AreAscending}
 use Rattle.copying_gc.specs.declared.lists.Moved.{Moved}
 use Rattle.copying_gc.specs.declared.lists.Survivor.{Survivor}
 use Rattle.copying_gc.specs.declared.lists.ToChunks.{ToChunks}
@@ -11,7 +11,7 @@ use Rattle.copying_gc.specs.Exchanged.{counted32, unit_count}
 use Rattle.copying_gc.specs.Collected.{AreSurvivors, back_of, collected, laid_of, moves_of, redirection}
 
 -- empty lists with capacity for all objects and chunks of a heap, and for that many new chunks
-pub record AreReserved (h : LeafHeapValue) (chunks : ℕ) (to : ToChunks) : Type 0 where
+pub record HasReservedLists (h : LeafHeapValue) (chunks : ℕ) (to : ToChunks) : Type 0 where
   pub found : to.found.items ≡ []
   pub found_room : live_count h.chunks ≤ vec_capacity to.found
   pub moved : to.lists.moved.items ≡ []
@@ -29,7 +29,7 @@ pub record IsCollected (h : LeafHeapValue) (s : FramesValue) (roots : List Addr)
   pub heap : new ≡ with_places (collected h survivors (reverse news)) new.slots new.spare
   pub frames : frames_of t ≡ map (led_frame (redirection h.chunks survivors (reverse news))) (frames_of s)
   pub moved : IsPermutation (moves_of h.chunks survivors (reverse news)) out.moved.items
-  pub order : AreInOrder out.moved.items
+  pub order : AreAscending out.moved.items
   pub taken : out.taken ≡ counted32 (length (laid_of h survivors (reverse news)))
   pub given : out.given ≡ counted32 (unit_count out.back.items)
   pub left : out.left ≡ counted32 (held_words new.chunks)

@@ -1,6 +1,6 @@
 -- References updated to where their objects are now.
 use Rattle.std.specs.Prelude.{List, [], ◌∷◌, Option, Some, None, nat_lt, if◌then◌else◌, All, length, unwrap_or}
-use Rattle.copying_gc.specs.Common.{Addr, Cell, IsObject, moved_to, ChunkValue, cell_of, place_of, put_object, new_of}
+use Rattle.copying_gc.specs.Common.{Addr, Cell, IsObject, moved_to, ChunkValue, cell_of, chunk_position, put_object, new_of}
 pub use Rattle.object_layout.specs.Objects.{led_cell, led_chunk}
 pub use Rattle.task_frames.specs.FramesValue.{led_frame}
 use Rattle.copying_gc.specs.declared.lists.Survivor.{Survivor}
@@ -21,7 +21,7 @@ redirected moved (Some a) = Some (new_address moved a)
 
 -- where the object at an address of the heap is now; an address elsewhere is unchanged
 abbrev pub followed : List ChunkValue → Addr → Option Addr
-followed h a = if nat_lt (place_of h a.chunk) (length h) then moved_to (cell_of h a).mark else Some a
+followed h a = if nat_lt (chunk_position h a.chunk) (length h) then moved_to (cell_of h a).mark else Some a
 
 abbrev pub followed_ref : List ChunkValue → Option Addr → Option Addr
 followed_ref h None = None
@@ -40,6 +40,6 @@ abbrev pub followed_large : List ChunkValue → Survivor → List ChunkValue
 followed_large h s = if is_moved h s.old then h else followed_at h s.old
 
 -- the references of each of these can be followed when its turn comes
-abbrev pub CanFollow : List ChunkValue → List Survivor → Type 0
-CanFollow h [] = Unit {0}
-CanFollow h (s ∷ ss) = HasTargets h (cell_of h s.old) × CanFollow (followed_large h s) ss
+abbrev pub CanBeFollowed : List ChunkValue → List Survivor → Type 0
+CanBeFollowed h [] = Unit {0}
+CanBeFollowed h (s ∷ ss) = HasTargets h (cell_of h s.old) × CanBeFollowed (followed_large h s) ss

@@ -1,6 +1,6 @@
 -- The steps by which survivors are found.
 use Rattle.std.specs.Prelude.{◌<◌, length, List, [], ◌∷◌, ◌++◌, Option, Some, None, fold}
-use Rattle.copying_gc.specs.Common.{Addr, Birth, Born, Hole, IsObject, Mark, Moved, with_mark, chunk_words, ChunkValue, cell_of, place_of, put_object}
+use Rattle.copying_gc.specs.Common.{Addr, Birth, Born, Hole, IsObject, Mark, Moved, with_mark, chunk_words, ChunkValue, cell_of, chunk_position, put_object}
 use Rattle.copying_gc.specs.Survivors.{with_chunks}
 use Rattle.copying_gc.specs.CollectorValue.{CollectorValue}
 
@@ -34,4 +34,4 @@ visited_reference c (Some a) = visited_at c a (birth_in (cell_of c.heap.chunks a
 -- a reference into the heap leads to an object there, found or not, at an address that a word can hold
 abbrev pub IsTarget : List ChunkValue → Option Addr → Type 0
 IsTarget h None = Unit {0}
-IsTarget h (Some a) = place_of h a.chunk < length h → IsObject (cell_of h a).mark × (a.offset < chunk_words)
+IsTarget h (Some a) = chunk_position h a.chunk < length h → IsObject (cell_of h a).mark × (a.offset < chunk_words)

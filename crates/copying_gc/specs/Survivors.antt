@@ -4,7 +4,7 @@ use Rattle.std.specs.List.{flat_map}
 use Rattle.std.specs.Ordering.{nat_cmp, ordering_then}
 use Rattle.std.specs.declared.cmp.Ordering.{Ordering}
 use Rattle.copying_gc.specs.Common.{Addr, Born, Cell, Hole, Mark, Moved, ChunkValue, cell_of, LeafHeapValue, CallFrame, FramesValue, frames_of, IsReached}
-pub use Rattle.object_layout.specs.Graph.{IsClosed, HasObjectAt, IsSoundReference, RefersTo}
+pub use Rattle.object_layout.specs.Graph.{HeapIsClosed, HasObjectAt, IsSoundReference, RefersTo}
 use Rattle.copying_gc.specs.declared.lists.Survivor.{Survivor}
 
 -- the references that frames hold, and the roots
@@ -21,12 +21,12 @@ abbrev pub outside : FramesValue → List Addr → List (Option Addr)
 outside s roots = frame_references (frames_of s) ++ map as_reference roots
 
 -- these references refer to a
-abbrev pub Starts : List ChunkValue → List (Option Addr) → Addr → Type 0
-Starts h from a = HasObjectAt h a × Contains from (Some a)
+abbrev pub CopyStarts : List ChunkValue → List (Option Addr) → Addr → Type 0
+CopyStarts h from a = HasObjectAt h a × Contains from (Some a)
 
 -- references from outside, and then those within the heap, lead to a
 abbrev pub IsSurvivor : List ChunkValue → List (Option Addr) → Addr → Type 0
-IsSurvivor h from a = IsReached (Starts h from) (RefersTo h) a
+IsSurvivor h from a = IsReached (CopyStarts h from) (RefersTo h) a
 
 abbrev pub old_of : Survivor → Addr
 old_of s = s.old

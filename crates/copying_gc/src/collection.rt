@@ -2,12 +2,12 @@
 
 ghost use Rattle.std.specs.Prelude.{◌≡◌, ◌+◌, ◌*◌, ◌≤◌, ◌++◌, length, vec_len, vec_capacity, All};
 ghost use Rattle.leaf_heap.specs.LeafHeapValue.{HaveDistinctNumbers, AreTidy, IsFresh, IsSettled};
-ghost use Rattle.object_layout.specs.Graph.{IsClosed, IsSoundReference};
+ghost use Rattle.object_layout.specs.Graph.{HeapIsClosed, IsSoundReference};
 ghost use Rattle.object_layout.specs.Cell.{units};
 ghost use Rattle.copying_gc.specs.Survivors.{outside};
 ghost use Rattle.copying_gc.specs.Laid.{small_words, AreNew};
 ghost use Rattle.copying_gc.specs.Exchanged.{counted32};
-ghost use Rattle.copying_gc.specs.Lists.{AreReserved, IsCollected};
+ghost use Rattle.copying_gc.specs.Lists.{HasReservedLists, IsCollected};
 
 use crate::collector::Collector;
 use crate::exchange::{counted, exchange, name_larges, units_of};
@@ -33,13 +33,13 @@ pub fn copy<G: Gate>(
     worker: u32,
     task: u32,
 ) -> Moved
-    requires closed { IsClosed heap.old.chunks }
+    requires closed { HeapIsClosed heap.old.chunks }
     requires outside { All (IsSoundReference heap.old.chunks) (outside frames.old roots.now) }
     requires apart { HaveDistinctNumbers to_chunks.chunks.items }
     requires fresh { All (λ k. IsFresh heap.old.chunks k.number) to_chunks.chunks.items }
     requires new { AreNew to_chunks.chunks.items }
     requires enough { 2 * units (small_words heap.old.chunks) ≤ length to_chunks.chunks.items + 1 }
-    requires reserved { AreReserved heap.old (vec_len to_chunks.chunks) to_chunks }
+    requires reserved { HasReservedLists heap.old (vec_len to_chunks.chunks) to_chunks }
     ensures { IsCollected heap.old frames.old roots.now to_chunks.chunks.items heap.new frames.new result }
 {
     gate.pass(worker, task, Point::AfterBegin);
@@ -50,13 +50,13 @@ pub fn copy<G: Gate>(
 
 // The collection itself.
 fn collect(heap: Space, frames: &mut Frames, roots: &[Addr], to_chunks: ToChunks) -> (Space, Moved)
-    requires closed { IsClosed heap.chunks }
+    requires closed { HeapIsClosed heap.chunks }
     requires outside { All (IsSoundReference heap.chunks) (outside frames.old roots.now) }
     requires tidy { AreTidy heap.chunks }
     requires apart { HaveDistinctNumbers (heap.chunks ++ to_chunks.chunks.items) }
     requires new { AreNew to_chunks.chunks.items }
     requires enough { 2 * units (small_words heap.chunks) ≤ length to_chunks.chunks.items + 1 }
-    requires reserved { AreReserved heap (vec_len to_chunks.chunks) to_chunks }
+    requires reserved { HasReservedLists heap (vec_len to_chunks.chunks) to_chunks }
     ensures collected { IsCollected heap frames.old roots.now to_chunks.chunks.items result.0 frames.new result.1 }
     ensures settled { IsSettled result.0.chunks }
 {

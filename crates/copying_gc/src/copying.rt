@@ -6,7 +6,7 @@ ghost use Rattle.object_layout.specs.Place.{words_in};
 ghost use Rattle.object_layout.specs.Chunks.{cell_of, next_address, place_in, put_object};
 ghost use Rattle.copying_gc.specs.Survivors.{with_chunks};
 ghost use Rattle.copying_gc.specs.Laid.{is_moved, next_place, opened, placed_behind, room_in, ObjectFits};
-ghost use Rattle.copying_gc.specs.Copying.{copied, copied_last, copied_one, survivor_cell, IsReady};
+ghost use Rattle.copying_gc.specs.Copying.{copied, copied_last, copied_one, survivor_cell, CanBeCopied};
 
 use crate::collector::Collector;
 use crate::lists::Survivor;
@@ -147,7 +147,7 @@ impl Collector {
 
     /// Copies the small survivors in order.
     pub(crate) fn copy_all(&mut self)
-        requires ready { IsReady self.old self.old.found }
+        requires ready { CanBeCopied self.old self.old.found }
         requires none { self.old.moved ≡ [] }
         ensures { self.new ≡ fold copied self.old self.old.found }
     {

@@ -2,13 +2,13 @@
 
 ghost use Rattle.std.specs.Prelude.{◌≡◌, ◌<◌, ◌↔◌, [], length, fold, map, option_map, slice_get, All, Contains, IfSome, Some};
 ghost use Rattle.std.specs.List.{IsDistinct};
-ghost use Rattle.object_layout.specs.Cell.{IsObject, IsPlace};
+ghost use Rattle.object_layout.specs.Cell.{IsObject, BeginsInFirstUnit};
 ghost use Rattle.object_layout.specs.Place.{cell_at, IsObjectAt};
 ghost use Rattle.object_layout.specs.Chunks.{cell_of, place_in, same_address};
 ghost use Rattle.copying_gc.specs.Survivors.{as_reference, frame_references, olds, outside, with_chunks, HaveNames, IsSurvivor};
 ghost use Rattle.copying_gc.specs.Search.{all_found, birth_in, visited_reference, IsTarget};
 ghost use Rattle.object_layout.specs.declared.word.Addr.{Addr};
-ghost use Rattle.object_layout.specs.Graph.{IsClosed, IsSoundReference};
+ghost use Rattle.object_layout.specs.Graph.{HeapIsClosed, IsSoundReference};
 ghost use Rattle.task_frames.specs.FramesValue.{frames_of};
 
 use crate::collector::Collector;
@@ -63,7 +63,7 @@ pub(crate) fn ref_in(heap: &Space, place: usize, object: Addr, field: u32) -> Op
     requires object { IsObject (cell_of heap.now.chunks object).mark }
     requires field { field < length (cell_of heap.now.chunks object).refs }
     ensures value { slice_get (cell_of heap.now.chunks object).refs field ≡ Some result }
-    ensures place { IsPlace result }
+    ensures place { BeginsInFirstUnit result }
 {
     ref_at(heap.chunk_in(place), object.offset, field)
 }
@@ -143,7 +143,7 @@ impl Collector {
     /// Finds what the references of the frames and the roots lead to within the heap: exactly what survives. Each
     /// survivor is marked as moved to where it is.
     pub(crate) fn discover(&mut self, frames: &Frames, roots: &[Addr])
-        requires closed { IsClosed self.old.heap.chunks }
+        requires closed { HeapIsClosed self.old.heap.chunks }
         requires outside { All (IsSoundReference self.old.heap.chunks) (outside frames.now roots.now) }
         requires none { self.old.found ≡ [] }
         ensures survivors { (a : Addr) → Contains (olds self.new.found) a ↔ IsSurvivor self.old.heap.chunks (outside frames.now roots.now) a }

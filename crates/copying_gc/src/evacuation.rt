@@ -2,7 +2,7 @@
 
 ghost use Rattle.std.specs.Prelude.{◌≡◌, All};
 ghost use Rattle.std.specs.List.Sorted.{IsPermutation, IsSorted};
-ghost use Rattle.object_layout.specs.Graph.{IsClosed, IsSoundReference};
+ghost use Rattle.object_layout.specs.Graph.{HeapIsClosed, IsSoundReference};
 ghost use Rattle.copying_gc.specs.Survivors.{outside, survivor_order};
 ghost use Rattle.copying_gc.specs.Evacuated.{CollectorBegins, IsEvacuated};
 
@@ -15,7 +15,7 @@ impl Collector {
     /// Finds what survives, copies what is small of it into new chunks in order of birth, and updates all references.
     /// The old chunks are left with the new addresses in them.
     pub(crate) fn evacuate(&mut self, frames: &mut Frames, roots: &[Addr])
-        requires closed { IsClosed self.old.heap.chunks }
+        requires closed { HeapIsClosed self.old.heap.chunks }
         requires outside { All (IsSoundReference self.old.heap.chunks) (outside frames.old roots.now) }
         requires begins { CollectorBegins self.old }
         ensures { IsEvacuated self.old frames.old roots.now self.new frames.new }

@@ -2,7 +2,7 @@
 
 ghost use Rattle.std.specs.Prelude.{◌≡◌, false};
 ghost use Rattle.leaf_heap.specs.Counted.{AreCounted};
-ghost use Rattle.leaf_heap.specs.LeafHeapValue.{saturating_words, AreWithin};
+ghost use Rattle.leaf_heap.specs.LeafHeapValue.{saturating_words, CellsFitInChunks};
 ghost use Rattle.copying_gc.specs.Packed.{used_words, ArePacked};
 
 use leaf_heap::{Counts, counts_of};
@@ -11,7 +11,7 @@ use object_layout::Chunk;
 // The words that objects and holes of these chunks take.
 fn used_words(chunks: &[Chunk]) -> u64
     ensures words { result ≡ saturating_words (used_words chunks.now) }
-    ensures within { AreWithin chunks.now }
+    ensures within { CellsFitInChunks chunks.now }
 {
     let mut words = 0u64;
     for chunk in chunks {

@@ -1,14 +1,14 @@
 // Updates references to where their objects are now.
 
 ghost use Rattle.std.specs.Prelude.{◌≡◌, map, fold, All, IsTrue, Some};
-ghost use Rattle.object_layout.specs.Cell.{IsPlace};
+ghost use Rattle.object_layout.specs.Cell.{BeginsInFirstUnit};
 ghost use Rattle.object_layout.specs.Chunks.{cell_of, held_words, place_in, small_words};
 ghost use Rattle.object_layout.specs.Place.{cell_at, put_cell, IsObjectAt};
 ghost use Rattle.task_frames.specs.FramesValue.{frames_of};
 ghost use Rattle.copying_gc.specs.Survivors.{frame_references, with_chunks};
 ghost use Rattle.copying_gc.specs.Near.{FindsChunk};
 ghost use Rattle.copying_gc.specs.Search.{IsTarget};
-ghost use Rattle.copying_gc.specs.Redirected.{followed, followed_at, followed_large, followed_ref, led_cell, led_chunk, led_frame, CanFollow, HasTargets};
+ghost use Rattle.copying_gc.specs.Redirected.{followed, followed_at, followed_large, followed_ref, led_cell, led_chunk, led_frame, CanBeFollowed, HasTargets};
 
 use crate::collector::Collector;
 use crate::copying::{SMALL, size_at};
@@ -24,7 +24,7 @@ fn follow_in(heap: &Space, place: Option<usize>, address: Addr) -> Option<Addr>
     requires place { place ≡ place_in heap.now.chunks address.chunk }
     requires target { IsTarget heap.now.chunks (Some address) }
     ensures value { result ≡ followed heap.now.chunks address }
-    ensures place { IsPlace (Some address) → IsPlace result }
+    ensures place { BeginsInFirstUnit (Some address) → BeginsInFirstUnit result }
 {
     match place {
         None => Some(address),
@@ -36,7 +36,7 @@ fn follow_in(heap: &Space, place: Option<usize>, address: Addr) -> Option<Addr>
 fn follow(heap: &Space, reference: Option<Addr>) -> Option<Addr>
     requires { IsTarget heap.now.chunks reference }
     ensures value { result ≡ followed_ref heap.now.chunks reference }
-    ensures place { IsPlace reference → IsPlace result }
+    ensures place { BeginsInFirstUnit reference → BeginsInFirstUnit result }
 {
     match reference {
         None => None,
@@ -50,7 +50,7 @@ fn follow_near(heap: &Space, near: &mut Near, reference: Option<Addr>) -> Option
     requires target { IsTarget heap.now.chunks reference }
     ensures known { FindsChunk near.new heap.now.chunks }
     ensures value { result ≡ followed_ref heap.now.chunks reference }
-    ensures place { IsPlace reference → IsPlace result }
+    ensures place { BeginsInFirstUnit reference → BeginsInFirstUnit result }
 {
     match reference {
         None => None,
@@ -152,7 +152,7 @@ fn has_small_alone(heap: &Space) -> bool
 
 // Updates the references of the large survivors in place. If no object of the heap is large, it looks at none.
 fn follow_larges(heap: &mut Space, found: &[Survivor])
-    requires { CanFollow heap.old.chunks found.now }
+    requires { CanBeFollowed heap.old.chunks found.now }
     ensures { heap.new ≡ with_chunks heap.old (fold followed_large heap.old.chunks found.now) }
 {
     if has_small_alone(heap) {
@@ -182,7 +182,7 @@ impl Collector {
 
     /// Updates the references of the large survivors in place.
     pub(crate) fn lead_larges(&mut self)
-        requires { CanFollow self.old.heap.chunks self.old.found }
+        requires { CanBeFollowed self.old.heap.chunks self.old.found }
         ensures { self.new ≡ record self.old { heap = with_chunks self.old.heap (fold followed_large self.old.heap.chunks self.old.found) } }
     {
         follow_larges(&mut self.heap, &self.found);

@@ -3,7 +3,7 @@
 ghost use Rattle.std.specs.Prelude.{◌≡◌, ◌≤◌, [], vec_capacity, IfOk};
 ghost use Rattle.leaf_heap.specs.LeafHeapValue.{with_places};
 ghost use Rattle.copying_gc.specs.Survivors.{live_count};
-ghost use Rattle.copying_gc.specs.Lists.{AreReserved};
+ghost use Rattle.copying_gc.specs.Lists.{HasReservedLists};
 
 use crate::lists::{Moved, ToChunks};
 use leaf_heap::LeafHeap;
@@ -16,7 +16,7 @@ impl ToChunks {
         ensures kept { heap.new ≡ with_places heap.old heap.new.slots heap.new.spare }
         ensures none { IfOk result (λ to. to.chunks.items ≡ []) }
         ensures room { IfOk result (λ to. chunks ≤ vec_capacity to.chunks) }
-        ensures reserved { IfOk result (λ to. AreReserved heap.new chunks to) }
+        ensures reserved { IfOk result (λ to. HasReservedLists heap.new chunks to) }
     {
         let objects = count_objects(heap)?;
         let places = chunks as usize + heap.chunks().len();

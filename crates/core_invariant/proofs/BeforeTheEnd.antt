@@ -1,5 +1,5 @@
 -- The invariant of the shared value, in terms of its accounts; and before the run's end, of the parts that fit.
-use Rattle.core_invariant.proofs.Common.{◌≡◌, ℕ, false, Option, Some, None, is_some, length, option_map, slice_get, refl, ap, sym, subst, ◌∙◌, option_flatten, Done, Trapped, Entangled, MachineState, Running, Task, is_waiting, runs_idle, runs_is, Heap, Ledger, RunEnd, Fuel, Machine, Pool, heap_at, heap_of, in_use, let_go, units_in, with_heap_at, out_from, machine_goes_on, units_in_use, TaskNode, PartFits, FitsAt, StandsFor, as_node, by_end, handed, tasks_out_are_told, Private, SharedValue, accounts, tree_counts_of, value_of, IsSharedValue, Fits, part_of}
+use Rattle.core_invariant.proofs.Common.{◌≡◌, ℕ, false, Option, Some, None, is_some, length, option_map, slice_get, refl, ap, sym, subst, ◌∙◌, option_flatten, Done, Trapped, Entangled, MachineState, Running, Task, is_waiting, runs_idle, runs_is, Heap, Ledger, RunEnd, Fuel, Machine, Pool, heap_at, heap_of, in_use, let_go, units_in, with_heap_at, out_from, machine_goes_on, units_in_use, TaskNode, PartFits, FitsAt, StandsFor, as_node, by_end, handed, tasks_out_are_told, Private, SharedValue, accounts, tree_counts_of, value_of, IsSharedValue, WorkerPartFits, part_of}
 use Rattle.refinement_laws.proofs.parts.Workers as workers
 use Rattle.core_invariant.proofs.OneAccount.{sum_put}
 use Rattle.core_invariant.proofs.SameLength.{same_length}
@@ -72,7 +72,7 @@ module _ (w : SharedValue) (I : IsSharedValue w) where
   task_out_now on k = tasks_out_are_told (tree_counts_of w) (accounts w) (stands_now on).tree_counts k
 
 -- A PART THAT FITS, before the run's end
-module _ (w : SharedValue) (k : ℕ) (p : Private) (F : Fits w k p) (on : (accounts w).end ≡ None) where
+module _ (w : SharedValue) (k : ℕ) (p : Private) (F : WorkerPartFits w k p) (on : (accounts w).end ≡ None) where
   pub alive : (accounts w).machine.end ≡ None
   alive = machine_goes_on w.program w.settings w.journal.items on
 

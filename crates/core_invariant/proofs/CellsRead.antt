@@ -1,5 +1,5 @@
 -- The objects that are read from cells, and the cells.
-use Rattle.core_invariant.proofs.Common.{◌≡◌, ℕ, suc, ◌+◌, ◌<◌, ◌==◌, arith, Bool, true, false, cond, Some, None, List, [], ◌∷◌, ◌++◌, length, nat_lt, ◌⊎◌, inl, inr, refl, ap, sym, subst, ◌∙◌, eq-eqb, le-leb, cond-true, false≢true, contains_from_in, Addr, Birth, Born, Cell, Hole, Mark, Moved, size_of, ChunkValue, cell_of, place_in, place_of, Located, located, located_by, objects_from, objects_of, LiesThere, object_read, objects_lie_there, HaveDistinctNumbers, In, objects_of_chunks, chunks_of, objects_in as located_in}
+use Rattle.core_invariant.proofs.Common.{◌≡◌, ℕ, suc, ◌+◌, ◌<◌, ◌==◌, arith, Bool, true, false, cond, Some, None, List, [], ◌∷◌, ◌++◌, length, nat_lt, ◌⊎◌, inl, inr, refl, ap, sym, subst, ◌∙◌, eq-eqb, le-leb, cond-true, false≢true, contains_from_in, Addr, Birth, Born, Cell, Hole, Mark, Moved, size_of, ChunkValue, cell_of, place_in, chunk_position, Located, located, located_by, objects_from, objects_of, LiesThere, object_read, objects_lie_there, HaveDistinctNumbers, In, objects_of_chunks, chunks_of, objects_in as located_in}
 
 -- ---- THE CELLS OF ONE CHUNK
 
@@ -25,19 +25,19 @@ objects_are (k ∷ ks) = ap (λ os. objects_of k ++ os) (objects_are ks)
 pub object_seen : (ks : List ChunkValue) (a : Addr) (b : Birth) → (cell_of ks a).mark ≡ Born b → In (objects_of_chunks (chunks_of ks)) (located a.chunk a.offset b (cell_of ks a))
 object_seen ks a b e = subst (λ os. In os (located a.chunk a.offset b (cell_of ks a))) (sym (objects_are ks)) (object_read ks a b e)
 
-place_lt : (ks : List ChunkValue) (k : ChunkValue) → In ks k → place_of ks k.number < length ks
+place_lt : (ks : List ChunkValue) (k : ChunkValue) → In ks k → chunk_position ks k.number < length ks
 place_lt [] k i = absurd i
 place_lt (y ∷ ys) k i = place_lt_by_cases (y.number == k.number) refl i (place_lt ys k)
   where
-    place_lt_by_cases : (v : Bool) → (y.number == k.number) ≡ v → (y ≡ k) ⊎ In ys k → (In ys k → place_of ys k.number < length ys) → cond v 0 (1 + place_of ys k.number) < length (y ∷ ys)
+    place_lt_by_cases : (v : Bool) → (y.number == k.number) ≡ v → (y ≡ k) ⊎ In ys k → (In ys k → chunk_position ys k.number < length ys) → cond v 0 (1 + chunk_position ys k.number) < length (y ∷ ys)
     place_lt_by_cases true q j go = omega arith
     place_lt_by_cases false q (inl e) go = absurd (false≢true (sym q ∙ eq-eqb y.number k.number (ap (λ (x : ChunkValue). x.number) e)))
     place_lt_by_cases false q (inr j) go = let r = go j in omega (arith, r)
 
 pub fresh_off : (ks : List ChunkValue) (k : ChunkValue) (number : ℕ) → place_in ks number ≡ None → In ks k → k.number ≡ number → ⊥
 fresh_off ks k number e i q =
-    let lt : place_of ks number < length ks = subst (λ n. place_of ks n < length ks) q (place_lt ks k i) in
-    let some : place_in ks number ≡ Some (place_of ks number) = cond-true (nat_lt (place_of ks number) (length ks)) (Some (place_of ks number)) None (le-leb (suc (place_of ks number)) (length ks) (omega (arith, lt))) in
+    let lt : chunk_position ks number < length ks = subst (λ n. chunk_position ks n < length ks) q (place_lt ks k i) in
+    let some : place_in ks number ≡ Some (chunk_position ks number) = cond-true (nat_lt (chunk_position ks number) (length ks)) (Some (chunk_position ks number)) None (le-leb (suc (chunk_position ks number)) (length ks) (omega (arith, lt))) in
     absurd cc
 
 -- an object that is read is at its address

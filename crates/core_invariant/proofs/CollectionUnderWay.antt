@@ -1,5 +1,5 @@
 -- A part has begun a leaf collection if and only if its account says so.
-use Rattle.core_invariant.proofs.Common.{◌≡◌, ℕ, Bool, true, false, Option, Some, None, List, slice_get, is_none, is_some, refl, ap, sym, ◌∙◌, eq-eqb, and_from, false≢true, none_of, Name, is_running, Heap, Ledger, Refused, Collecting, NotOut, heap_of, or_fresh, task_steps, is_out, on_running, refused_if, refused_unless, collecting, option_is, rested, rested_view, with_belongings, Memory, BegunBy, Begun, Private, SharedValue, accounts, value_of, Fits, belongings_of_part}
+use Rattle.core_invariant.proofs.Common.{◌≡◌, ℕ, Bool, true, false, Option, Some, None, List, slice_get, is_none, is_some, refl, ap, sym, ◌∙◌, eq-eqb, and_from, false≢true, none_of, Name, is_running, Heap, Ledger, Refused, Collecting, NotOut, heap_of, or_fresh, task_steps, is_out, on_running, refused_if, refused_unless, collecting, option_is, rested, rested_view, with_belongings, Memory, BegunBy, Begun, Private, SharedValue, accounts, value_of, WorkerPartFits, belongings_of_part}
 use Rattle.core_invariant.proofs.BeforeTheEnd.{alive, part_now, status}
 use Rattle.core_invariant.proofs.StepAccounts.{After, after_all, hold_same}
 
@@ -12,7 +12,7 @@ out_by : (out begun amid : Bool) (rest : Option Refused) → out ≡ true → be
 out_by true begun amid rest a b = ap (λ c. refused_if c Collecting rest) b
 out_by false begun amid rest a b = absurd (false≢true a)
 
-module _ (w : SharedValue) (k : ℕ) (p : Private) (F : Fits w k p) (on : (accounts w).end ≡ None) where
+module _ (w : SharedValue) (k : ℕ) (p : Private) (F : WorkerPartFits w k p) (on : (accounts w).end ≡ None) where
   abbrev l : Ledger
   l = accounts w
 

@@ -5,11 +5,11 @@ pub use Rattle.core_invariant.specs.Again.{KeepsPlaces}
 pub use Rattle.core_invariant.specs.Causes.{first_cause, or_else, is_state_ready, took_cause}
 pub use Rattle.core_invariant.specs.Due.{take_by}
 pub use Rattle.core_invariant.specs.Entered.{refused, Enters}
-pub use Rattle.core_invariant.specs.Fits.{Fits, part_of, belongings_of_part, AllFit, OthersFit, beyond, IsAtWork, taken_part}
+pub use Rattle.core_invariant.specs.WorkerPartFits.{WorkerPartFits, part_of, belongings_of_part, EachPartStillFits, OthersFit, beyond, HasFrames, taken_part}
 pub use Rattle.core_invariant.specs.Links.{FitsFirst, above_of, find_at}
 pub use Rattle.core_invariant.specs.Measured.{AreMeasured, IsMeasured, IsFree, KeepsUnits, RestsAreMeasured, AreUnits}
 pub use Rattle.core_invariant.specs.Next.{instr_asks, line_asks, part_asks}
-pub use Rattle.core_invariant.specs.Objects.{chunks_of, chunk_of, birth_in, levels_of, shown, shown_chunk, AreNear}
+pub use Rattle.core_invariant.specs.Objects.{chunks_of, chunk_of, birth_in, levels_of, shown, shown_chunk, OffsetsAreSmall}
 pub use Rattle.core_invariant.specs.Roots.{sources_of, heaps_of, roots_of}
 pub use Rattle.core_invariant.specs.SharedValue.{SharedValue, accounts, tree_counts_of, value_of, rest_at, belongings_by, belongings_in, belongings_of, noted_in, first_rest, frames_down}
 pub use Rattle.core_invariant.specs.Stands.{IsSharedValue, HeapForm}
@@ -19,7 +19,7 @@ pub use Rattle.leaf_heap.proofs.Counting.{writes_keep_counts}
 pub use Rattle.leaf_heap.proofs.PlacedLaws.{cell_of-others}
 pub use Rattle.leaf_heap.proofs.Settled.{settled_placed}
 pub use Rattle.leaf_heap.specs.FieldLaws.{with_ref_of}
-pub use Rattle.leaf_heap.specs.LeafHeapValue.{HaveDistinctNumbers, LeafHeapValue, room_of, room_at, IsFresh, saturating_words, IsReserved, with_places, AreTidy, IsTidy, units, place_for, with_object_placed, AgreesWithChunks, placed_at, AreWithin}
+pub use Rattle.leaf_heap.specs.LeafHeapValue.{HaveDistinctNumbers, LeafHeapValue, room_of, room_at, IsFresh, saturating_words, IsReserved, with_places, AreTidy, IsTidy, units, place_for, with_object_placed, AgreesWithChunks, placed_at, CellsFitInChunks}
 pub use Rattle.leaf_heap.specs.PlaceLaws.{SameChunkCounts}
 pub use Rattle.refinement.proofs.below.hh_model.{runs_idle, runs_is, run_on, start_is_fork_join_state, path_along, path_le, runs_live, limit_from}
 pub use Rattle.refinement.proofs.below.ledger_step_laws.{rested_view, with_off, rested_worker, legal_knows, leaf_alone, private_off, with_at, heap_then, GoesOn, private_on, entry_runs}
@@ -44,27 +44,27 @@ pub use Rattle.refinement.specs.EntryMakes.{BelongingsAfter, EntryMakes, taken_b
 pub use Rattle.refinement.specs.Fits.{FitsAt, with_belongings, Part, ahead, part_for}
 pub use Rattle.refinement.specs.Frames.{IsSteady}
 pub use Rattle.refinement.specs.Layout.{AreLaidOut, reserved_chunks, reserved_units, DontOverlap, HoldsLarge, words}
-pub use Rattle.refinement.specs.LeafCollectionBegins.{IsReachedAt, AreRoots, IsRoot}
+pub use Rattle.refinement.specs.LeafCollectionBegins.{IsReachedAt, AreRoots, IsRememberedRoot}
 pub use Rattle.refinement.specs.Marks.{Marks}
 pub use Rattle.refinement.specs.Memory.{In, objects_of_chunks, Memory, Chunk, mapped_chunk, mapped_belongings, put_at, rewritten_belongings, Belongings, is_source, rewritten, rewritten_refs, Noted, object_name, objects, Lies, shown_at, chunk_among, frozen_chunks, as_shown, sources}
 pub use Rattle.refinement.specs.RanCounts.{RanCounts, TasksOutGo, LetsGo}
 pub use Rattle.refinement.specs.ReadsReference.{AllRead, TaskIsRead, FrameIsRead, FramesAreRead, HoldsRead, IsModelObject, ReadsReference}
 pub use Rattle.refinement.specs.Since.{NotedAt, MarksOn, NotesStay}
-pub use Rattle.refinement.specs.Stands.{Stands, BelongingsStand, names_of, small_chunks, HasNames, large_chunks, Place, IsSource}
+pub use Rattle.refinement.specs.MemoryStands.{MemoryStands, BelongingsStand, chunk_names, small_chunks, ChunksHaveNames, large_chunks, LiesWithOwner, IsSource}
 pub use Rattle.refinement.specs.Whole.{StandsFor, as_node, by_end, handed, state_by, BegunBy, StandsForAll, TreeCounts}
 pub use Rattle.refinement.specs.Worker.{WorkerFits, IsBy}
 pub use Rattle.refinement.specs.below.heap_tree.{TaskNode, root_node, TaskState, Out, set_at, with_state, parent_in}
 pub use Rattle.refinement.specs.below.hh_lang.{IsProgram, ProgramText, Instr, Newm, Pack, Line, Fun, IsFunction, NamesExist, code_of, line_at}
 pub use Rattle.refinement.specs.below.hh_model.{Done, Trapped, Entangled, MachineState, Running, Task, is_waiting, TaskStatus, Waiting, Ended, Joined, is_running, runs, Name, object_at, Frame, counts_in, words_asked, words_for, asked, asked_by, asked_line, fetched, row_of, is_joined, Object, is_on_path, parents, run, run_from, start, step, can_step, goes_on, parent_of}
-pub use Rattle.refinement.specs.below.ledger_step_laws.{rested, Rests, aside, own, StepsAlone, Knows, ArePrivate, RunsPrivateSteps, LastKind, Reading, Writing, Printing, Forking, Ending, Joining, Finishing, Halting}
+pub use Rattle.refinement.specs.below.ledger_step_laws.{rested, Rests, aside, own, StepsAlone, LedgerIsKnown, ArePrivate, RunsPrivateSteps, LastKind, Reading, Writing, Printing, Forking, Ending, Joining, Finishing, Halting}
 pub use Rattle.refinement.specs.below.mark_sweep_gc.{MarkingValue, AreGiven}
-pub use Rattle.refinement.specs.below.object_layout.{Addr, Birth, Born, Cell, Hole, Mark, Moved, size_of, ChunkValue, cell_of, place_in, place_of, Located, located, located_by, objects_from, objects_of, LiesThere, marked_object, with_ref, put_object, same_address, with_cell, with_fields, small_words, chunk_at, words_in, moved_to, object_words_in, held_size, held_words, PieceValue, frozen_at, frozen_from, lasts, object_count, one_each, sum_in, cell_at, changed_at, no_cell, no_chunk, push_object, object_of, has_chunk, small_part, number_of, objects_in}
+pub use Rattle.refinement.specs.below.object_layout.{Addr, Birth, Born, Cell, Hole, Mark, Moved, size_of, ChunkValue, cell_of, place_in, chunk_position, Located, located, located_by, objects_from, objects_of, LiesThere, marked_object, with_ref, put_object, same_address, with_cell, with_fields, small_words, chunk_at, words_in, moved_to, object_words_in, held_size, held_words, PieceValue, frozen_at, frozen_from, lasts, object_count, one_each, sum_in, cell_at, changed_at, no_cell, no_chunk, push_object, object_of, has_chunk, small_part, number_of, objects_in}
 pub use Rattle.refinement.specs.below.plain_vec.{option_is, ReservedVecValue, is_empty}
 pub use Rattle.refinement.specs.below.remembered_set.{RefField, target_of, new_reference, redirected, written, StandOnce, same_source, AreFields, into, targets_of}
 pub use Rattle.refinement.specs.below.run_ledger.{Heap, Ledger, RunEnd, Fuel, Machine, Pool, heap_at, heap_of, in_use, let_go, units_in, with_heap_at, out_from, Refused, Over, Spent, NoWorker, NotReady, kind_refusal, is_fuel, refused_if, refused_unless, refused_holding, Collecting, NotOut, or_fresh, task_steps, is_out, on_running, collecting, after, is_legal, ledger_of, opening, small_in, take_of, object_words_of, words_sum, is_pool_enough, words_at, SoundLedger, tasks_of, is_name, fresh, put_last, is_small_size, allocated_by, allocated_in, settled, moved_on, stepped_to, task_step, is_private, is_due, is_in_need, standing, Long, most_steps, is_ready}
 pub use Rattle.refinement.specs.below.run_trace.{Took, EntryValue, AreSettings, SettingsValue, field_limit, Ran}
 pub use Rattle.refinement.specs.below.task_frames.{CallFrame, int_of, FramesValue}
-pub use Rattle.refinement.specs.below.task_machine.{Private, Begun, small_lists, AreReserved, HeapMatchesAccount, large_names, named_by, names_in, name_of, FitsNow, FrameStands, Places, IsLastLarge, IsLastSmall, outline_of_cell, outline_of_chunk, outline_after, outline_by, outline_of, steps, AreAt, FramesStand, NamesAddress, birth_of, HeapStands, IsOwn, IsRun, IsShownBy, StackStands, IsShaped, unended}
+pub use Rattle.refinement.specs.below.task_machine.{Private, Begun, small_lists, HasReservedUnits, HeapMatchesAccount, large_names, named_by, names_in, name_of, FitsNow, FrameStands, Places, IsLastLarge, IsLastSmall, outline_of_cell, outline_of_chunk, outline_after, outline_by, outline_of, steps, AreAt, FramesStand, NamesAddress, birth_of, HeapStands, IsOwnObject, IsReachedByRun, IsShownBy, StackStands, HeapIsShaped, unended}
 pub use Rattle.refinement_laws.proofs.parts.NonMovingEntries.{aside_is}
 pub use Rattle.refinement_laws.proofs.parts.OwnFits.{quiet_fits_then}
 pub use Rattle.refinement_laws.proofs.parts.Parts.{ahead_alone, ahead_sound}

@@ -1,5 +1,5 @@
 -- An entry is made: the shared value after it.
-use Rattle.core_invariant.proofs.Common.{◌≡◌, ◌⊎◌, ℕ, ◌<◌, Option, Some, None, List, length, length-set, slice_get, slice_set, is_none, inl, inr, refl, ap, sym, subst, ◌∙◌, option_flatten, cases_eq, same_Some, got_other, got_set, none_of, none_some, IsProgram, Done, Trapped, Entangled, EntryValue, AreSettings, SettingsValue, field_limit, Ledger, RunEnd, heap_of, let_go, or_fresh, after, Fuel, Machine, Pool, is_legal, ledger_of, entry_tells, legal_then, PoolValue, Rests, rested, with_off, rested_worker, StandsForAll, by_end, WorkerFits, Private, ParkedTask, SharedValue, accounts, rest_at, tree_counts_of, value_of, AreMeasured, IsMeasured, IsFree, KeepsUnits, RestsAreMeasured, HeapForm, IsSharedValue, Fits, part_of, Enters, refused}
+use Rattle.core_invariant.proofs.Common.{◌≡◌, ◌⊎◌, ℕ, ◌<◌, Option, Some, None, List, length, length-set, slice_get, slice_set, is_none, inl, inr, refl, ap, sym, subst, ◌∙◌, option_flatten, cases_eq, same_Some, got_other, got_set, none_of, none_some, IsProgram, Done, Trapped, Entangled, EntryValue, AreSettings, SettingsValue, field_limit, Ledger, RunEnd, heap_of, let_go, or_fresh, after, Fuel, Machine, Pool, is_legal, ledger_of, entry_tells, legal_then, PoolValue, Rests, rested, with_off, rested_worker, StandsForAll, by_end, WorkerFits, Private, ParkedTask, SharedValue, accounts, rest_at, tree_counts_of, value_of, AreMeasured, IsMeasured, IsFree, KeepsUnits, RestsAreMeasured, HeapForm, IsSharedValue, WorkerPartFits, part_of, Enters, refused}
 use Rattle.core_invariant.proofs.JournalGoesOn.{accounts_then}
 use Rattle.core_invariant.proofs.BeforeTheEnd.{end_now, stands_now}
 use Rattle.core_invariant.proofs.UnitsMeasured.{measured_kept}
@@ -24,11 +24,11 @@ worker_by_end l (Some (Machine (Trapped kind a line))) t u e = e
 worker_by_end l (Some (Machine (Entangled a b))) t u e = e
 
 -- two workers hold two tasks
-pub tasks_apart : (w : SharedValue) (k u : ℕ) (p q : Private) → Fits w k p → Fits w u q → (u ≡ k → ⊥) → p.task ≡ q.task → ⊥
+pub tasks_apart : (w : SharedValue) (k u : ℕ) (p q : Private) → WorkerPartFits w k p → WorkerPartFits w u q → (u ≡ k → ⊥) → p.task ≡ q.task → ⊥
 tasks_apart w k u p q F G ne e = ne (same_Some u k (sym G.out ∙ (ap (λ t. (heap_of (accounts w) t).worker) (sym e) ∙ F.out)))
 
 -- a worker that holds a part holds its task
-pub task_is_out : (w : SharedValue) (k : ℕ) (p : Private) → IsSharedValue w → (accounts w).end ≡ None → Fits w k p → option_flatten (slice_get w.tasks_out k) ≡ Some p.task
+pub task_is_out : (w : SharedValue) (k : ℕ) (p : Private) → IsSharedValue w → (accounts w).end ≡ None → WorkerPartFits w k p → option_flatten (slice_get w.tasks_out k) ≡ Some p.task
 task_is_out w k p I on F = ((stands_now w I on).tree_counts.task_out k p.task).1 F.out
 
 -- no task at rest is held by a worker, and one that no worker holds is at rest
@@ -162,7 +162,7 @@ module _ {w w' : SharedValue} {e : EntryValue} (I : IsSharedValue w) (free : ref
 
     -- what a worker goes on with fits if it fits the accounts afterwards
     pub fits_then : (u : ℕ) (q : Private) → (heap_of (accounts w') q.task).worker ≡ Some u → q.leaf_limit ≡ w.settings.leaf → q.field_limit ≡ field_limit w.settings.version → HeapForm q.heap → IsMeasured w'.pool q
-        → WorkerFits w.program w.settings (part_of w.settings q) (value_of w') (after w.program w.settings (accounts w) e) → Fits w' u q
+        → WorkerFits w.program w.settings (part_of w.settings q) (value_of w') (after w.program w.settings (accounts w) e) → WorkerPartFits w' u q
     fits_then u q out el ef form measured fits = record {
       out = out;
       fits = subst (λ p. WorkerFits p w'.settings (part_of w'.settings q) (value_of w') (accounts w')) (sym N.program)
@@ -174,8 +174,8 @@ module _ {w w' : SharedValue} {e : EntryValue} (I : IsSharedValue w) (free : ref
     }
 
     -- a part of a worker that goes on fits if its belongings do
-    pub part_fits : (u : ℕ) (p q : Private) → option_flatten (slice_get w'.tasks_out u) ≡ option_flatten (slice_get w.tasks_out u) → Fits w u p → GoesOnAs p q → HeapForm q.heap → IsMeasured w'.pool q
-        → WorkerFits w.program w.settings (part_of w.settings q) (value_of w') (after w.program w.settings (accounts w) e) → Fits w' u q
+    pub part_fits : (u : ℕ) (p q : Private) → option_flatten (slice_get w'.tasks_out u) ≡ option_flatten (slice_get w.tasks_out u) → WorkerPartFits w u p → GoesOnAs p q → HeapForm q.heap → IsMeasured w'.pool q
+        → WorkerFits w.program w.settings (part_of w.settings q) (value_of w') (after w.program w.settings (accounts w) e) → WorkerPartFits w' u q
     part_fits u p q same F on_as form measured fits =
         fits_then u q
         (ap (λ (z : Private). (heap_of (accounts w') z.task).worker) on_as ∙ worker_when_out u p.task (same ∙ ((stands_now w I (entry_on w e free)).tree_counts.task_out u p.task).1 F.out))

@@ -1,5 +1,5 @@
 -- The shared value before the first entry.
-use Rattle.core_invariant.proofs.Common.{◌≡◌, ℕ, ℤ, zero, suc, false, not, ◌&&◌, Option, Some, None, List, [], ◌∷◌, length, slice_get, replicate, option_map, arith, ◌↔◌, refl, ap, sym, subst, ◌∙◌, option_flatten, false≢true, same_Some, fun_ext, ReservedVecValue, IsProgram, ProgramText, is_waiting, SettingsValue, AreSettings, EntryValue, Ledger, heap_of, opening, PoolValue, TaskNode, root_node, SetOf, content_of, Content, MarkingValue, Rests, Noted, Memory, Stands, BegunBy, StandsFor, as_node, first, first_stands, ParkedTask, SharedValue, rest_at, value_of, tree_counts_of, first_rest, AreMeasured, RestsAreMeasured, HeapForm, IsSharedValue}
+use Rattle.core_invariant.proofs.Common.{◌≡◌, ℕ, ℤ, zero, suc, false, not, ◌&&◌, Option, Some, None, List, [], ◌∷◌, length, slice_get, replicate, option_map, arith, ◌↔◌, refl, ap, sym, subst, ◌∙◌, option_flatten, false≢true, same_Some, fun_ext, ReservedVecValue, IsProgram, ProgramText, is_waiting, SettingsValue, AreSettings, EntryValue, Ledger, heap_of, opening, PoolValue, TaskNode, root_node, SetOf, content_of, Content, MarkingValue, Rests, Noted, Memory, MemoryStands, BegunBy, StandsFor, as_node, first, first_stands, ParkedTask, SharedValue, rest_at, value_of, tree_counts_of, first_rest, AreMeasured, RestsAreMeasured, HeapForm, IsSharedValue}
 
 all_long : (n : ℕ) → let xs : List (Option ℕ) = replicate n None in length xs ≡ n
 all_long zero = refl
@@ -71,7 +71,7 @@ module _ (p : ProgramText) (s : SettingsValue) (lims : AreSettings s) (form : Is
 
   stands : StandsFor (value_of w) (tree_counts_of w) l
   stands = record {
-    belongings = subst (λ (v : Memory). Stands v l) value_is (first_stands p s);
+    belongings = subst (λ (v : Memory). MemoryStands v l) value_is (first_stands p s);
     tree_counts = record { node = node_is; task_out = no_task_out; used = refl; steps = refl; outputs = refl; end = refl };
     begun = begun_at;
     keeps = λ t. keeps_are t ∙ sym (ap (λ b. b && not (heap_of l t).swept) (waits_none t));

@@ -1,5 +1,5 @@
 -- Whether enough chunks are free for a leaf collection of a part.
-use Rattle.core_invariant.proofs.Common.{◌≡◌, ℕ, suc, ◌+◌, ◌-◌, ◌^◌, ◌<◌, ◌≤◌, arith, Option, None, List, [], ◌∷◌, length, map, nat_le, inl, inr, refl, ap, ap₂, sym, subst, ◌∙◌, flat_map, cases_lt, lt-leb, in_map, Name, MachineState, object_at, Heap, Ledger, heap_of, let_go, small_in, take_of, object_words_of, words_sum, is_pool_enough, heap_machine, Addr, small_words, Located, units_in_use, saturating_words, aside, rested, rested_view, rested_worker, AreLaidOut, with_belongings, AllRead, BelongingsStand, Stands, names_of, small_chunks, Belongings, In, Memory, object_name, objects_of_chunks, in_objects, at_belongings, Private, small_lists, chunk_of, SharedValue, accounts, value_of, IsSharedValue, Fits, belongings_of_part, take_by}
+use Rattle.core_invariant.proofs.Common.{◌≡◌, ℕ, suc, ◌+◌, ◌-◌, ◌^◌, ◌<◌, ◌≤◌, arith, Option, None, List, [], ◌∷◌, length, map, nat_le, inl, inr, refl, ap, ap₂, sym, subst, ◌∙◌, flat_map, cases_lt, lt-leb, in_map, Name, MachineState, object_at, Heap, Ledger, heap_of, let_go, small_in, take_of, object_words_of, words_sum, is_pool_enough, heap_machine, Addr, small_words, Located, units_in_use, saturating_words, aside, rested, rested_view, rested_worker, AreLaidOut, with_belongings, AllRead, BelongingsStand, MemoryStands, chunk_names, small_chunks, Belongings, In, Memory, object_name, objects_of_chunks, in_objects, at_belongings, Private, small_lists, chunk_of, SharedValue, accounts, value_of, IsSharedValue, WorkerPartFits, belongings_of_part, take_by}
 use Rattle.core_invariant.proofs.HeapCounts.{small_names}
 use Rattle.core_invariant.proofs.BeforeTheEnd.{used_now}
 use Rattle.core_invariant.proofs.SmallWords.{SameWords, small_counted}
@@ -12,7 +12,7 @@ refs_long at (r ∷ rs) [] h = absurd h
 refs_long at (r ∷ rs) (x ∷ xs) h = ap suc (refs_long at rs xs h.1)
 
 -- a part without fresh steps
-module _ (w : SharedValue) (k : ℕ) (p : Private) (I : IsSharedValue w) (F : Fits w k (record p { fresh = 0 })) where
+module _ (w : SharedValue) (k : ℕ) (p : Private) (I : IsSharedValue w) (F : WorkerPartFits w k (record p { fresh = 0 })) where
   abbrev l : Ledger
   l = accounts w
 
@@ -28,7 +28,7 @@ module _ (w : SharedValue) (k : ℕ) (p : Private) (I : IsSharedValue w) (F : Fi
   abbrev L : Ledger
   L = rested (aside l) t
 
-  W : Stands v' L
+  W : MemoryStands v' L
   W = F.fits.part.fits.stands
 
   at_rest : (heap_of L t).worker ≡ None
@@ -52,7 +52,7 @@ module _ (w : SharedValue) (k : ℕ) (p : Private) (I : IsSharedValue w) (F : Fi
   chunks_are : (heap_of l t).chunks ≡ small_lists p.heap.chunks
   chunks_are =
       sym (rested_view (λ (z : Heap). z.chunks) (λ z. refl) (aside l) t)
-      ∙ (sym H.names.small ∙ (ap (λ (z : Belongings). map names_of (small_chunks z.chunks)) own_belongings ∙ small_names p.heap.chunks))
+      ∙ (sym H.names.small ∙ (ap (λ (z : Belongings). map chunk_names (small_chunks z.chunks)) own_belongings ∙ small_names p.heap.chunks))
 
   laid : AreLaidOut h.chunks (heap_of L t).reserved
   laid = subst (λ (z : Belongings). AreLaidOut z.chunks (heap_of L t).reserved) own_belongings H.laid

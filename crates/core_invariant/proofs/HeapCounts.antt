@@ -1,5 +1,5 @@
 -- A heap is as its account says, from what is known of it alone and how its belongings are read.
-use Rattle.core_invariant.proofs.Common.{◌≡◌, ℕ, zero, suc, ◌+◌, ◌*◌, ◌/◌, ◌<◌, ◌^◌, ◌==◌, ◌&&◌, ◌++◌, not, arith, Bool, true, false, cond, Option, Some, None, List, [], ◌∷◌, length, map, inl, inr, refl, ap, ap₂, sym, subst, ◌∙◌, ne_eqb, cond-true, false≢true, Name, Heap, Born, Cell, Hole, Mark, Moved, size_of, chunk_at, ChunkValue, Located, located_by, objects_from, chunk_there, LeafHeapValue, IsReserved, room_of, reserved_chunks, reserved_units, HasNames, large_chunks, names_of, small_chunks, Chunk, In, object_name, objects_of_chunks, AreReserved, HeapMatchesAccount, large_names, named_by, names_in, small_lists, name_of, is_empty, none_some, chunk_of, chunks_of, HeapForm}
+use Rattle.core_invariant.proofs.Common.{◌≡◌, ℕ, zero, suc, ◌+◌, ◌*◌, ◌/◌, ◌<◌, ◌^◌, ◌==◌, ◌&&◌, ◌++◌, not, arith, Bool, true, false, cond, Option, Some, None, List, [], ◌∷◌, length, map, inl, inr, refl, ap, ap₂, sym, subst, ◌∙◌, ne_eqb, cond-true, false≢true, Name, Heap, Born, Cell, Hole, Mark, Moved, size_of, chunk_at, ChunkValue, Located, located_by, objects_from, chunk_there, LeafHeapValue, IsReserved, room_of, reserved_chunks, reserved_units, ChunksHaveNames, large_chunks, chunk_names, small_chunks, Chunk, In, object_name, objects_of_chunks, HasReservedUnits, HeapMatchesAccount, large_names, named_by, names_in, small_lists, name_of, is_empty, none_some, chunk_of, chunks_of, HeapForm}
 
 -- ---- NAMES
 
@@ -12,11 +12,11 @@ pub names_are : (cs : List Cell) (number base : ℕ) → map object_name (object
 names_are [] number base = refl
 names_are (c ∷ cs) number base = names_by number base c c.mark (objects_from number (base + size_of c) cs) (names_in cs) (names_are cs number (base + size_of c))
 
-pub small_names : (ks : List ChunkValue) → map names_of (small_chunks (chunks_of ks)) ≡ small_lists ks
+pub small_names : (ks : List ChunkValue) → map chunk_names (small_chunks (chunks_of ks)) ≡ small_lists ks
 small_names [] = refl
 small_names (k ∷ ks) = small_names_by_cases (k.size == 1024) (small_names ks)
   where
-    small_names_by_cases : (b : Bool) → map names_of (small_chunks (chunks_of ks)) ≡ small_lists ks → map names_of (cond (not (not b)) (chunk_of k ∷ small_chunks (chunks_of ks)) (small_chunks (chunks_of ks))) ≡ cond b (names_in k.cells ∷ small_lists ks) (small_lists ks)
+    small_names_by_cases : (b : Bool) → map chunk_names (small_chunks (chunks_of ks)) ≡ small_lists ks → map chunk_names (cond (not (not b)) (chunk_of k ∷ small_chunks (chunks_of ks)) (small_chunks (chunks_of ks))) ≡ cond b (names_in k.cells ∷ small_lists ks) (small_lists ks)
     small_names_by_cases true e = ap₂ (λ x xs. x ∷ xs) (names_are k.cells k.number 0) e
     small_names_by_cases false e = e
 
@@ -93,12 +93,12 @@ module _ (h : LeafHeapValue) (F : HeapForm h) (units : ℕ) (laid : map (λ (c :
       let u : k.size / 1024 ≡ units = in_units units (k.size / 1024) (subst (λ ns. In ns (k.size / 1024)) laid (units_among h.chunks i R.0 spare)) in
       F.whole k (chunk_there h.chunks i R.0) ∙ ap (λ n. 1024 * n) u
 
-  are_reserved : (o : Option ℕ) → h.reserved ≡ o → AreReserved h.chunks o units
+  are_reserved : (o : Option ℕ) → h.reserved ≡ o → HasReservedUnits h.chunks o units
   are_reserved None e = none_reserved e
   are_reserved (Some i) e = some_reserved i e
 
 -- THE HEAP IS COUNTED
-pub counted_from : (h : LeafHeapValue) (l : Heap) → HeapForm h → HasNames (chunks_of h.chunks) l → room_of h ≡ l.room → h.since ≡ l.since → map (λ (c : Chunk). c.units) (reserved_chunks (chunks_of h.chunks)) ≡ reserved_units l.reserved → HeapMatchesAccount h l
+pub counted_from : (h : LeafHeapValue) (l : Heap) → HeapForm h → ChunksHaveNames (chunks_of h.chunks) l → room_of h ≡ l.room → h.since ≡ l.since → map (λ (c : Chunk). c.units) (reserved_chunks (chunks_of h.chunks)) ≡ reserved_units l.reserved → HeapMatchesAccount h l
 counted_from h l F N room since laid = record {
   chunks = sym (small_names h.chunks) ∙ N.small;
   large = sym (large_are h.chunks) ∙ N.large;

@@ -1,5 +1,5 @@
 -- The layout of a heap, from what is known of its chunks.
-use Rattle.core_invariant.proofs.Common.{◌≡◌, ◌⊎◌, ℕ, zero, suc, ◌+◌, ◌*◌, ◌/◌, ◌<◌, ◌≤◌, ◌==◌, ◌&&◌, not, arith, Bool, true, false, Option, Some, None, List, [], ◌∷◌, length, map, inl, inr, refl, ap, ap₂, sym, subst, ◌∙◌, ne_eqb, AllByRecursion, cases_eq, cond-true, cond-false, eqb-true, false≢true, false_from_ne_true, same_Some, is_empty, map_in, Birth, Born, Cell, Hole, Mark, Moved, size_of, chunk_at, ChunkValue, words_in, Located, located, located_by, objects_from, HaveDistinctNumbers as HaveNumbersApart, LeafHeapValue, IsReserved, Chunk, In, objects_of_chunks, DontOverlap, AreLaidOut, HoldsLarge, reserved_chunks, reserved_units, words, in_chunk, AreReserved, chunk_of, chunks_of}
+use Rattle.core_invariant.proofs.Common.{◌≡◌, ◌⊎◌, ℕ, zero, suc, ◌+◌, ◌*◌, ◌/◌, ◌<◌, ◌≤◌, ◌==◌, ◌&&◌, not, arith, Bool, true, false, Option, Some, None, List, [], ◌∷◌, length, map, inl, inr, refl, ap, ap₂, sym, subst, ◌∙◌, ne_eqb, AllByRecursion, cases_eq, cond-true, cond-false, eqb-true, false≢true, false_from_ne_true, same_Some, is_empty, map_in, Birth, Born, Cell, Hole, Mark, Moved, size_of, chunk_at, ChunkValue, words_in, Located, located, located_by, objects_from, HaveDistinctNumbers as HaveNumbersApart, LeafHeapValue, IsReserved, Chunk, In, objects_of_chunks, DontOverlap, AreLaidOut, HoldsLarge, reserved_chunks, reserved_units, words, in_chunk, HasReservedUnits, chunk_of, chunks_of}
 use Rattle.std.specs.List.{IsDistinct}
 use Rattle.core_invariant.proofs.CellsRead.{fresh_off, numbered}
 use Rattle.core_invariant.proofs.HeapCounts.{is_spare, spare_tells}
@@ -98,7 +98,7 @@ module _ (h : LeafHeapValue) (F : Formed h) where
   spare_is : (j : ℕ) → j < length h.chunks → is_spare (chunk_of (chunk_at h.chunks j)) ≡ true → h.reserved ≡ Some j
   spare_is j lt s = let y = spare_tells (chunk_at h.chunks j) s in F.spare j lt y.0 y.1
 
-  reserved_by : (o : Option ℕ) → h.reserved ≡ o → IsReserved h.chunks o → (n : ℕ) → AreReserved h.chunks o n → map (λ (k : Chunk). k.units) (reserved_chunks (chunks_of h.chunks)) ≡ reserved_units n
+  reserved_by : (o : Option ℕ) → h.reserved ≡ o → IsReserved h.chunks o → (n : ℕ) → HasReservedUnits h.chunks o n → map (λ (k : Chunk). k.units) (reserved_chunks (chunks_of h.chunks)) ≡ reserved_units n
   reserved_by None e R n r =
       ap (map (λ (k : Chunk). k.units)) (none_spare h.chunks (λ j lt s. none_some j (sym e ∙ spare_is j lt s))) ∙ ap reserved_units (sym r)
     where
@@ -146,7 +146,7 @@ module _ (h : LeafHeapValue) (F : Formed h) where
       let ends : o.at.offset + words o ≤ 0 + words_in c.0.cells = (between c.0.cells c.0.number 0 o (subst (λ (z : Chunk). In z.objects o) (sym c.2) j)).ends in
       subst (λ (z : Chunk). o.at.offset + words o ≤ 1024 * z.units) c.2 (omega (arith, fits, whole, ends))
 
-  pub laid_from : (n : ℕ) → AreReserved h.chunks h.reserved n → AreLaidOut (chunks_of h.chunks) n
+  pub laid_from : (n : ℕ) → HasReservedUnits h.chunks h.reserved n → AreLaidOut (chunks_of h.chunks) n
   laid_from n r = record {
     numbers = distinct_from ks F.shaped.apart;
     within = within_from;

@@ -1,5 +1,5 @@
 -- The words of a heap at rest: those that it counts are those of its names.
-use Rattle.core_invariant.proofs.Common.{◌≡◌, ℕ, suc, ◌+◌, ◌==◌, arith, All, Bool, true, false, cond, None, List, [], ◌∷◌, ◌++◌, inl, inr, length, map, refl, ap, ap₂, sym, subst, ◌∙◌, flat_map, sum_by-append, sum_by-cons, in_map, MachineState, Ledger, heap_of, small_in, words_at, object_words_of, words_sum, Born, Cell, Hole, Mark, Moved, moved_to, size_of, object_words_in, held_size, held_words, ChunkValue, Located, located, located_by, objects_from, behind, AreTidy, Rests, BelongingsStand, Stands, large_chunks, names_of, small_chunks, Chunk, In, Memory, object_name, objects, objects_of_chunks, in_objects, large_names, named_by, names_in, small_lists, name_of, chunk_of, chunks_of}
+use Rattle.core_invariant.proofs.Common.{◌≡◌, ℕ, suc, ◌+◌, ◌==◌, arith, All, Bool, true, false, cond, None, List, [], ◌∷◌, ◌++◌, inl, inr, length, map, refl, ap, ap₂, sym, subst, ◌∙◌, flat_map, sum_by-append, sum_by-cons, in_map, MachineState, Ledger, heap_of, small_in, words_at, object_words_of, words_sum, Born, Cell, Hole, Mark, Moved, moved_to, size_of, object_words_in, held_size, held_words, ChunkValue, Located, located, located_by, objects_from, behind, AreTidy, Rests, BelongingsStand, MemoryStands, large_chunks, chunk_names, small_chunks, Chunk, In, Memory, object_name, objects, objects_of_chunks, in_objects, large_names, named_by, names_in, small_lists, name_of, chunk_of, chunks_of}
 use Rattle.refinement.specs.below.run_ledger.{words_in}
 use Rattle.core_invariant.proofs.HeapCounts.{large_are, small_names}
 use Rattle.core_invariant.proofs.FreeChunks.{refs_long}
@@ -39,7 +39,7 @@ module _ (m : MachineState) where
           omega (arith, both, own, go)
 
 -- a value stands for these accounts, and a heap with these chunks is at rest
-module _ (v : Memory) (l : Ledger) (t : ℕ) (ks : List ChunkValue) (V : Stands v l) (rests : Rests l t) (here : (v.belongings t).chunks ≡ chunks_of ks) where
+module _ (v : Memory) (l : Ledger) (t : ℕ) (ks : List ChunkValue) (V : MemoryStands v l) (rests : Rests l t) (here : (v.belongings t).chunks ≡ chunks_of ks) where
   H : BelongingsStand v l t
   H = V.belongings t rests
 
@@ -50,7 +50,7 @@ module _ (v : Memory) (l : Ledger) (t : ℕ) (ks : List ChunkValue) (V : Stands 
       ap object_words_of c.1 ∙ ap₂ (λ a b. 2 + a + b) (sym (refs_long _ o.refs c.0.refs c.2.refs)) (ap length (sym c.2.ints))
 
   pub small_are : small_lists ks ≡ (heap_of l t).chunks
-  small_are = sym (small_names ks) ∙ (ap (λ (cs : List Chunk). map names_of (small_chunks cs)) (sym here) ∙ H.names.small)
+  small_are = sym (small_names ks) ∙ (ap (λ (cs : List Chunk). map chunk_names (small_chunks cs)) (sym here) ∙ H.names.small)
 
   pub large_ones : large_names ks ≡ (heap_of l t).large
   large_ones = sym (large_are ks) ∙ (ap (λ (cs : List Chunk). map object_name (objects_of_chunks (large_chunks cs))) (sym here) ∙ H.names.large)

@@ -1,13 +1,13 @@
 -- What a value has for tasks that workers hold is irrelevant: two values that differ only there stand for the same
 -- accounts, and the same parts fit them.
-use Rattle.core_invariant.proofs.Common.{length, ◌≡◌, ℕ, true, not, Option, Some, None, slice_get, inl, inr, refl, ap, sym, subst, ◌∙◌, cases_eq, and_parts, ProgramText, Name, is_waiting, SettingsValue, Heap, Ledger, heap_of, SoundLedger, Addr, Located, Rests, own, StepsAlone, rested_worker, Begun, Belongings, In, Lies, Memory, objects, objects_of_chunks, shown_at, TaskIsRead, Place, Stands, IsReachedAt, PartFits, FitsAt, Part, ahead, with_belongings, NotedAt, BegunBy, StandsFor, TreeCounts, WorkerFits, belongings_kept, object_kept, task_kept, gives_kept, notes_stay, same_whole, ahead_alone, root_same, source_same, at_belongings, off_belongings, aside_is}
+use Rattle.core_invariant.proofs.Common.{length, ◌≡◌, ℕ, true, not, Option, Some, None, slice_get, inl, inr, refl, ap, sym, subst, ◌∙◌, cases_eq, and_parts, ProgramText, Name, is_waiting, SettingsValue, Heap, Ledger, heap_of, SoundLedger, Addr, Located, Rests, own, StepsAlone, rested_worker, Begun, Belongings, In, Lies, Memory, objects, objects_of_chunks, shown_at, TaskIsRead, LiesWithOwner, MemoryStands, IsReachedAt, PartFits, FitsAt, Part, ahead, with_belongings, NotedAt, BegunBy, StandsFor, TreeCounts, WorkerFits, belongings_kept, object_kept, task_kept, gives_kept, notes_stay, same_whole, ahead_alone, root_same, source_same, at_belongings, off_belongings, aside_is}
 
 -- the same value, with other belongings of the tasks that workers hold
 module _ (v : Memory) (hs : ℕ → Belongings) (l : Ledger) (same : (u : ℕ) → Rests l u → hs u ≡ v.belongings u) where
   abbrev v' : Memory
   v' = record v { belongings = hs }
 
-  place : (n : Name) (a : Addr) → Place v l n a → Place v' l n a
+  place : (n : Name) (a : Addr) → LiesWithOwner v l n a → LiesWithOwner v' l n a
   place n a p = record { chunk = p.chunk; here = λ r. subst (λ (h : Belongings). Lies h.chunks n a) (sym (same (own l n) r)) (p.here r) }
 
   was : (u : ℕ) (o : Located) → Rests l u → In (objects v' u) o → In (objects v u) o
@@ -16,12 +16,12 @@ module _ (v : Memory) (hs : ℕ → Belongings) (l : Ledger) (same : (u : ℕ) �
   object_is_among : (u : ℕ) (o : Located) → Rests l u → In (objects v u) o → In (objects v' u) o
   object_is_among u o r i = subst (λ (h : Belongings). In (objects_of_chunks h.chunks) o) (sym (same u r)) i
 
-  pub stands_held : Stands v l → Stands v' l
+  pub stands_held : MemoryStands v l → MemoryStands v' l
   stands_held V = record {
     made = V.made;
     belongings = λ u r. belongings_kept v v' l l u (same u r) (λ k e. e) refl refl refl (V.belongings u r);
-    contents = λ u o r i. (let c = V.contents u o r (was u o r i) in (c.0, c.1, object_kept (Place v l) (Place v' l) o c.0 (λ n j. place n) c.2));
-    tasks = λ u x r e. subst (λ (h : Belongings). TaskIsRead (Place v' l) h x) (sym (same u r)) (task_kept (Place v l) (Place v' l) (v.belongings u) x (λ n j. place n) (V.tasks u x r e));
+    contents = λ u o r i. (let c = V.contents u o r (was u o r i) in (c.0, c.1, object_kept (LiesWithOwner v l) (LiesWithOwner v' l) o c.0 (λ n j. place n) c.2));
+    tasks = λ u x r e. subst (λ (h : Belongings). TaskIsRead (LiesWithOwner v' l) h x) (sym (same u r)) (task_kept (LiesWithOwner v l) (LiesWithOwner v' l) (v.belongings u) x (λ n j. place n) (V.tasks u x r e));
     remembered = λ u o x i n r j e at. V.remembered u o x i n r (was u o r j) e at;
     sources = λ u s i. (let k = V.sources u s i in source_same l l refl v v' u s k (place k.name s.object k.place) refl k.snapshot);
     views = λ u r live z o up ne rz i. ap (λ (h : Belongings). shown_at h.view o.at) (same u r) ∙ V.views u r live z o up ne rz (was z o rz i);
@@ -81,7 +81,7 @@ module _ (v : Memory) (hs : ℕ → Belongings) (l : Ledger) (same : (u : ℕ) �
       | inr ne ↦ off_belongings w t q.belongings u ne ∙ (same u (ap (λ (h : Heap). h.worker) (sym (A.heaps u ne)) ∙ r) ∙ sym (off_belongings v t q.belongings u ne))
     ]
 
-    stands_part : Stands (with_belongings v t q.belongings) K → Stands (with_belongings w t q.belongings) K
+    stands_part : MemoryStands (with_belongings v t q.belongings) K → MemoryStands (with_belongings w t q.belongings) K
     stands_part V = stands_held (with_belongings v t q.belongings) (with_belongings w t q.belongings).belongings K with_same V
 
     begun_part : BegunBy (with_belongings v t q.belongings) K t q.belongings.begun → BegunBy (with_belongings w t q.belongings) K t q.belongings.begun

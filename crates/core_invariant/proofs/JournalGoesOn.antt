@@ -1,5 +1,5 @@
 -- A journal with one more entry: its accounts continue those before it.
-use Rattle.core_invariant.proofs.Common.{◌≡◌, ℕ, ◌-◌, true, Option, List, [], ◌∷◌, ◌++◌, ap, sym, subst, ◌∙◌, ReservedVecValue, ProgramText, EntryValue, SettingsValue, after, ledger_of, journals_can_be_cut, TaskNode, Private, ParkedTask, SharedValue, Fits, IsSharedValue}
+use Rattle.core_invariant.proofs.Common.{◌≡◌, ℕ, ◌-◌, true, Option, List, [], ◌∷◌, ◌++◌, ap, sym, subst, ◌∙◌, ReservedVecValue, ProgramText, EntryValue, SettingsValue, after, ledger_of, journals_can_be_cut, TaskNode, Private, ParkedTask, SharedValue, WorkerPartFits, IsSharedValue}
 
 pub accounts_then : (p : ProgramText) (s : SettingsValue) (j : List EntryValue) (e : EntryValue) → ledger_of p s (j ++ e ∷ []) ≡ after p s (ledger_of p s j) e
 accounts_then p s j e = (journals_can_be_cut p s j (e ∷ [])).accounts
@@ -24,11 +24,11 @@ room_world w j e I =
     (record { settings = I.settings; form = I.form; legal = I.legal; made = I.made; noted = I.noted; workers = I.workers; limit = I.limit; stands = I.stands; heaps = I.heaps; measured = I.measured })
 
 -- and every part that fits still fits
-pub room_fit : (w : SharedValue) (j : ReservedVecValue EntryValue) → j.items ≡ w.journal.items → (k : ℕ) (p : Private) → Fits w k p → Fits (record w { journal = j }) k p
+pub room_fit : (w : SharedValue) (j : ReservedVecValue EntryValue) → j.items ≡ w.journal.items → (k : ℕ) (p : Private) → WorkerPartFits w k p → WorkerPartFits (record w { journal = j }) k p
 room_fit w j e k p F =
-    subst (λ (x : List EntryValue). Fits (record w { journal = record { items = x; room = j.room } }) k p) (sym e)
+    subst (λ (x : List EntryValue). WorkerPartFits (record w { journal = record { items = x; room = j.room } }) k p) (sym e)
     (record { out = F.out; fits = F.fits; form = F.form; measured = F.measured; leaf_limit = F.leaf_limit; field_limit = F.field_limit })
 
 -- and if the run is halted
-pub halted_fit : (w : SharedValue) (k : ℕ) (p : Private) → Fits w k p → Fits (record w { halted = true }) k p
+pub halted_fit : (w : SharedValue) (k : ℕ) (p : Private) → WorkerPartFits w k p → WorkerPartFits (record w { halted = true }) k p
 halted_fit w k p F = record { out = F.out; fits = F.fits; form = F.form; measured = F.measured; leaf_limit = F.leaf_limit; field_limit = F.field_limit }

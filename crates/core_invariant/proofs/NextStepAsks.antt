@@ -1,6 +1,6 @@
 -- What a part knows of its accounts after its fresh steps: the words that the next step allocates, the room, the words
 -- placed.
-use Rattle.core_invariant.proofs.Common.{◌≡◌, ℕ, ◌+◌, ◌≤◌, arith, Option, Some, None, slice_get, refl, ap, ap₂, sym, subst, ◌∙◌, cond-true, same_Some, Instr, Newm, Pack, Line, ProgramText, Frame as ModelFrame, MachineState, counts_in, words_asked, words_for, asked, asked_by, asked_line, fetched, is_running, Heap, Ledger, heap_of, or_fresh, task_steps, saturating_words, room_of, CallFrame, int_of, rested_view, rested_worker, BelongingsStand, ahead, with_belongings, Belongings, at_belongings, Private, AreReserved, HeapMatchesAccount, FitsNow as FitsMachine, FrameStands, Places, same_line, int_same, words_for_some, SharedValue, accounts, value_of, IsSharedValue, Fits, belongings_of_part, part_of, instr_asks, line_asks, part_asks}
+use Rattle.core_invariant.proofs.Common.{◌≡◌, ℕ, ◌+◌, ◌≤◌, arith, Option, Some, None, slice_get, refl, ap, ap₂, sym, subst, ◌∙◌, cond-true, same_Some, Instr, Newm, Pack, Line, ProgramText, Frame as ModelFrame, MachineState, counts_in, words_asked, words_for, asked, asked_by, asked_line, fetched, is_running, Heap, Ledger, heap_of, or_fresh, task_steps, saturating_words, room_of, CallFrame, int_of, rested_view, rested_worker, BelongingsStand, ahead, with_belongings, Belongings, at_belongings, Private, HasReservedUnits, HeapMatchesAccount, FitsNow as FitsMachine, FrameStands, Places, same_line, int_same, words_for_some, SharedValue, accounts, value_of, IsSharedValue, WorkerPartFits, belongings_of_part, part_of, instr_asks, line_asks, part_asks}
 use Rattle.core_invariant.proofs.PartFitsMachine as link
 use Rattle.core_invariant.proofs.StepsEntered.{counted_now}
 
@@ -38,7 +38,7 @@ some_account : (o : Option Heap) (k : ℕ) → (or_fresh o).worker ≡ Some k �
 some_account None k e = absurd cc
 some_account (Some h) k e = (h, refl)
 
-module _ (w : SharedValue) (k : ℕ) (p : Private) (I : IsSharedValue w) (F : Fits w k p) (on : (accounts w).end ≡ None) where
+module _ (w : SharedValue) (k : ℕ) (p : Private) (I : IsSharedValue w) (F : WorkerPartFits w k p) (on : (accounts w).end ≡ None) where
   abbrev t : ℕ
   t = p.task
 
@@ -80,7 +80,7 @@ module _ (w : SharedValue) (k : ℕ) (p : Private) (I : IsSharedValue w) (F : Fi
     last_large = C.last_large;
     room = C.room ∙ rested_view (λ (z : Heap). z.room) (λ z. refl) M t;
     since = C.since ∙ ap saturating_words (rested_view (λ (z : Heap). z.since) (λ z. refl) M t);
-    reserved = subst (AreReserved p.heap.chunks p.heap.reserved) (rested_view (λ (z : Heap). z.reserved) (λ z. refl) M t) C.reserved;
+    reserved = subst (HasReservedUnits p.heap.chunks p.heap.reserved) (rested_view (λ (z : Heap). z.reserved) (λ z. refl) M t) C.reserved;
   }
 
   -- the worker holds the task, which has an account

@@ -1,5 +1,5 @@
 -- Entries that move nothing: the end of fuel, a chunk, and the end of the pool.
-use Rattle.core_invariant.proofs.Common.{◌≡◌, ℕ, Option, Some, None, [], ◌∷◌, ◌++◌, length, slice_get, inl, refl, ap, sym, ◌∙◌, option_flatten, ReservedVecValue, MachineState, row_of, is_joined, EntryValue, Heap, Ledger, Fuel as FuelEnd, heap_of, after, LeafHeapValue as HeapOf, Rests, rested, Memory, SameObjects, CountsGo, IsMarked, IsQuiet, with_belongings, MarksOn, NotesStay, BelongingsStand, BegunBy, IsBy, belongings_kept, quiet_fits_then, quiet_stands_for, quiet_leaves, Begun, Private, SharedValue, accounts, tree_counts_of, value_of, IsMeasured, KeepsUnits, HeapForm, IsSharedValue, AllFit, Fits, belongings_of_part, part_of, Enters, refused}
+use Rattle.core_invariant.proofs.Common.{◌≡◌, ℕ, Option, Some, None, [], ◌∷◌, ◌++◌, length, slice_get, inl, refl, ap, sym, ◌∙◌, option_flatten, ReservedVecValue, MachineState, row_of, is_joined, EntryValue, Heap, Ledger, Fuel as FuelEnd, heap_of, after, LeafHeapValue as HeapOf, Rests, rested, Memory, SameObjects, CountsGo, IsMarked, IsQuiet, with_belongings, MarksOn, NotesStay, BelongingsStand, BegunBy, IsBy, belongings_kept, quiet_fits_then, quiet_stands_for, quiet_leaves, Begun, Private, SharedValue, accounts, tree_counts_of, value_of, IsMeasured, KeepsUnits, HeapForm, IsSharedValue, EachPartStillFits, WorkerPartFits, belongings_of_part, part_of, Enters, refused}
 use Rattle.refinement.specs.below.run_trace.{Fuel}
 use Rattle.core_invariant.proofs.EntryMade.{HasSameTasks, entered_world, entry_on, part_fits, same_form}
 use Rattle.core_invariant.proofs.BeforeTheEnd.{stands_now}
@@ -29,13 +29,13 @@ module _ {w w' : SharedValue} {e : EntryValue} (I : IsSharedValue w) (free : ref
   out_same : (u : ℕ) → option_flatten (slice_get w'.tasks_out u) ≡ option_flatten (slice_get w.tasks_out u)
   out_same u = ap (λ (z : SharedValue). option_flatten (slice_get z.tasks_out u)) M.tasks
 
-  pub quiet_others : (u : ℕ) (q : Private) → (IsBy e.kind q.task → ⊥) → Fits w u q → Fits w' u q
+  pub quiet_others : (u : ℕ) (q : Private) → (IsBy e.kind q.task → ⊥) → WorkerPartFits w u q → WorkerPartFits w' u q
   quiet_others u q ne F =
       part_fits I free M.enters quiet_world u q q (out_same u) F refl F.form (part_kept w.pool w'.pool q (M.keeps q.task) F.measured)
       (quiet_leaves w.program w.settings w.journal.items I.legal (value_of w) (value_of w') e free M.quiet M.same (part_of w.settings q) ne F.fits)
 
   -- the part of the worker that makes it, without fresh steps, with another heap, and in the collection b
-  module _ (k : ℕ) (p : Private) (g : HeapOf) (b : Option Begun) (F : Fits w k (record p { fresh = 0 })) where
+  module _ (k : ℕ) (p : Private) (g : HeapOf) (b : Option Begun) (F : WorkerPartFits w k (record p { fresh = 0 })) where
     abbrev pub P : Private
     P = record p { fresh = 0 }
 
@@ -43,7 +43,7 @@ module _ {w w' : SharedValue} {e : EntryValue} (I : IsSharedValue w) (free : ref
     Q = record p { fresh = 0; heap = g; begun = b }
 
     pub quiet_own : HeapForm g → IsMeasured w'.pool Q → SameObjects (with_belongings (value_of w) p.task (belongings_of_part P)) (with_belongings (value_of w') p.task (belongings_of_part Q)) (rested (accounts w) p.task) (rested L p.task)
-        → BegunBy (with_belongings (value_of w') p.task (belongings_of_part Q)) (rested L p.task) p.task b → Fits w' k Q
+        → BegunBy (with_belongings (value_of w') p.task (belongings_of_part Q)) (rested L p.task) p.task b → WorkerPartFits w' k Q
     quiet_own form measured part begun =
         part_fits I free M.enters quiet_world k P Q (out_same k) F refl form measured
         (quiet_fits_then w.program w.settings w.journal.items I.legal (value_of w) (value_of w') e p.task (belongings_of_part P) (belongings_of_part Q) free M.quiet F.fits part begun)
@@ -91,5 +91,5 @@ module _ (w : SharedValue) (k : ℕ) (I : IsSharedValue w) (free : refused w (re
   pub fuel_world : IsSharedValue fueled
   fuel_world = quiet_world I free moves
 
-  pub fuel_all : AllFit w fueled
+  pub fuel_all : EachPartStillFits w fueled
   fuel_all u q F = quiet_others I free moves u q (λ b. b) F

@@ -1,5 +1,5 @@
 -- An object of a heap is written: what is read of the heap afterwards, and that it keeps its form.
-use Rattle.core_invariant.proofs.Common.{◌≡◌, ℕ, ◌+◌, ◌-◌, ◌*◌, ◌/◌, ◌<◌, ◌≤◌, ◌==◌, arith, Bool, true, false, cond, Option, Some, None, List, [], ◌∷◌, All, length, map, inl, inr, refl, ap, ap₂, sym, subst, ◌∙◌, eq-eqb, cond-true, eqb-true, false≢true, length-map, All-cons, All-head, All-nil, All-tail, in_map, map_in, Addr, Born, Cell, Hole, Mark, Moved, moved_to, size_of, cell_of, chunk_at, put_object, same_address, with_cell, ChunkValue, cell_at, words_in, Located, changed_at, located_by, objects_from, objects_of, with_fields, length-put, put_changes_one, same_is, HaveDistinctNumbers, LeafHeapValue, IsTidy, room_at, room_of, units, Chunk, In, mapped_chunk, objects_of_chunks, put_at, in_chunk, in_objects, IsLastLarge, IsLastSmall, outline_of_cell, outline_of_chunk, outline_at, outline_size, written_outline, shape_written, AreNear, chunk_of, chunks_of, HeapForm}
+use Rattle.core_invariant.proofs.Common.{◌≡◌, ℕ, ◌+◌, ◌-◌, ◌*◌, ◌/◌, ◌<◌, ◌≤◌, ◌==◌, arith, Bool, true, false, cond, Option, Some, None, List, [], ◌∷◌, All, length, map, inl, inr, refl, ap, ap₂, sym, subst, ◌∙◌, eq-eqb, cond-true, eqb-true, false≢true, length-map, All-cons, All-head, All-nil, All-tail, in_map, map_in, Addr, Born, Cell, Hole, Mark, Moved, moved_to, size_of, cell_of, chunk_at, put_object, same_address, with_cell, ChunkValue, cell_at, words_in, Located, changed_at, located_by, objects_from, objects_of, with_fields, length-put, put_changes_one, same_is, HaveDistinctNumbers, LeafHeapValue, IsTidy, room_at, room_of, units, Chunk, In, mapped_chunk, objects_of_chunks, put_at, in_chunk, in_objects, IsLastLarge, IsLastSmall, outline_of_cell, outline_of_chunk, outline_at, outline_size, written_outline, shape_written, OffsetsAreSmall, chunk_of, chunks_of, HeapForm}
 use Rattle.core_invariant.proofs.CellsRead.{fresh_off, numbered}
 
 -- ---- WHAT IS READ
@@ -150,7 +150,7 @@ module _ (h : LeafHeapValue) (a : Addr) (d : Cell) (form : HeapForm h) (mark : d
   as_many : length ks ≡ length h.chunks
   as_many = length-put h.chunks a d
 
-  near : AreNear ks
+  near : OffsetsAreSmall ks
   near o i =
       let j = subst (λ (z : List Chunk). In (objects_of_chunks z) o) (chunks_put h.chunks a d form.shaped.apart (sym mark) (sym size)) i in
       let c = in_chunk (map (mapped_chunk (put_at a (with_fields d))) (chunks_of h.chunks)) o j in

@@ -1,5 +1,5 @@
 -- A part that fits the shared value fits the machine, with the addresses of the value's belongings.
-use Rattle.core_invariant.proofs.Common.{◌≡◌, ℕ, ◌+◌, ◌<◌, ◌≤◌, ◌==◌, arith, Bool, true, false, cond, Option, Some, None, List, [], ◌∷◌, ◌++◌, length, nat_lt, replicate, slice_get, is_none, ◌⊎◌, inl, inr, refl, ap, sym, subst, ◌∙◌, eq-eqb, ne_eqb, option_map, cases_eq, cond-true, cond-false, eqb-true, ltb-true, false≢true, both_ways, same_Some, in_got, in_map, Frame as ModelFrame, Name, Object, Running, MachineState, object_at, is_joined, is_on_path, is_waiting, parents, run, run_from, runs, start, run_on, start_is_fork_join_state, path_along, path_le, runs_idle, runs_live, limit_from, field_limit, Ran, Heap, Ledger, heap_of, let_go, tasks_of, is_name, task_steps, tasks_are_out_once, kind_machine, machine_is_run, heap_machine, is_name_itself, same_from_is_name, machine_goes_on, wait_run, Addr, Birth, Born, Cell, cell_of, place_in, place_of, ChunkValue, Located, located, seen_at, CallFrame, Rests, own, Knows, StepsAlone, rested_worker, legal_knows, leaf_alone, Chunk, Belongings, In, Lies, Memory, as_shown, object_name, objects, objects_of_chunks, shown_at, AllRead, FrameIsRead, FramesAreRead, HoldsRead, IsModelObject, ReadsReference, TaskIsRead, BelongingsStand, Place, Stands, FitsAt, ahead, with_belongings, belongings_own, object_kept, task_kept, in_chunk, ahead_alone, ahead_sound, noted_mutable, at_belongings, off_belongings, aside_is, Private, AreAt, FrameStands, FramesStand, NamesAddress, birth_of, name_of, FitsNow as FitsMachine, HeapStands, IsOwn, IsRun, IsShownBy, StackStands, ParkedTask, Work, Calls, Result, chunk_of, SharedValue, accounts, frames_down, rest_at, value_of, belongings_in, belongings_by, HeapForm, IsSharedValue, Fits, belongings_of_part, part_of, FitsFirst, above_of, find_at}
+use Rattle.core_invariant.proofs.Common.{◌≡◌, ℕ, ◌+◌, ◌<◌, ◌≤◌, ◌==◌, arith, Bool, true, false, cond, Option, Some, None, List, [], ◌∷◌, ◌++◌, length, nat_lt, replicate, slice_get, is_none, ◌⊎◌, inl, inr, refl, ap, sym, subst, ◌∙◌, eq-eqb, ne_eqb, option_map, cases_eq, cond-true, cond-false, eqb-true, ltb-true, false≢true, both_ways, same_Some, in_got, in_map, Frame as ModelFrame, Name, Object, Running, MachineState, object_at, is_joined, is_on_path, is_waiting, parents, run, run_from, runs, start, run_on, start_is_fork_join_state, path_along, path_le, runs_idle, runs_live, limit_from, field_limit, Ran, Heap, Ledger, heap_of, let_go, tasks_of, is_name, task_steps, tasks_are_out_once, kind_machine, machine_is_run, heap_machine, is_name_itself, same_from_is_name, machine_goes_on, wait_run, Addr, Birth, Born, Cell, cell_of, place_in, chunk_position, ChunkValue, Located, located, seen_at, CallFrame, Rests, own, LedgerIsKnown, StepsAlone, rested_worker, legal_knows, leaf_alone, Chunk, Belongings, In, Lies, Memory, as_shown, object_name, objects, objects_of_chunks, shown_at, AllRead, FrameIsRead, FramesAreRead, HoldsRead, IsModelObject, ReadsReference, TaskIsRead, BelongingsStand, LiesWithOwner, MemoryStands, FitsAt, ahead, with_belongings, belongings_own, object_kept, task_kept, in_chunk, ahead_alone, ahead_sound, noted_mutable, at_belongings, off_belongings, aside_is, Private, AreAt, FrameStands, FramesStand, NamesAddress, birth_of, name_of, FitsNow as FitsMachine, HeapStands, IsOwnObject, IsReachedByRun, IsShownBy, StackStands, ParkedTask, Work, Calls, Result, chunk_of, SharedValue, accounts, frames_down, rest_at, value_of, belongings_in, belongings_by, HeapForm, IsSharedValue, WorkerPartFits, belongings_of_part, part_of, FitsFirst, above_of, find_at}
 use Rattle.refinement.specs.below.hh_model.{owner_of}
 use Rattle.refinement.proofs.below.run_ledger.{SoundLedger}
 use Rattle.core_invariant.proofs.CellsRead.{object_seen, seen_object}
@@ -42,17 +42,17 @@ found_at ks n a named y =
     ap (find_at (objects_of_chunks ks)) (sym y.2.name) ∙ (f.3 ∙ ap Some (ap (λ (z : Located). z.at) same ∙ y.2.at))
 
 pub placed_in : (ks : List ChunkValue) (number i : ℕ) → place_in ks number ≡ Some i → (k : ChunkValue) × In ks k × (k.number ≡ number)
-placed_in ks number i e = placed_in_at ks (lt (nat_lt (place_of ks number) (length ks)) refl e)
+placed_in ks number i e = placed_in_at ks (lt (nat_lt (chunk_position ks number) (length ks)) refl e)
   where
-    lt : (b : Bool) → nat_lt (place_of ks number) (length ks) ≡ b → cond b (Some (place_of ks number)) None ≡ Some i → place_of ks number < length ks
-    lt true q h = ltb-true (place_of ks number) (length ks) q
+    lt : (b : Bool) → nat_lt (chunk_position ks number) (length ks) ≡ b → cond b (Some (chunk_position ks number)) None ≡ Some i → chunk_position ks number < length ks
+    lt true q h = ltb-true (chunk_position ks number) (length ks) q
     lt false q h = absurd cc
 
-    placed_in_at : (ks : List ChunkValue) → place_of ks number < length ks → (k : ChunkValue) × In ks k × (k.number ≡ number)
+    placed_in_at : (ks : List ChunkValue) → chunk_position ks number < length ks → (k : ChunkValue) × In ks k × (k.number ≡ number)
     placed_in_at [] h = absurd (omega (arith, h))
     placed_in_at (y ∷ ys) h = placed_in_at_by_cases (y.number == number) refl h (placed_in_at ys)
       where
-        placed_in_at_by_cases : (b : Bool) → (y.number == number) ≡ b → cond b 0 (1 + place_of ys number) < length (y ∷ ys) → (place_of ys number < length ys → (k : ChunkValue) × In ys k × (k.number ≡ number)) → (k : ChunkValue) × In (y ∷ ys) k × (k.number ≡ number)
+        placed_in_at_by_cases : (b : Bool) → (y.number == number) ≡ b → cond b 0 (1 + chunk_position ys number) < length (y ∷ ys) → (chunk_position ys number < length ys → (k : ChunkValue) × In ys k × (k.number ≡ number)) → (k : ChunkValue) × In (y ∷ ys) k × (k.number ≡ number)
         placed_in_at_by_cases true q h go = (y, inl refl, eqb-true y.number number q)
         placed_in_at_by_cases false q h go = let r = go (omega (arith, h)) in (r.0, inr r.1, r.2)
 
@@ -93,7 +93,7 @@ rest_near (Some r) h q i = rest_near_by_cases r.work i
     rest_near_by_cases (Calls s) j = (h r refl).near q j
     rest_near_by_cases (Result n b) j = (h r refl).near q j
 
-module _ (w : SharedValue) (k : ℕ) (p : Private) (I : IsSharedValue w) (F : Fits w k p) (on : (accounts w).end ≡ None) where
+module _ (w : SharedValue) (k : ℕ) (p : Private) (I : IsSharedValue w) (F : WorkerPartFits w k p) (on : (accounts w).end ≡ None) where
   abbrev l : Ledger
   l = accounts w
 
@@ -118,10 +118,10 @@ module _ (w : SharedValue) (k : ℕ) (p : Private) (I : IsSharedValue w) (F : Fi
   abbrev pub V : FitsAt w.program w.settings (part_of w.settings p) v l
   V = fits_now w k p F on
 
-  pub W : Stands v' L
+  pub W : MemoryStands v' L
   W = V.stands
 
-  pub knows : Knows l
+  pub knows : LedgerIsKnown l
   knows = legal_knows w.program w.settings w.journal.items I.legal
 
   pub sound : SoundLedger L
@@ -220,7 +220,7 @@ module _ (w : SharedValue) (k : ℕ) (p : Private) (I : IsSharedValue w) (F : Fi
   named_off a ne r o q i j e = (belongings_off a ne r).named o q (subst (λ (z : Belongings). In (objects_of_chunks z.chunks) o) (sym (off a ne)) i) (subst (λ (z : Belongings). In (objects_of_chunks z.chunks) q) (sym (off a ne)) j) e
 
   -- a name of the path is at its address by the map
-  place_is : (n : Name) (a : Addr) → is_on_path L.machine.tasks (own L n) t ≡ true → Place v' L n a → place n ≡ Some a
+  place_is : (n : Name) (a : Addr) → is_on_path L.machine.tasks (own L n) t ≡ true → LiesWithOwner v' L n a → place n ≡ Some a
   place_is n a path P = elim (cases_eq (own l n) t) [
     | inl e ↦
         let e' : own L n ≡ t = own_same n ∙ e in
@@ -235,7 +235,7 @@ module _ (w : SharedValue) (k : ℕ) (p : Private) (I : IsSharedValue w) (F : Fi
 
   -- FRAMES
   task_at : TaskIsRead (At place) (v'.belongings t) A.task
-  task_at = task_kept (Place v' L) (At place) (v'.belongings t) A.task (λ n i a P. place_is n a (sound.apart.of_task t A.task n task_is_in_machine i).1 P) (W.tasks t A.task at_rest task_is_in_machine)
+  task_at = task_kept (LiesWithOwner v' L) (At place) (v'.belongings t) A.task (λ n i a P. place_is n a (sound.apart.of_task t A.task n task_is_in_machine i).1 P) (W.tasks t A.task at_rest task_is_in_machine)
 
   frames_at : FramesAreRead (At place) (frames_down p.frames) (A.task.top ∷ A.task.below)
   frames_at = subst (λ (z : Belongings). FramesAreRead (At place) z.frames (A.task.top ∷ A.task.below)) own_belongings (subst (HoldsRead (At place) (v'.belongings t) A.task) run_status task_at)
@@ -264,12 +264,12 @@ module _ (w : SharedValue) (k : ℕ) (p : Private) (I : IsSharedValue w) (F : Fi
   object_is : (o : Located) → In (objects_of_chunks h.chunks) o → (x : Object) × (object_at L.machine.store (object_name o) ≡ Some x) × IsModelObject (At place) o x
   object_is o i =
       let c = W.contents t o at_rest (in_here o i) in
-      (c.0, c.1, object_kept (Place v' L) (At place) o c.0 (λ n j a P. place_is n a (refs_up o c.0 (in_here o i) c.1 n j) P) c.2)
+      (c.0, c.1, object_kept (LiesWithOwner v' L) (At place) o c.0 (λ n j a P. place_is n a (refs_up o c.0 (in_here o i) c.1 n j) P) c.2)
 
   own_here : (o : Located) → In (objects_of_chunks h.chunks) o → own L (object_name o) ≡ t
   own_here o i = belongings_own v' L sound t (W.belongings t at_rest) o (in_here o i)
 
-  cell_is_own : (a : Addr) (b : Birth) → (cell_of p.heap.chunks a).mark ≡ Born b → IsOwn place (owner_of L.machine.tasks) t L.machine.store (name_of b) a (cell_of p.heap.chunks a)
+  cell_is_own : (a : Addr) (b : Birth) → (cell_of p.heap.chunks a).mark ≡ Born b → IsOwnObject place (owner_of L.machine.tasks) t L.machine.store (name_of b) a (cell_of p.heap.chunks a)
   cell_is_own a b e =
       let o : Located = located a.chunk a.offset b (cell_of p.heap.chunks a) in
       let i : In (objects_of_chunks h.chunks) o = object_seen p.heap.chunks a b e in
@@ -371,7 +371,7 @@ module _ (w : SharedValue) (k : ℕ) (p : Private) (I : IsSharedValue w) (F : Fi
         sym (shown_found p.view a)
         ∙ (ap (λ (z : Belongings). shown_at z.view a) (sym own_belongings) ∙ (ap (shown_at (v'.belongings t).view) (sym found.at) ∙ W.views t at_rest live u q above_now tells.0 rest_then in_then))
 
-    read : (x : Object) × (object_at L.machine.store (object_name q) ≡ Some x) × IsModelObject (Place v' L) q x
+    read : (x : Object) × (object_at L.machine.store (object_name q) ≡ Some x) × IsModelObject (LiesWithOwner v' L) q x
     read = W.contents u q rest_then in_then
 
     -- an immutable object refers only up, so to what others own
@@ -383,7 +383,7 @@ module _ (w : SharedValue) (k : ℕ) (p : Private) (I : IsSharedValue w) (F : Fi
           | inr s ↦ absurd (both_ways q.mutable frozen (noted_mutable v' L (own L k) u q _ W in_then rest_then s refl))
         ]
 
-    ref_placed : q.mutable ≡ false → (k : Name) → In read.0.refs (Some k) → (b : Addr) → Place v' L k b → above k ≡ Some b
+    ref_placed : q.mutable ≡ false → (k : Name) → In read.0.refs (Some k) → (b : Addr) → LiesWithOwner v' L k b → above k ≡ Some b
     ref_placed frozen k j b P =
         let up = ref_up frozen k j in
         let on : is_on_path L.machine.tasks (own L k) t ≡ true = path_along (parents L.machine.tasks) sound.fork_join.tree.low (own L k) u t up above_now in
@@ -398,7 +398,7 @@ module _ (w : SharedValue) (k : ℕ) (p : Private) (I : IsSharedValue w) (F : Fi
     shown_by o e (Some c) true m s = absurd cc
     shown_by o e (Some c) false m s =
         let is : shown_there a c ≡ q = same_Some (shown_there a c) q s in
-        let refs : AreAt above read.0.refs q.refs = are_at above q.refs read.0.refs (object_kept (Place v' L) (At above) q read.0 (λ k j b P. ref_placed m k j b P) read.2).refs in (
+        let refs : AreAt above read.0.refs q.refs = are_at above q.refs read.0.refs (object_kept (LiesWithOwner v' L) (At above) q read.0 (λ k j b P. ref_placed m k j b P) read.2).refs in (
           ap (λ (z : Object). z.mutable) (sym e) ∙ (sym read.2.mutable ∙ m),
           record {
             mutable = ap (λ (z : Located). z.mutable) is ∙ (read.2.mutable ∙ ap (λ (z : Object). z.mutable) e);
@@ -417,7 +417,7 @@ module _ (w : SharedValue) (k : ℕ) (p : Private) (I : IsSharedValue w) (F : Fi
   pub limit : l.machine.field_limit ≡ field_limit w.settings.version
   limit = ap (λ (m : MachineState). m.field_limit) started ∙ limit_from w.program (start w.program (field_limit w.settings.version)) (tasks_of w.journal.items) (start_is_fork_join_state w.program (field_limit w.settings.version))
 
-  reached : IsRun w.program L.machine
+  reached : IsReachedByRun w.program L.machine
   reached = (
     field_limit w.settings.version,
     tasks_of w.journal.items ++ replicate p.fresh t,

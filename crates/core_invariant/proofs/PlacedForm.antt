@@ -1,5 +1,5 @@
 -- What is known of a heap's chunks stays known when an object is placed.
-use Rattle.core_invariant.proofs.Common.{◌≡◌, ℕ, ◌+◌, ◌-◌, ◌*◌, ◌/◌, ◌<◌, ◌≤◌, ◌^◌, arith, true, false, Option, Some, None, List, [], ◌∷◌, ◌++◌, length, length-set, nat_le, option_map, inl, inr, refl, ap, sym, subst, ◌∙◌, le-leb, cases_eq, cases_lt, cond-true, same_Some, get_or_default, get_or-set_other, get_or-set_same, All-from_get_or, All-get_or, Birth, Born, Cell, moved_to, size_of, chunk_at, held_words, no_chunk, object_count, place_in, push_object, small_words, ChunkValue, words_in, located, located_by, objects_from, appended_is_last, words_in-push, AreTidy, LeafHeapValue, AgreesWithChunks, IsTidy, saturating_words, place_for, placed_at, units, settled_placed, HoldsLarge, IsShaped, size_pushed, shape_placed, chunk_of}
+use Rattle.core_invariant.proofs.Common.{◌≡◌, ℕ, ◌+◌, ◌-◌, ◌*◌, ◌/◌, ◌<◌, ◌≤◌, ◌^◌, arith, true, false, Option, Some, None, List, [], ◌∷◌, ◌++◌, length, length-set, nat_le, option_map, inl, inr, refl, ap, sym, subst, ◌∙◌, le-leb, cases_eq, cases_lt, cond-true, same_Some, get_or_default, get_or-set_other, get_or-set_same, All-from_get_or, All-get_or, Birth, Born, Cell, moved_to, size_of, chunk_at, held_words, no_chunk, object_count, place_in, push_object, small_words, ChunkValue, words_in, located, located_by, objects_from, appended_is_last, words_in-push, AreTidy, LeafHeapValue, AgreesWithChunks, IsTidy, saturating_words, place_for, placed_at, units, settled_placed, HoldsLarge, HeapIsShaped, size_pushed, shape_placed, chunk_of}
 use Rattle.leaf_heap.proofs.HeapLemmas as heap
 
 -- a chunk: a large one is empty, or holds one object that has exactly its units
@@ -11,7 +11,7 @@ pub record IsFormed (k : ChunkValue) : Type 0 where
 
 -- each chunk of the heap is one, and a large one without objects is the reserved one
 pub record Formed (h : LeafHeapValue) : Type 0 where
-  pub shaped : IsShaped h
+  pub shaped : HeapIsShaped h
   pub each : (i : ℕ) → i < length h.chunks → IsFormed (chunk_at h.chunks i)
   pub spare : (i : ℕ) → i < length h.chunks → ((chunk_at h.chunks i).size ≡ 1024 → ⊥) → (chunk_of (chunk_at h.chunks i)).objects ≡ [] → h.reserved ≡ Some i
 

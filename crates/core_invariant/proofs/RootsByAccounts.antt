@@ -1,5 +1,5 @@
 -- The roots of a part's heap are those by the accounts: what remembered fields hold, if it points into the heap.
-use Rattle.core_invariant.proofs.Common.{◌≡◌, ℕ, Option, Some, None, List, slice_get, refl, ap, sym, subst, ◌∙◌, Ledger, Addr, Born, Cell, marked_object, cell_of, object_of, Located, RefField, AreFields, Rests, rested, rested_worker, AreRoots, with_belongings, Stands, Belongings, In, Memory, objects, objects_of_chunks, sources, in_chunk, at_belongings, off_belongings, Private, ParkedTask, refs_of_rest, refs_for, resting_references, chunks_of, SharedValue, accounts, belongings_in, rest_at, value_of, IsSharedValue, Fits, belongings_of_part, heaps_of, roots_of, sources_of}
+use Rattle.core_invariant.proofs.Common.{◌≡◌, ℕ, Option, Some, None, List, slice_get, refl, ap, sym, subst, ◌∙◌, Ledger, Addr, Born, Cell, marked_object, cell_of, object_of, Located, RefField, AreFields, Rests, rested, rested_worker, AreRoots, with_belongings, MemoryStands, Belongings, In, Memory, objects, objects_of_chunks, sources, in_chunk, at_belongings, off_belongings, Private, ParkedTask, refs_of_rest, refs_for, resting_references, chunks_of, SharedValue, accounts, belongings_in, rest_at, value_of, IsSharedValue, WorkerPartFits, belongings_of_part, heaps_of, roots_of, sources_of}
 use Rattle.core_invariant.proofs.CellsRead.{seen_object}
 use Rattle.core_invariant.proofs.RootsHeld as held
 use Rattle.core_invariant.proofs.BeforeTheEnd.{fits_now}
@@ -30,7 +30,7 @@ pub read_at_rest : (w : SharedValue) (u : ℕ) → IsSharedValue w → (o : Loca
 read_at_rest w u I o i owner = ap (λ q. refs_for w.rests q o.at) owner ∙ (rest_object w u I o i).refs
 
 -- ---- A PART WITHOUT FRESH STEPS, before the run's end
-module _ (w : SharedValue) (k : ℕ) (p : Private) (I : IsSharedValue w) (F : Fits w k (record p { fresh = 0 })) (on : (accounts w).end ≡ None) where
+module _ (w : SharedValue) (k : ℕ) (p : Private) (I : IsSharedValue w) (F : WorkerPartFits w k (record p { fresh = 0 })) (on : (accounts w).end ≡ None) where
   abbrev P : Private
   P = record p { fresh = 0 }
 
@@ -49,7 +49,7 @@ module _ (w : SharedValue) (k : ℕ) (p : Private) (I : IsSharedValue w) (F : Fi
   abbrev ss : List RefField
   ss = sources_of (slice_get w.sets t)
 
-  W : Stands v' L
+  W : MemoryStands v' L
   W = (fits_now w k P F on).stands
 
   at_rest : Rests L t

@@ -1,5 +1,5 @@
 -- What remembered fields hold and points into a heap at rest are its roots.
-use Rattle.core_invariant.proofs.Common.{◌≡◌, ℕ, ◌<◌, arith, Bool, true, false, cond, Option, Some, None, List, [], ◌∷◌, inl, inr, length, slice_get, is_some, refl, ap, sym, subst, ◌∙◌, slice_index_or, false≢true, get_or_from_slice_get, same_Some, slice_get-get_or, in_append_cases, in_append_left, in_append_right, each_from, in_map, map_in, Name, Object, object_at, Ledger, Addr, has_chunk, place_in, ChunkValue, Located, has_own, RefField, AreFields, target_of, into, targets_of, Rests, own, AreRoots, IsRoot, IsSource, Place, Stands, Chunk, In, Lies, Memory, objects, objects_of_chunks, sources, in_chunk, lies_in, name_at, Resting, resting_references, chunk_of, chunks_of}
+use Rattle.core_invariant.proofs.Common.{◌≡◌, ℕ, ◌<◌, arith, Bool, true, false, cond, Option, Some, None, List, [], ◌∷◌, inl, inr, length, slice_get, is_some, refl, ap, sym, subst, ◌∙◌, slice_index_or, false≢true, get_or_from_slice_get, same_Some, slice_get-get_or, in_append_cases, in_append_left, in_append_right, each_from, in_map, map_in, Name, Object, object_at, Ledger, Addr, has_chunk, place_in, ChunkValue, Located, has_own, RefField, AreFields, target_of, into, targets_of, Rests, own, AreRoots, IsRememberedRoot, IsSource, LiesWithOwner, MemoryStands, Chunk, In, Lies, Memory, objects, objects_of_chunks, sources, in_chunk, lies_in, name_at, Resting, resting_references, chunk_of, chunks_of}
 use Rattle.core_invariant.proofs.FreeChunks.{refs_long}
 use Rattle.core_invariant.proofs.PartFitsMachine.{placed_in}
 
@@ -42,7 +42,7 @@ chunk_in ks number h = chunk_in_by_cases (place_in ks number) refl h
 
 -- ---- A VALUE THAT STANDS, and a heap at rest with these chunks and remembered fields; heaps in whose words the
 -- objects of all other heaps are read
-module _ (v : Memory) (l : Ledger) (t : ℕ) (W : Stands v l) (at_rest : Rests l t) (ks : List ChunkValue) (here : (v.belongings t).chunks ≡ chunks_of ks) (ss : List RefField) (sources_are : sources v t ≡ ss) (hs : Resting)
+module _ (v : Memory) (l : Ledger) (t : ℕ) (W : MemoryStands v l) (at_rest : Rests l t) (ks : List ChunkValue) (here : (v.belongings t).chunks ≡ chunks_of ks) (ss : List RefField) (sources_are : sources v t ≡ ss) (hs : Resting)
     (read : (u : ℕ) → (u ≡ t → ⊥) → Rests l u → (o : Located) → In (objects v u) o → resting_references hs o.at ≡ o.refs) where
   -- a source's object, and the task to which it belongs
   record SourceAt (s : RefField) : Type 0 where
@@ -64,7 +64,7 @@ module _ (v : Memory) (l : Ledger) (t : ℕ) (W : Stands v l) (at_rest : Rests l
       let o : Located = lies.0 in
       let c = W.contents (own l S.name) o S.rests lies.1 in
       let same : S.object ≡ c.0 = same_Some S.object c.0 (sym S.is ∙ (ap (object_at l.machine.store) (sym lies.2.name) ∙ c.1)) in
-      let long : length o.refs ≡ length S.object.refs = refs_long (Place v l) o.refs c.0.refs c.2.refs ∙ ap (λ (z : Object). length z.refs) (sym same) in
+      let long : length o.refs ≡ length S.object.refs = refs_long (LiesWithOwner v l) o.refs c.0.refs c.2.refs ∙ ap (λ (z : Object). length z.refs) (sym same) in
       let within : s.field < length S.object.refs = S.field in
       record {
         task = own l S.name;
@@ -81,7 +81,7 @@ module _ (v : Memory) (l : Ledger) (t : ℕ) (W : Stands v l) (at_rest : Rests l
   are_fields = each_from (λ s. s.field < length (resting_references hs s.object)) ss (λ s i. let A = source_at s i in subst (λ rs. s.field < length rs) (sym A.refs) A.field)
 
   -- an address in a chunk of the heap that stands for a name is the address of its object
-  pub lies_here : (n : Name) (a : Addr) → Place v l n a → v.owner a.chunk ≡ Some t → (q : Located) × In (objects_of_chunks (chunks_of ks)) q × (q.at ≡ a)
+  pub lies_here : (n : Name) (a : Addr) → LiesWithOwner v l n a → v.owner a.chunk ≡ Some t → (q : Located) × In (objects_of_chunks (chunks_of ks)) q × (q.at ≡ a)
   lies_here n a p mine =
       let owned : own l n ≡ t = same_Some (own l n) t (sym p.chunk ∙ mine) in
       let lies : Lies (v.belongings t).chunks n a = subst (λ z. Lies (v.belongings z).chunks n a) owned (p.here (subst (Rests l) (sym owned) at_rest)) in
@@ -103,7 +103,7 @@ module _ (v : Memory) (l : Ledger) (t : ℕ) (W : Stands v l) (at_rest : Rests l
   leads_here : (u : ℕ) → Rests l u → (o : Located) → In (objects v u) o → (i : ℕ) (a : Addr) → slice_get o.refs i ≡ Some (Some a) → v.owner a.chunk ≡ Some t → (q : Located) × In (objects_of_chunks (chunks_of ks)) q × (q.at ≡ a)
   leads_here u r o j i a e mine =
       let c = W.contents u o r j in
-      let n = name_at (Place v l) o.refs c.0.refs i a c.2.refs e in
+      let n = name_at (LiesWithOwner v l) o.refs c.0.refs i a c.2.refs e in
       lies_here n.0 a n.2 mine
 
   abbrev held : List Addr
@@ -113,7 +113,7 @@ module _ (v : Memory) (l : Ledger) (t : ℕ) (W : Stands v l) (at_rest : Rests l
   pub are_roots : AreRoots v l t (targets_of resting_references hs ks ss)
   are_roots a = (to, from)
     where
-      to : In held a → IsRoot v l t a
+      to : In held a → IsRememberedRoot v l t a
       to i =
           let T = targets_tell resting_references hs ks ss a i in
           let A = source_at T.0 T.1 in
@@ -131,7 +131,7 @@ module _ (v : Memory) (l : Ledger) (t : ℕ) (W : Stands v l) (at_rest : Rests l
             into = own_chunk a.chunk T.3;
           }
 
-      from : IsRoot v l t a → In held a
+      from : IsRememberedRoot v l t a → In held a
       from R =
           let s = R.source in
           let S : IsSource v l t R.source = W.sources t R.source R.noted in

@@ -1,5 +1,5 @@
 -- The words of a heap's small objects: those that it counts are those of its names.
-use Rattle.core_invariant.proofs.Common.{◌≡◌, ℕ, suc, ◌+◌, ◌*◌, ◌/◌, ◌<◌, ◌≤◌, ◌==◌, not, arith, Bool, true, false, cond, None, List, [], ◌∷◌, All, nat_le, inl, inr, refl, ap, ap₂, sym, subst, ◌∙◌, le-leb, flat_map, cond-true, cond-false, eqb-true, sum_by-append, sum_by-cons, MachineState, words_at, words_sum, Born, Cell, Hole, Mark, Moved, moved_to, size_of, held_size, small_part, small_words, sum_in, ChunkValue, words_in, Located, located, located_by, objects_from, behind, AreTidy, AreWithin, HoldsLarge, words, In, object_name, named_by, names_in, small_lists, name_of, chunk_of}
+use Rattle.core_invariant.proofs.Common.{◌≡◌, ℕ, suc, ◌+◌, ◌*◌, ◌/◌, ◌<◌, ◌≤◌, ◌==◌, not, arith, Bool, true, false, cond, None, List, [], ◌∷◌, All, nat_le, inl, inr, refl, ap, ap₂, sym, subst, ◌∙◌, le-leb, flat_map, cond-true, cond-false, eqb-true, sum_by-append, sum_by-cons, MachineState, words_at, words_sum, Born, Cell, Hole, Mark, Moved, moved_to, size_of, held_size, small_part, small_words, sum_in, ChunkValue, words_in, Located, located, located_by, objects_from, behind, AreTidy, CellsFitInChunks, HoldsLarge, words, In, object_name, named_by, names_in, small_lists, name_of, chunk_of}
 
 -- the machine's object of this name has as many words
 abbrev pub SameWords : MachineState → Located → Type 0
@@ -60,7 +60,7 @@ module _ (m : MachineState) where
       large_in_by_cases u n size ne fits some = omega (arith, size, ne, fits, some)
 
   -- THE WORDS of all names of small chunks
-  pub small_counted : (ks : List ChunkValue) → AreTidy ks → AreWithin ks → ((k : ChunkValue) → In ks k → k.size ≡ 1024 * (k.size / 1024)) → ((k : ChunkValue) → In ks k → (chunk_of k).large ≡ true → HoldsLarge (chunk_of k))
+  pub small_counted : (ks : List ChunkValue) → AreTidy ks → CellsFitInChunks ks → ((k : ChunkValue) → In ks k → k.size ≡ 1024 * (k.size / 1024)) → ((k : ChunkValue) → In ks k → (chunk_of k).large ≡ true → HoldsLarge (chunk_of k))
       → ((k : ChunkValue) (o : Located) → In ks k → In (chunk_of k).objects o → SameWords m o) → words_sum m (flat_map (λ ns. ns) (small_lists ks)) ≡ small_words ks
   small_counted [] tidy within whole large same = refl
   small_counted (k ∷ ks) tidy within whole large same =

@@ -1,5 +1,5 @@
 -- Private steps are committed.
-use Rattle.core_invariant.proofs.Common.{◌≡◌, ℕ, zero, suc, ◌+◌, ◌-◌, ◌<◌, ◌≤◌, true, false, min, Bool, Option, Some, None, [], ◌∷◌, ◌++◌, map, slice_get, nat_le, is_none, is_some, inl, inr, refl, ap, sym, subst, ◌∙◌, arith, eq-eqb, le-leb, and_from, ReservedVecValue, option_is, ProgramText, Running, MachineState, is_running, step, Ran, EntryValue, SettingsValue, Ledger, Refused, NotOut, Collecting, Long, heap_of, let_go, is_private, task_step, task_steps, most_steps, standing, after, is_out, kind_refusal, refused_if, refused_unless, none_of, ran_tells, collecting_is, heap_machine, task_step_machine, steps_last, ArePrivate, aside, RunsPrivateSteps, rested_worker, entry_runs, reserved_chunks, reserved_units, Chunk, Belongings, Memory, ahead, part_for, with_belongings, IsSteady, HasNames, BelongingsStand, WorkerFits, at_belongings, Private, HeapMatchesAccount, unended, steps, SharedValue, accounts, value_of, IsSharedValue, Fits, OthersFit, beyond, belongings_of_part, part_of, refused, first_cause, or_else}
+use Rattle.core_invariant.proofs.Common.{◌≡◌, ℕ, zero, suc, ◌+◌, ◌-◌, ◌<◌, ◌≤◌, true, false, min, Bool, Option, Some, None, [], ◌∷◌, ◌++◌, map, slice_get, nat_le, is_none, is_some, inl, inr, refl, ap, sym, subst, ◌∙◌, arith, eq-eqb, le-leb, and_from, ReservedVecValue, option_is, ProgramText, Running, MachineState, is_running, step, Ran, EntryValue, SettingsValue, Ledger, Refused, NotOut, Collecting, Long, heap_of, let_go, is_private, task_step, task_steps, most_steps, standing, after, is_out, kind_refusal, refused_if, refused_unless, none_of, ran_tells, collecting_is, heap_machine, task_step_machine, steps_last, ArePrivate, aside, RunsPrivateSteps, rested_worker, entry_runs, reserved_chunks, reserved_units, Chunk, Belongings, Memory, ahead, part_for, with_belongings, IsSteady, ChunksHaveNames, BelongingsStand, WorkerFits, at_belongings, Private, HeapMatchesAccount, unended, steps, SharedValue, accounts, value_of, IsSharedValue, WorkerPartFits, OthersFit, beyond, belongings_of_part, part_of, refused, first_cause, or_else}
 use Rattle.refinement.proofs.below.run_ledger.{collecting}
 use Rattle.refinement.specs.below.ledger_step_laws.{Private as PrivateKind}
 use Rattle.core_invariant.proofs.HeapCounts.{counted_from}
@@ -20,7 +20,7 @@ pub beyond_machine : (p : ProgramText) (l : Ledger) (q : Private) → (beyond p 
 beyond_machine p l q = heap_machine (task_steps p (aside l) q.task q.fresh) q.task let_go ∙ machine_steps p (aside l) q.task q.fresh
 
 -- a part that fits, before the run's end
-module _ (w : SharedValue) (k : ℕ) (p : Private) (I : IsSharedValue w) (F : Fits w k p) (on : (accounts w).end ≡ None) where
+module _ (w : SharedValue) (k : ℕ) (p : Private) (I : IsSharedValue w) (F : WorkerPartFits w k p) (on : (accounts w).end ≡ None) where
   pub goes : (accounts w).machine.end ≡ None
   goes = now.alive w k p F on
 
@@ -42,7 +42,7 @@ module _ (w : SharedValue) (k : ℕ) (p : Private) (I : IsSharedValue w) (F : Fi
   -- its heap is as its account then says
   pub counted_now : HeapMatchesAccount p.heap (heap_of M p.task)
   counted_now =
-      counted_from p.heap (heap_of M p.task) F.form (subst (λ (z : Belongings). HasNames z.chunks (heap_of M p.task)) own_belongings belongings_stand.names) (ap (λ (z : Belongings). z.room) (sym own_belongings) ∙ belongings_stand.room) (ap (λ (z : Belongings). z.since) (sym own_belongings) ∙ belongings_stand.since)
+      counted_from p.heap (heap_of M p.task) F.form (subst (λ (z : Belongings). ChunksHaveNames z.chunks (heap_of M p.task)) own_belongings belongings_stand.names) (ap (λ (z : Belongings). z.room) (sym own_belongings) ∙ belongings_stand.room) (ap (λ (z : Belongings). z.since) (sym own_belongings) ∙ belongings_stand.since)
       (subst (λ (z : Belongings). map (λ (c : Chunk). c.units) (reserved_chunks z.chunks) ≡ reserved_units (heap_of M p.task).reserved) own_belongings belongings_stand.laid.reserved)
 
 -- WHY IT IS REFUSED
@@ -61,7 +61,7 @@ else_same : (o : Option Refused) (rest : Option Refused) → (o ≡ None → res
 else_same None rest h = h refl
 else_same (Some c) rest h = refl
 
-module _ (w : SharedValue) (k : ℕ) (p : Private) (I : IsSharedValue w) (F : Fits w k p) (pos : 0 < p.fresh) where
+module _ (w : SharedValue) (k : ℕ) (p : Private) (I : IsSharedValue w) (F : WorkerPartFits w k p) (pos : 0 < p.fresh) where
   free_kind : (accounts w).end ≡ None → kind_refusal w.program w.settings (accounts w) k (Ran p.task p.fresh) ≡ None
   free_kind on =
       let l : Ledger = accounts w in
@@ -95,7 +95,7 @@ private_at p s t (suc n) l h = private_at p s t n (task_step p l t) h.3
 abbrev ran_with : SharedValue → ℕ → Private → ℕ → ℕ → SharedValue
 ran_with w k p m room = record w { steps = w.steps + m; journal = record { items = w.journal.items ++ ran_entry k p m ∷ []; room = room } }
 
-module _ (w : SharedValue) (k : ℕ) (p : Private) (I : IsSharedValue w) (F : Fits w k p) (n : ℕ) (is : p.fresh ≡ suc n) (free : refused w (ran_entry k p (suc n)) ≡ None) (room : ℕ) where
+module _ (w : SharedValue) (k : ℕ) (p : Private) (I : IsSharedValue w) (F : WorkerPartFits w k p) (n : ℕ) (is : p.fresh ≡ suc n) (free : refused w (ran_entry k p (suc n)) ≡ None) (room : ℕ) where
   abbrev e : EntryValue
   e = ran_entry k p (suc n)
 
@@ -145,7 +145,7 @@ module _ (w : SharedValue) (k : ℕ) (p : Private) (I : IsSharedValue w) (F : Fi
     counts = record { tree = λ u. refl; task_out = λ u. refl; outputs = refl; end = refl; used = refl; steps = refl };
   }
 
-module _ (w : SharedValue) (k : ℕ) (p : Private) (I : IsSharedValue w) (F : Fits w k p) (pos : 0 < p.fresh) (free : refused w (record { worker = k; kind = Ran p.task p.fresh }) ≡ None) (j : ReservedVecValue EntryValue) where
+module _ (w : SharedValue) (k : ℕ) (p : Private) (I : IsSharedValue w) (F : WorkerPartFits w k p) (pos : 0 < p.fresh) (free : refused w (record { worker = k; kind = Ran p.task p.fresh }) ≡ None) (j : ReservedVecValue EntryValue) where
   abbrev n : ℕ
   n = p.fresh - 1
 
@@ -161,14 +161,14 @@ module _ (w : SharedValue) (k : ℕ) (p : Private) (I : IsSharedValue w) (F : Fi
   pub ran_world : IsSharedValue (ran_with w k p p.fresh j.room)
   ran_world = steps_world I F free_so made_so
 
-  pub ran_part : Fits (ran_with w k p p.fresh j.room) k (record p { fresh = 0 })
-  ran_part = subst (λ m. Fits (ran_with w k p m j.room) k (record p { fresh = 0 })) (sym fresh_is_next) (steps_part I F free_so (made w k p I F n fresh_is_next free_so j.room) p.frames refl F.measured refl)
+  pub ran_part : WorkerPartFits (ran_with w k p p.fresh j.room) k (record p { fresh = 0 })
+  ran_part = subst (λ m. WorkerPartFits (ran_with w k p m j.room) k (record p { fresh = 0 })) (sym fresh_is_next) (steps_part I F free_so (made w k p I F n fresh_is_next free_so j.room) p.frames refl F.measured refl)
 
   pub ran_others : OthersFit w (ran_with w k p p.fresh j.room) k
   ran_others = steps_others I F free_so made_so
 
 -- the counts are small
-pub steps_small : (w : SharedValue) (k : ℕ) (p : Private) → IsSharedValue w → Fits w k p → refused w (record { worker = k; kind = Ran p.task p.fresh }) ≡ None → (w.steps < w.settings.fuel) × (w.settings.fuel ≤ 1000000000) × (p.fresh ≤ 257)
+pub steps_small : (w : SharedValue) (k : ℕ) (p : Private) → IsSharedValue w → WorkerPartFits w k p → refused w (record { worker = k; kind = Ran p.task p.fresh }) ≡ None → (w.steps < w.settings.fuel) × (w.settings.fuel ≤ 1000000000) × (p.fresh ≤ 257)
 steps_small w k p I F free =
     let a = ran_tells w.program w.settings (accounts w) k p.task p.fresh (ap is_none free) in
     let b : w.steps ≡ (accounts w).steps = steps_now w I in

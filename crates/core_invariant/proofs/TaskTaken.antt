@@ -1,5 +1,5 @@
 -- A worker takes a task.
-use Rattle.core_invariant.proofs.Common.{◌≡◌, ℕ, ◌<◌, Bool, true, false, not, ◌&&◌, nat_le, nat_lt, Option, Some, None, List, [], ◌∷◌, ◌++◌, length, length-set, slice_get, slice_set, option_map, is_none, is_some, refl, ap, sym, subst, ◌∙◌, arith, option_flatten, IsSome, and_parts, false≢true, ltb-true, ReservedVecValue, got_same, got_other, got_within, got_set, none_is, none_some, Name, Task, Running, is_running, parent_of, parents, runs_is, Took, EntryValue, field_limit, Ledger, heap_of, Refused, NoWorker, Over, Spent, after, out_from, is_fuel, is_ready, kind_refusal, refused_holding, refused_if, refused_unless, entry_tells, none_unless, Addr, FramesValue, TaskState, Out, TaskNode, set_at, with_state, parent_in, Rests, Belongings, Memory, SameBut, TakesNode, LetsGo, FramesAreRead, HoldsRead, Place, part_for, WorkerFits, StandsFor, took_stands_for, took_fits_then, took_leaves, Private, ParkedTask, Work, Calls, Result, SharedValue, accounts, belongings_in, belongings_by, rest_at, tree_counts_of, value_of, IsSharedValue, Fits, IsAtWork, OthersFit, belongings_of_part, part_of, taken_part, Enters, refused}
+use Rattle.core_invariant.proofs.Common.{◌≡◌, ℕ, ◌<◌, Bool, true, false, not, ◌&&◌, nat_le, nat_lt, Option, Some, None, List, [], ◌∷◌, ◌++◌, length, length-set, slice_get, slice_set, option_map, is_none, is_some, refl, ap, sym, subst, ◌∙◌, arith, option_flatten, IsSome, and_parts, false≢true, ltb-true, ReservedVecValue, got_same, got_other, got_within, got_set, none_is, none_some, Name, Task, Running, is_running, parent_of, parents, runs_is, Took, EntryValue, field_limit, Ledger, heap_of, Refused, NoWorker, Over, Spent, after, out_from, is_fuel, is_ready, kind_refusal, refused_holding, refused_if, refused_unless, entry_tells, none_unless, Addr, FramesValue, TaskState, Out, TaskNode, set_at, with_state, parent_in, Rests, Belongings, Memory, SameBut, TakesNode, LetsGo, FramesAreRead, HoldsRead, LiesWithOwner, part_for, WorkerFits, StandsFor, took_stands_for, took_fits_then, took_leaves, Private, ParkedTask, Work, Calls, Result, SharedValue, accounts, belongings_in, belongings_by, rest_at, tree_counts_of, value_of, IsSharedValue, WorkerPartFits, HasFrames, OthersFit, belongings_of_part, part_of, taken_part, Enters, refused}
 use Rattle.refinement.specs.below.heap_tree.{parent_of as parent_in_tree}
 use Rattle.core_invariant.proofs.EntryMade.{ChangesRest, changed_form, entered_world, entry_on, fits_then, free_at_rest, free_before, part_fits, worker_when_out}
 use Rattle.core_invariant.proofs.UnitsMeasured.{all_kept}
@@ -105,7 +105,7 @@ module _ (w : SharedValue) (k t : ℕ) (I : IsSharedValue w) (free : refused w (
   running_task_is_there = task_of (slice_get l.machine.tasks t) running
 
   pub calls : HasCalls (rest_at w.rests t)
-  calls = has_calls (Place v l) (rest_at w.rests t) running_task_is_there.0 (subst (HoldsRead (Place v l) (v.belongings t) running_task_is_there.0) running_task_is_there.2 (S.belongings.tasks t running_task_is_there.0 rests running_task_is_there.1))
+  calls = has_calls (LiesWithOwner v l) (rest_at w.rests t) running_task_is_there.0 (subst (HoldsRead (LiesWithOwner v l) (v.belongings t) running_task_is_there.0) running_task_is_there.2 (S.belongings.tasks t running_task_is_there.0 rests running_task_is_there.1))
 
   pub has_slot : t < length w.rests
   has_slot = there_by (slice_get w.rests t) refl calls
@@ -120,8 +120,8 @@ module _ (w : SharedValue) (k t : ℕ) (I : IsSharedValue w) (free : refused w (
   pub calls_of : (r : ParkedTask) → rest_at w.rests t ≡ Some r → (s : FramesValue) × (r.work ≡ Calls s)
   calls_of r q = subst HasCalls q calls
 
-  pub at_work : (r : ParkedTask) → rest_at w.rests t ≡ Some r → IsAtWork r.work
-  at_work r q = subst IsAtWork (sym (calls_of r q).1) tt
+  pub at_work : (r : ParkedTask) → rest_at w.rests t ≡ Some r → HasFrames r.work
+  at_work r q = subst HasFrames (sym (calls_of r q).1) tt
 
   module _ (j : ReservedVecValue EntryValue) where
     abbrev w' : SharedValue
@@ -170,7 +170,7 @@ module _ (w : SharedValue) (k t : ℕ) (I : IsSharedValue w) (free : refused w (
       belongings_are : v.belongings t ≡ belongings_of_part p
       belongings_are = ap belongings_in rest_is ∙ ap (belongings_by r.heap r.view r.allocations) calls_is
 
-      pub took_part : Fits w' k p
+      pub took_part : WorkerPartFits w' k p
       took_part =
           fits_then I free enters took_world k p (worker_when_out I free enters took_world k t counts.task_out) refl refl (I.heaps t r rest_is) (I.measured t r rest_is (free_at_rest w t I on rests), λ n i. absurd i)
           (subst (λ (g : Belongings). WorkerFits w.program w.settings (part_for w.settings t g 0) v' L) belongings_are (took_fits_then w.program w.settings w.journal.items I.legal v v' (tree_counts_of w) k t free I.stands but))

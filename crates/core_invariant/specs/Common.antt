@@ -1,10 +1,10 @@
 -- The names of lower crates that these specifications use. Declares nothing.
 pub use Rattle.chunk_list.specs.View.{Level}
 pub use Rattle.copying_gc.specs.Laid.{AreNew}
-pub use Rattle.copying_gc.specs.Lists.{AreReserved}
+pub use Rattle.copying_gc.specs.Lists.{HasReservedLists}
 pub use Rattle.copying_gc.specs.Survivors.{as_reference}
 pub use Rattle.copying_gc.specs.declared.lists.ToChunks.{ToChunks}
-pub use Rattle.leaf_heap.specs.LeafHeapValue.{LeafHeapValue, place_for, room_of, with_places, HaveDistinctNumbers, IsFresh, AreTidy, AreWithin}
+pub use Rattle.leaf_heap.specs.LeafHeapValue.{LeafHeapValue, place_for, room_of, with_places, HaveDistinctNumbers, IsFresh, AreTidy, CellsFitInChunks}
 pub use Rattle.refinement.specs.Fits.{Part, part_for}
 pub use Rattle.refinement.specs.Memory.{In, Belongings, Memory, object_name, objects, Noted}
 pub use Rattle.refinement.specs.Whole.{TreeCounts, StandsForAll}
@@ -20,7 +20,7 @@ pub use Rattle.refinement.specs.below.remembered_set.{targets_of}
 pub use Rattle.refinement.specs.below.run_ledger.{Refused, Collecting, Due, Over, Spent, NoWorker, NotNeeded, NotReady, NotSpent, RunEnd, refused_if, refused_unless, refused_holding, NotDue, units, refusal, Ledger, heap_of, task_steps, is_name, has_no_caller, owns, touched, ledger_of, is_legal}
 pub use Rattle.refinement.specs.below.run_trace.{Kind, Took, Ran, Chunk, Begin, End, PutOff, Mark, More, Sweep, Fuel, SettingsValue, EntryValue, field_limit, AreSettings}
 pub use Rattle.refinement.specs.below.task_frames.{FramesValue, CallFrame, int_of, ref_of}
-pub use Rattle.refinement.specs.below.task_machine.{Private, is_part_due, Places, FitsNow, Begun, IsLastLarge, IsLastSmall, IsShaped}
+pub use Rattle.refinement.specs.below.task_machine.{Private, is_part_due, Places, FitsNow, Begun, IsLastLarge, IsLastSmall, HeapIsShaped}
 pub use Rattle.task_slots.specs.RestingHeaps.{Resting, resting_references}
 pub use Rattle.task_slots.specs.below.chunk_pool.{PoolValue, slot_at, one_unit, owner_of, units_in_use}
 pub use Rattle.task_slots.specs.below.write_barrier.{SetOf}

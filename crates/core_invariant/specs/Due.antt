@@ -2,11 +2,11 @@
 use Rattle.std.specs.Prelude.{ℕ, ◌*◌, ◌-◌, Option, None, max, is_some}
 use Rattle.core_invariant.specs.Common.{Refused, Collecting, NotDue, refused_if, refused_unless, units, Private, is_part_due}
 use Rattle.core_invariant.specs.SharedValue.{SharedValue}
-use Rattle.core_invariant.specs.Fits.{Fits}
+use Rattle.core_invariant.specs.WorkerPartFits.{WorkerPartFits}
 
 -- the part is one that a worker holds
 abbrev pub IsOutPart : SharedValue → Private → Type 0
-IsOutPart w p = (worker : ℕ) × Fits w worker p
+IsOutPart w p = (worker : ℕ) × WorkerPartFits w worker p
 
 -- for small objects of w words: one chunk less than twice the number that would hold them
 abbrev pub take_by : ℕ → ℕ

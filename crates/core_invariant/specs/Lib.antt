@@ -1,7 +1,7 @@
 pub mod Objects
 pub mod SharedValue
 pub mod Stands
-pub mod Fits
+pub mod WorkerPartFits
 pub mod Next
 pub mod Entered
 pub mod Causes

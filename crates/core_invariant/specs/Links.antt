@@ -3,7 +3,7 @@
 use Rattle.std.specs.Prelude.{ℕ, ◌==◌, Option, Some, None, List, [], ◌∷◌, if◌then◌else◌, is_none}
 use Rattle.core_invariant.specs.Common.{Name, Ledger, heap_of, is_name, Addr, Located, own, Memory, object_name, objects, Private, Places, FitsNow as FitsMachine}
 use Rattle.core_invariant.specs.SharedValue.{SharedValue, accounts, value_of}
-use Rattle.core_invariant.specs.Fits.{beyond}
+use Rattle.core_invariant.specs.WorkerPartFits.{beyond}
 
 -- the address of the first object of this name
 abbrev pub find_at : List Located → Name → Option Addr

@@ -29,5 +29,5 @@ abbrev pub levels_of : List Level → List (List Chunk)
 levels_of ls = map (map shown_chunk) ls
 
 -- words can hold the objects' addresses
-abbrev pub AreNear : List ChunkValue → Type 0
-AreNear ks = (o : Located) → In (objects_of_chunks (chunks_of ks)) o → o.at.offset < chunk_words
+abbrev pub OffsetsAreSmall : List ChunkValue → Type 0
+OffsetsAreSmall ks = (o : Located) → In (objects_of_chunks (chunks_of ks)) o → o.at.offset < chunk_words

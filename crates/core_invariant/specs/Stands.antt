@@ -1,16 +1,16 @@
 -- The invariant of shared values.
 use Rattle.std.specs.Prelude.{◌≡◌, ℕ, ◌<◌, ◌*◌, ◌/◌, ◌^◌, true, Some, [], length}
-use Rattle.core_invariant.specs.Common.{IsProgram, AreSettings, is_legal, chunk_at, ChunkValue, chunk_words, AreTidy, AreWithin, LeafHeapValue, In, StandsForAll, IsLastLarge, IsLastSmall, IsShaped, ParkedTask}
+use Rattle.core_invariant.specs.Common.{IsProgram, AreSettings, is_legal, chunk_at, ChunkValue, chunk_words, AreTidy, CellsFitInChunks, LeafHeapValue, In, StandsForAll, IsLastLarge, IsLastSmall, HeapIsShaped, ParkedTask}
 use Rattle.core_invariant.specs.Measured.{RestsAreMeasured}
-use Rattle.core_invariant.specs.Objects.{AreNear, chunk_of}
+use Rattle.core_invariant.specs.Objects.{OffsetsAreSmall, chunk_of}
 use Rattle.core_invariant.specs.SharedValue.{SharedValue, accounts, rest_at, tree_counts_of, value_of}
 
 -- what is known of a heap alone, whoever holds it
 pub record HeapForm (h : LeafHeapValue) : Type 0 where
-  pub shaped : IsShaped h
-  pub near : AreNear h.chunks
+  pub shaped : HeapIsShaped h
+  pub near : OffsetsAreSmall h.chunks
   pub tidy : AreTidy h.chunks
-  pub within : AreWithin h.chunks
+  pub within : CellsFitInChunks h.chunks
   pub last : IsLastSmall h.chunks h.current
   pub last_large : IsLastLarge h.chunks h.reserved
   -- the words placed fit in 64 bits

@@ -2,14 +2,14 @@
 
 ghost use Rattle.std.specs.Prelude.{◌≡◌, None};
 ghost use Rattle.refinement.specs.below.task_frames.{FramesValue};
-ghost use Rattle.core_invariant.specs.Fits.{taken_part, IsAtWork};
+ghost use Rattle.core_invariant.specs.WorkerPartFits.{taken_part, HasFrames};
 
 use refinement::Private;
 use task_slots::{ParkedTask, Work};
 
 /// The part of a task that no worker held.
 pub fn opened(rest: ParkedTask, task: u32, leaf_limit: u64, field_limit: u32) -> Private
-    requires { IsAtWork rest.work }
+    requires { HasFrames rest.work }
     ensures part { (s : FramesValue) → rest.work ≡ Work.Calls s → result ≡ taken_part task leaf_limit field_limit rest s }
     ensures task { result.task ≡ task }
     ensures fresh { result.fresh ≡ 0 }

@@ -1,5 +1,5 @@
 -- The names of lower crates and of the specifications that these proofs use. Declares nothing.
-pub use Rattle.delta_laws.specs.Holdings.{Marking, Holding, marking_with, holding, holdings, nothing_held, changed_in, changed_at, with_birth, put_birth, put_births, put_made, or_nothing, with_children, without_objects, put_join, has_joined, without_marking, put_moves, put_delta, with_given, with_marked, put_news, held_after}
+pub use Rattle.delta_laws.specs.Holdings.{Marking, Holding, marking_with, holding, holdings, nothing_held, changed_in, changed_at, with_birth, put_birth, put_births, put_made, holding_or_none, with_children, without_objects, put_join, has_joined, without_marking, put_moves, put_delta, with_given, with_marked, put_news, held_after}
 pub use Rattle.delta_laws.specs.Laws.{DeltasGiveHoldings, DeltasGiveObjects, DeltasGiveRoots, DeltasGiveTasks}
 pub use Rattle.delta_laws.specs.Put.{Body, Seen, seen, body_of, with_field, frozen, put, put_all, put_deltas}
 pub use Rattle.delta_laws.specs.Told.{stands_as, holds_told, names_held, told, told_by, stands}

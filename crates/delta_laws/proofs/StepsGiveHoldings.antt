@@ -1,5 +1,5 @@
 -- What the steps of a task tell of heaps gives what these hold.
-use Rattle.delta_laws.proofs.Common.{◌≡◌, ◌<◌, ◌≤◌, ℕ, pos, zero, suc, ◌+◌, ◌-◌, ◌==◌, ◌⊎◌, Bool, true, false, cond, Option, Some, None, List, [], ◌∷◌, ◌++◌, length, map, slice_get, slice_set, replicate, take, inl, inr, refl, ap, ap₂, sym, subst, ◌∙◌, arith, eq-eqb, ne_eqb, option_map, cond-true, cond-false, false≢true, both_ways, le-leb, slice_get-map, length-set, length-take, length-replicate, got_same, got_within, got_some, Instr, Set, Mov, Movr, Nil as NilOf, Calc, Same, Jmp, Jz, Newm, Pack, Getr, Geti, Putr, Puti, Cntr, Cnti, Freeze, Cas, Call, Par, Ret, Out, Line, ProgramText, line_at, Name, Object, Frame, Done, Running, Waiting, Joined, Task, Size, MachineState, Effect, Goes, effect, made, object_at, row_of, counts_in, place_in, same_name, int_in, ref_in, or_trap, with_ref, onward, next_name, words_asked, words_for, step, follow, setting, fetched, can_step, asked, asked_line, runs, is_running, is_left, owner_of, parent_of, child, strand, strand_of, edge, joined_task, resumed, join_of, ended_task, result_of, ended_by, set_got, asked_at, grown_length, grown_at, grown_left, grown_right, three_top, three_left, three_right, three_length, below, parr, step_cases, runs_is, can_task, step_taken, made_here, Heap, Ledger, chunk_words, is_small_size, object_words_of, heap_of, or_fresh, with_heap, with_heap_at, within, with_allocation, put_last, fresh, forked_heap, merged, emptied, let_go, allocated_by, allocated_in, settled, moved_on, moved_to, at_join, join_heaps, stepped_to, task_step, task_steps, stepped_machine, task_step_machine, SoundAt, steps_last, task_steps_sound, running_at, can_tells, with_heap_any, Deed, Allocates, Reads, Counts, Writes, Swaps, Freezes, Prints, StepAct, NewObject, Change, Changes, Reference, Number, deed, act_of, act_by, step_act_of, if_there, reference_in, number_in, number_place, born, changed_by, with_act, changes, stepped, standing_for, now_of, joined_now, moved_by, moved, children, child_of, Holding, holding, holdings, nothing_held, changed_in, changed_at, with_birth, put_birth, put_births, put_made, or_nothing, with_children, without_objects, put_join, has_joined, without_marking, put_moves}
+use Rattle.delta_laws.proofs.Common.{◌≡◌, ◌<◌, ◌≤◌, ℕ, pos, zero, suc, ◌+◌, ◌-◌, ◌==◌, ◌⊎◌, Bool, true, false, cond, Option, Some, None, List, [], ◌∷◌, ◌++◌, length, map, slice_get, slice_set, replicate, take, inl, inr, refl, ap, ap₂, sym, subst, ◌∙◌, arith, eq-eqb, ne_eqb, option_map, cond-true, cond-false, false≢true, both_ways, le-leb, slice_get-map, length-set, length-take, length-replicate, got_same, got_within, got_some, Instr, Set, Mov, Movr, Nil as NilOf, Calc, Same, Jmp, Jz, Newm, Pack, Getr, Geti, Putr, Puti, Cntr, Cnti, Freeze, Cas, Call, Par, Ret, Out, Line, ProgramText, line_at, Name, Object, Frame, Done, Running, Waiting, Joined, Task, Size, MachineState, Effect, Goes, effect, made, object_at, row_of, counts_in, place_in, same_name, int_in, ref_in, or_trap, with_ref, onward, next_name, words_asked, words_for, step, follow, setting, fetched, can_step, asked, asked_line, runs, is_running, is_left, owner_of, parent_of, child, strand, strand_of, edge, joined_task, resumed, join_of, ended_task, result_of, ended_by, set_got, asked_at, grown_length, grown_at, grown_left, grown_right, three_top, three_left, three_right, three_length, below, parr, step_cases, runs_is, can_task, step_taken, made_here, Heap, Ledger, chunk_words, is_small_size, object_words_of, heap_of, or_fresh, with_heap, with_heap_at, within, with_allocation, put_last, fresh, forked_heap, merged, emptied, let_go, allocated_by, allocated_in, settled, moved_on, moved_to, at_join, join_heaps, stepped_to, task_step, task_steps, stepped_machine, task_step_machine, SoundAt, steps_last, task_steps_sound, running_at, can_tells, with_heap_any, Deed, Allocates, Reads, Counts, Writes, Swaps, Freezes, Prints, StepAct, NewObject, Change, Changes, Reference, Number, deed, act_of, act_by, step_act_of, if_there, reference_in, number_in, number_place, born, changed_by, with_act, changes, stepped, standing_for, now_of, joined_now, moved_by, moved, children, child_of, Holding, holding, holdings, nothing_held, changed_in, changed_at, with_birth, put_birth, put_births, put_made, holding_or_none, with_children, without_objects, put_join, has_joined, without_marking, put_moves}
 use Rattle.hh_model.specs.declared.data.End.{End}
 
 -- CHANGES OF ONE HEAP
@@ -158,20 +158,20 @@ two_made m n now c d e at_c at_d hs =
     ap (put_made hs) (cond-false (now == n) [] _ (ne_eqb now n (λ q. omega arith)))
     ∙ ap₂ (λ (a b : Option Task). put_made hs (child_of n a ++ child_of (n + 1) b)) at_c at_d
 
-held_in_heap : (l : Ledger) (u : ℕ) → holding (heap_of l u) ≡ or_nothing (slice_get (holdings l) u)
+held_in_heap : (l : Ledger) (u : ℕ) → holding (heap_of l u) ≡ holding_or_none (slice_get (holdings l) u)
 held_in_heap l u = held_in_heap_by_cases (slice_get l.heaps u) refl
   where
-    held_in_heap_by_cases : (o : Option Heap) → slice_get l.heaps u ≡ o → holding (or_fresh o) ≡ or_nothing (slice_get (holdings l) u)
-    held_in_heap_by_cases None e = sym (ap or_nothing (held_there l u None e))
-    held_in_heap_by_cases (Some h) e = sym (ap or_nothing (held_there l u (Some h) e))
+    held_in_heap_by_cases : (o : Option Heap) → slice_get l.heaps u ≡ o → holding (or_fresh o) ≡ holding_or_none (slice_get (holdings l) u)
+    held_in_heap_by_cases None e = sym (ap holding_or_none (held_there l u None e))
+    held_in_heap_by_cases (Some h) e = sym (ap holding_or_none (held_there l u (Some h) e))
 
 join_put : (l : Ledger) (parent left : ℕ) → holdings (join_heaps l parent left) ≡ put_join (holdings l) parent left (left + 1)
 join_put l parent left =
     let l1 : Ledger = with_heap l parent (λ h. merged h (heap_of l left) (heap_of l (left + 1))) in
     let l2 : Ledger = with_heap l1 left emptied in
     let hs : List Holding = holdings l in
-    let first : holdings l1 ≡ changed_at parent (with_children (or_nothing (slice_get hs left)) (or_nothing (slice_get hs (left + 1)))) hs =
-    changed_now l parent _ (with_children (or_nothing (slice_get hs left)) (or_nothing (slice_get hs (left + 1)))) (λ h e.
+    let first : holdings l1 ≡ changed_at parent (with_children (holding_or_none (slice_get hs left)) (holding_or_none (slice_get hs (left + 1)))) hs =
+    changed_now l parent _ (with_children (holding_or_none (slice_get hs left)) (holding_or_none (slice_get hs (left + 1)))) (λ h e.
     ap₂ (λ (a b : Holding). with_children a b (holding h)) (held_in_heap l left) (held_in_heap l (left + 1))) in
     changed_now l2 (left + 1) emptied without_objects (λ h e. refl)
     ∙ ap (changed_at (left + 1) without_objects) (changed_now l1 left emptied without_objects (λ h e. refl) ∙ ap (changed_at left without_objects) first)

@@ -64,9 +64,9 @@ abbrev pub put_made : List Holding → List NewTask → List Holding
 put_made hs [] = hs
 put_made hs (c ∷ cs) = put_made (hs ++ nothing_held ∷ []) cs
 
-abbrev pub or_nothing : Option Holding → Holding
-or_nothing None = nothing_held
-or_nothing (Some h) = h
+abbrev pub holding_or_none : Option Holding → Holding
+holding_or_none None = nothing_held
+holding_or_none (Some h) = h
 
 -- a parent gets what its children held: the left one's comes first, then the right one's, then its own. A marking ends
 abbrev pub with_children : Holding → Holding → Holding → Holding
@@ -78,7 +78,7 @@ without_objects h = record h { chunks = []; large = [] }
 abbrev pub put_join : List Holding → ℕ → ℕ → ℕ → List Holding
 put_join hs parent left right =
     changed_at right without_objects (changed_at left without_objects (
-    changed_at parent (with_children (or_nothing (slice_get hs left)) (or_nothing (slice_get hs right))) hs))
+    changed_at parent (with_children (holding_or_none (slice_get hs left)) (holding_or_none (slice_get hs right))) hs))
 
 abbrev pub has_joined : Standing → Bool
 has_joined HasJoined = true

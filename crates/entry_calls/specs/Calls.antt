@@ -8,7 +8,7 @@ use Rattle.leaf_collections.specs.below.run_ledger.{Refused, heap_of, left_in}
 use Rattle.leaf_collections.specs.below.object_layout.{Addr}
 use Rattle.leaf_collections.specs.below.copying_gc.{Moved, ToChunks}
 use Rattle.leaf_collections.specs.below.task_machine.{Private}
-use Rattle.leaf_collections.specs.below.core_invariant.{NotEntered, NotRan, SharedValue, accounts, rest_at, AllFit, Fits, OthersFit, EntersOrRefuses, Enters, IsSamePart, RanAnswers, refusal_of_result, refused, HasBegun}
+use Rattle.leaf_collections.specs.below.core_invariant.{NotEntered, NotRan, SharedValue, accounts, rest_at, EachPartStillFits, WorkerPartFits, OthersFit, EntersOrRefuses, Enters, IsSamePart, RanAnswers, refusal_of_result, refused, CopyingHasBegun}
 use Rattle.leaf_collections.specs.below.task_slots.{ParkedTask}
 use Rattle.fork_join_commit.specs.below.step_commit.{alone_entry}
 use Rattle.fork_join_commit.specs.Joins.{IsUnchanged}
@@ -30,7 +30,7 @@ pub record TakesTask (w after : SharedValue) (k t : ℕ) (answer : Result Privat
   pub fresh : IfOk answer (λ (p : Private). p.fresh ≡ 0)
   pub heap : IfOk answer (λ (p : Private). (r : ParkedTask) × (rest_at w.rests t ≡ Some r) × (p.heap ≡ r.heap))
   pub idle : IfOk answer (λ (p : Private). p.begun ≡ None)
-  pub fits : IfOk answer (λ (p : Private). Fits after k p)
+  pub fits : IfOk answer (λ (p : Private). WorkerPartFits after k p)
   pub others : OnOk answer (OthersFit w after k)
 
 -- the fresh steps of the part p, all private, are committed: it becomes q, without any
@@ -41,7 +41,7 @@ pub record EntersSteps (w after : SharedValue) (k : ℕ) (p q : Private) (answer
   pub enters : OnOk answer (Enters w after (record { worker = k; kind = Ran p.task p.fresh }))
   pub end : OnOk answer (after.end ≡ w.end)
   pub goes : OnOk answer (q ≡ record p { fresh = 0 })
-  pub fits : Fits after k q
+  pub fits : WorkerPartFits after k q
   pub others : OnOk answer (OthersFit w after k)
 
 -- they are committed with its next one, which isn't private, unless that one gives the part up. If it does, or an
@@ -49,7 +49,7 @@ pub record EntersSteps (w after : SharedValue) (k : ℕ) (p q : Private) (answer
 pub record EntersLent (w after : SharedValue) (k : ℕ) (p q : Private) (answer : Result Lent NotEntered) : Type 0 where
   pub refused : EntersOrRefuses answer (refused w (alone_entry k p))
   pub same : IfErr answer (λ (e : NotEntered). IsUnchanged e w after)
-  pub still : OnErr answer (AllFit w after)
+  pub still : OnErr answer (EachPartStillFits w after)
   pub back : OnErr answer (q ≡ p)
   pub answered : IfOk answer (LentTo w after k p q)
 
@@ -57,7 +57,7 @@ pub record EntersLent (w after : SharedValue) (k : ℕ) (p q : Private) (answer 
 pub record EntersLeaving (w after : SharedValue) (k : ℕ) (p : Private) (answer : Result RanOf NotRan) : Type 0 where
   pub refused : RanAnswers answer None
   pub same : IfErr answer (λ (e : NotRan). IsUnchanged e.cause w after)
-  pub still : OnErr answer (AllFit w after)
+  pub still : OnErr answer (EachPartStillFits w after)
   pub back : IfErr answer (λ (e : NotRan). e.part ≡ p)
   pub answered : IfOk answer (RanTo w after k p)
 
@@ -66,7 +66,7 @@ pub record EndsForFuel (w after : SharedValue) (k : ℕ) (answer : Result (Unit 
   pub refused : refusal_of_result answer ≡ refused w (record { worker = k; kind = Fuel })
   pub same : OnErr answer (after ≡ w)
   pub enters : OnOk answer (Enters w after (record { worker = k; kind = Fuel }))
-  pub all : OnOk answer (AllFit w after)
+  pub all : OnOk answer (EachPartStillFits w after)
 
 -- ---- THE HEAP OF A RUNNING TASK
 
@@ -77,7 +77,7 @@ pub record GetsChunk (w after : SharedValue) (k : ℕ) (p q : Private) (answer :
   pub back : OnErr answer (IsSamePart p q)
   pub rest : q ≡ record p { heap = q.heap }
   pub enters : OnOk answer (Enters w after (record { worker = k; kind = Chunk p.task }))
-  pub fits : Fits after k q
+  pub fits : WorkerPartFits after k q
   pub others : OnOk answer (OthersFit w after k)
 
 -- a leaf collection of the part p begins, which becomes q: the result is its roots, and new chunks with all that
@@ -86,9 +86,9 @@ pub record BeginsLeaf (w after : SharedValue) (k : ℕ) (p q : Private) (answer 
   pub refused : EntersOrRefuses answer (refused w (record { worker = k; kind = Begin p.task }))
   pub same : OnErr answer (after ≡ w)
   pub back : OnErr answer (IsSamePart p q)
-  pub begun : IfOk answer (λ r. HasBegun p q r.0.items r.1)
+  pub begun : IfOk answer (λ r. CopyingHasBegun p q r.0.items r.1)
   pub enters : OnOk answer (Enters w after (record { worker = k; kind = Begin p.task }))
-  pub fits : Fits after k q
+  pub fits : WorkerPartFits after k q
   pub others : OnOk answer (OthersFit w after k)
 
 -- the collection of the part p ends, whose heap was copied with the result m: it becomes q
@@ -99,7 +99,7 @@ pub record EndsLeaf (w after : SharedValue) (k : ℕ) (p q : Private) (m : Moved
   pub moved : IfErr answer (λ (e : NotEnded). e.moved ≡ m)
   pub part : OnOk answer (q ≡ without_collection p)
   pub enters : OnOk answer (Enters w after (end_entry k p m))
-  pub fits : OnOk answer (Fits after k q)
+  pub fits : OnOk answer (WorkerPartFits after k q)
   pub others : OnOk answer (OthersFit w after k)
 
 -- a due collection of the part p is put off: its words are counted from 0 on in q
@@ -109,7 +109,7 @@ pub record PutsOff (w after : SharedValue) (k : ℕ) (p q : Private) (answer : R
   pub back : OnErr answer (q ≡ p)
   pub part : OnOk answer (q ≡ record p { heap = record p.heap { since = 0 } })
   pub enters : OnOk answer (Enters w after (record { worker = k; kind = PutOff p.task }))
-  pub fits : Fits after k q
+  pub fits : WorkerPartFits after k q
   pub others : OnOk answer (OthersFit w after k)
 
 -- ---- THE HEAP OF A WAITING TASK
@@ -119,7 +119,7 @@ pub record BeginsMarking (w after : SharedValue) (k t : ℕ) (answer : Result (U
   pub refused : EntersOrRefuses answer (refused w (record { worker = k; kind = Mark t }))
   pub same : OnErr answer (after ≡ w)
   pub enters : OnOk answer (Enters w after (record { worker = k; kind = Mark t }))
-  pub fits : OnOk answer (AllFit w after)
+  pub fits : OnOk answer (EachPartStillFits w after)
 
 -- n more objects of it are marked, or all that are left: the result is how many
 pub record MarksMore (w after : SharedValue) (k t n : ℕ) (answer : Result ℕ Refused) : Type 0 where
@@ -127,11 +127,11 @@ pub record MarksMore (w after : SharedValue) (k t n : ℕ) (answer : Result ℕ 
   pub same : OnErr answer (after ≡ w)
   pub count : IfOk answer (λ many. many ≡ min n (left_in (heap_of (accounts w) t)))
   pub enters : OnOk answer (Enters w after (record { worker = k; kind = More t n }))
-  pub fits : OnOk answer (AllFit w after)
+  pub fits : OnOk answer (EachPartStillFits w after)
 
 -- it is swept, and the given units are released
 pub record SweepsHeap (w after : SharedValue) (k t given : ℕ) (answer : Result (Unit {0}) Refused) : Type 0 where
   pub refused : refusal_of_result answer ≡ refused w (record { worker = k; kind = Sweep t given })
   pub same : OnErr answer (after ≡ w)
   pub enters : OnOk answer (Enters w after (record { worker = k; kind = Sweep t given }))
-  pub fits : OnOk answer (AllFit w after)
+  pub fits : OnOk answer (EachPartStillFits w after)

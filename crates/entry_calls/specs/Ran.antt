@@ -3,7 +3,7 @@ use Rattle.std.specs.Prelude.{◌≡◌, ℕ}
 use Rattle.core_invariant.specs.below.task_machine.{Private}
 use Rattle.core_invariant.specs.SharedValue.{SharedValue}
 use Rattle.core_invariant.specs.declared.next_step.Ending.TheVariants.{Returns}
-use Rattle.step_commit.specs.Alone.{FinishesAlone, GoesAlone, HaltsAlone, Tells}
+use Rattle.step_commit.specs.Alone.{FinishesAlone, GoesAlone, HaltsAlone, EndingTells}
 use Rattle.fork_join_commit.specs.ChildEnds.{EndsChild, IsAtEnd}
 use Rattle.fork_join_commit.specs.Forks.{ForksOn, IsAtFork}
 use Rattle.fork_join_commit.specs.NoTask.{HoldsNone}
@@ -18,7 +18,7 @@ use Rattle.entry_calls.specs.declared.answers.Lent.TheVariants.{Goes, Over as Is
 
 -- it is the last return of the root
 pub record IsAtRootEnd (w : SharedValue) (p : Private) : Type 0 where
-  pub returns : (line : ℕ) × Tells w p Returns line
+  pub returns : (line : ℕ) × EndingTells w p Returns line
   pub root : p.task ≡ 0
 
 -- it gives the part up in this way

@@ -8,7 +8,7 @@ ghost use Rattle.core_invariant.specs.below.task_slots.{ParkedTask as RestOf};
 ghost use Rattle.core_invariant.specs.Causes.{first_cause};
 ghost use Rattle.core_invariant.specs.Due.{IsOutPart};
 ghost use Rattle.core_invariant.specs.Entered.{refused};
-ghost use Rattle.core_invariant.specs.Fits.{AllFit, Fits};
+ghost use Rattle.core_invariant.specs.WorkerPartFits.{EachPartStillFits, WorkerPartFits};
 ghost use Rattle.core_invariant.specs.SharedValue.{accounts, rest_at};
 ghost use Rattle.core_invariant.specs.Stands.{IsSharedValue};
 ghost use Rattle.step_commit.specs.Alone.{alone_entry, IsShared};
@@ -44,13 +44,13 @@ pub trait EntryCalls {
     fn reserve(&mut self) -> Result<(), AllocError>
         ensures same { value self.new ≡ record (value self.old) { journal = record { items = (value self.old).journal.items; room = (value self.new).journal.room } } }
         ensures room { OnOk result (0 < (value self.new).journal.room) }
-        ensures fit { (k : ℕ) (p : PrivateOf) → Fits (value self.old) k p → Fits (value self.new) k p };
+        ensures fit { (k : ℕ) (p : PrivateOf) → WorkerPartFits (value self.old) k p → WorkerPartFits (value self.new) k p };
 
     /// Makes no more entries: an allocation of some worker has failed. No other call depends on it, and none
     /// changes it.
     fn halt(&mut self)
         ensures same { value self.new ≡ record (value self.old) { halted = true } }
-        ensures fits { AllFit (value self.old) (value self.new) };
+        ensures fits { EachPartStillFits (value self.old) (value self.new) };
 
     /// The worker takes a ready task, and gets its part.
     fn took(&mut self, worker: u32, t: u32) -> Result<Private, Refused>
@@ -61,7 +61,7 @@ pub trait EntryCalls {
     /// Commits the fresh steps of a part, all private.
     fn ran_private(&mut self, worker: u32, part: &mut Private) -> Result<(), Refused>
         requires room { 0 < (value self.old).journal.room }
-        requires fits { Fits (value self.old) worker part.old }
+        requires fits { WorkerPartFits (value self.old) worker part.old }
         requires fresh { 0 < part.old.fresh }
         requires pays { Pays (value self.old) (record { worker = worker; kind = Kind.Ran part.old.task part.old.fresh }) }
         ensures { EntersSteps (value self.old) (value self.new) worker part.old part.new result };
@@ -70,7 +70,7 @@ pub trait EntryCalls {
     /// it does, or an allocation fails, nothing is committed, though heaps and sets may have spare capacity.
     fn ran_lent(&mut self, worker: u32, part: &mut Private) -> Result<Lent, NotEntered>
         requires room { 0 < (value self.old).journal.room }
-        requires fits { Fits (value self.old) worker part.old }
+        requires fits { WorkerPartFits (value self.old) worker part.old }
         requires shared { IsShared (value self.old) part.old }
         requires pays { Pays (value self.old) (alone_entry worker part.old) }
         ensures { EntersLent (value self.old) (value self.new) worker part.old part.new result };
@@ -79,7 +79,7 @@ pub trait EntryCalls {
     /// allocation fails nothing is committed, though heaps and sets may have spare capacity.
     fn ran_leaving(&mut self, worker: u32, part: Private, leaving: Leaving) -> Result<Ran, NotRan>
         requires room { 0 < (value self.old).journal.room }
-        requires fits { Fits (value self.old) worker part }
+        requires fits { WorkerPartFits (value self.old) worker part }
         requires shared { IsShared (value self.old) part }
         requires free { refused (value self.old) (alone_entry worker part) ≡ None }
         requires leaves { LeavesBy (value self.old) part leaving }
@@ -94,7 +94,7 @@ pub trait EntryCalls {
     /// A part gets the chunk that its next step needs. If too few units are free the run ends.
     fn chunk(&mut self, worker: u32, part: &mut Private) -> Result<(), NotEntered>
         requires room { 0 < (value self.old).journal.room }
-        requires fits { Fits (value self.old) worker part.old }
+        requires fits { WorkerPartFits (value self.old) worker part.old }
         requires fresh { part.old.fresh ≡ 0 }
         requires pays { Pays (value self.old) (record { worker = worker; kind = Kind.Chunk part.old.task }) }
         ensures { GetsChunk (value self.old) (value self.new) worker part.old part.new result };
@@ -106,7 +106,7 @@ pub trait EntryCalls {
         part: &mut Private,
     ) -> Result<(Vec<Addr>, ToChunks), NotEntered>
         requires room { 0 < (value self.old).journal.room }
-        requires fits { Fits (value self.old) worker part.old }
+        requires fits { WorkerPartFits (value self.old) worker part.old }
         requires fresh { part.old.fresh ≡ 0 }
         requires pays { Pays (value self.old) (record { worker = worker; kind = Kind.Begin part.old.task }) }
         ensures { BeginsLeaf (value self.old) (value self.new) worker part.old part.new result };
@@ -123,7 +123,7 @@ pub trait EntryCalls {
     /// on.
     fn put_off(&mut self, worker: u32, part: &mut Private) -> Result<(), Refused>
         requires room { 0 < (value self.old).journal.room }
-        requires fits { Fits (value self.old) worker part.old }
+        requires fits { WorkerPartFits (value self.old) worker part.old }
         requires fresh { part.old.fresh ≡ 0 }
         requires pays { Pays (value self.old) (record { worker = worker; kind = Kind.PutOff part.old.task }) }
         ensures { PutsOff (value self.old) (value self.new) worker part.old part.new result };

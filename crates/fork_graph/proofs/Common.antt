@@ -2,7 +2,7 @@
 pub use Rattle.fork_graph.specs.Children.{after_turn, spawns_open, AreStates, none_spawned, spawned_from, joined_from, is_open, HasState}
 pub use Rattle.fork_graph.specs.Cut.{spawned_by, joins, unjoined, completed, with_joins, CompletedAreNested}
 pub use Rattle.fork_graph.specs.Faults.{IsFault, HasNoEarlier, IsFirstFault, cause_of_turn, IsNew, IsOpen, SpawnsBelow, IsNestedRun, IsCutOff, IsSoundRun, SoundRunsHaveNoFault, IsSpawnedBefore}
-pub use Rattle.fork_graph.specs.Graph.{Tasks, Does, tasks_in, strand, last_of, IsAncestor, AreSmall, IsEarlier, IsParent}
+pub use Rattle.fork_graph.specs.Graph.{TaskTurns, Does, tasks_in, strand, last_of, IsAncestor, AreSmall, IsEarlier, IsParent}
 pub use Rattle.fork_graph.specs.Nested.{IsForkJoin}
 pub use Rattle.fork_graph.specs.SpawnSearch.{AreReached, met_from, meet, meet_children, IsMet}
 pub use Rattle.fork_graph.specs.declared.children.ChildState.{ChildState}

@@ -1,5 +1,5 @@
 -- Turns that are completed with joins.
-use Rattle.fork_graph.proofs.Common.{◌≡◌, ◌==◌, ℕ, zero, suc, ◌+◌, ◌-◌, ◌<◌, ◌≤◌, true, false, not, List, [], ◌∷◌, length, map, reverse, ◌⊎◌, inl, inr, refl, ap, sym, subst, ◌∙◌, arith, Some, slice_get, cases_lt, cases_Bool, or_cases, or_left, or_right, eqb-true, eq-eqb, not-true, not_from_false, false≢true, same_Some, slice_get_within, In, got_in, got_front, got_back, in_kept, in_from_kept, in_got, got_map, map_got, none_some, GraphTurn, Spawn, Join, Tasks, Does, IsForkJoin, spawned_by, joins, unjoined, completed, with_joins, CompletedAreNested}
+use Rattle.fork_graph.proofs.Common.{◌≡◌, ◌==◌, ℕ, zero, suc, ◌+◌, ◌-◌, ◌<◌, ◌≤◌, true, false, not, List, [], ◌∷◌, length, map, reverse, ◌⊎◌, inl, inr, refl, ap, sym, subst, ◌∙◌, arith, Some, slice_get, cases_lt, cases_Bool, or_cases, or_left, or_right, eqb-true, eq-eqb, not-true, not_from_false, false≢true, same_Some, slice_get_within, In, got_in, got_front, got_back, in_kept, in_from_kept, in_got, got_map, map_got, none_some, GraphTurn, Spawn, Join, TaskTurns, Does, IsForkJoin, spawned_by, joins, unjoined, completed, with_joins, CompletedAreNested}
 use Rattle.fork_graph.proofs.Once.{EachOnce, one_place, once_kept, once_reversed, in_reversed, reversed_in}
 
 -- TURNS AND CHILDREN
@@ -94,7 +94,7 @@ completed_spawn turns i c h =
       | inr (d, e, ge, at) ↦ spawn_no_join c d e
     ]
 
-module _ (tasks : Tasks) (fj : IsForkJoin tasks) where
+module _ (tasks : TaskTurns) (fj : IsForkJoin tasks) where
   once_in : (t : ℕ) (i j c : ℕ) → slice_get (tasks t) i ≡ Some (Spawn c) → slice_get (tasks t) j ≡ Some (Spawn c) → i ≡ j
   once_in t i j c a b = (fj.spawned_once c t i t j a b).1
 

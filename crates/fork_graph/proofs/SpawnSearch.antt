@@ -1,5 +1,5 @@
 -- The search for the tasks that the root's spawns lead to.
-use Rattle.fork_graph.proofs.Common.{◌≡◌, ℕ, zero, suc, ◌+◌, ◌<◌, ◌≤◌, Bool, true, false, List, [], ◌∷◌, ◌++◌, length, ◌⊎◌, inl, inr, refl, ap, sym, subst, ◌∙◌, arith, Option, Some, None, slice_get, slice_set, replicate, cases_eq, length-set, length-append, length-replicate, get_or_from_slice_get, In, got_same, got_other, in_append_left, in_append_right, in_append_cases, got_none, none_some, IsWalk, GraphTurn, Spawn, Join, SpawnSearch, Tasks, tasks_in, Does, IsParent, IsAncestor, spawned_by, met_from, meet, meet_children, IsMet, AreReached}
+use Rattle.fork_graph.proofs.Common.{◌≡◌, ℕ, zero, suc, ◌+◌, ◌<◌, ◌≤◌, Bool, true, false, List, [], ◌∷◌, ◌++◌, length, ◌⊎◌, inl, inr, refl, ap, sym, subst, ◌∙◌, arith, Option, Some, None, slice_get, slice_set, replicate, cases_eq, length-set, length-append, length-replicate, get_or_from_slice_get, In, got_same, got_other, in_append_left, in_append_right, in_append_cases, got_none, none_some, IsWalk, GraphTurn, Spawn, Join, SpawnSearch, TaskTurns, tasks_in, Does, IsParent, IsAncestor, spawned_by, met_from, meet, meet_children, IsMet, AreReached}
 use Rattle.fork_graph.proofs.Cut.{spawned_from, spawned_at}
 
 -- tasks that weren't met yet
@@ -119,7 +119,7 @@ children_meet (Join c ∷ rest) s = children_meet rest s
 -- THE WHOLE SEARCH
 
 -- all that is met is reached, and each child of what is met is met or will be
-pub record IsSearched (tasks : Tasks) (n : ℕ) (s : SpawnSearch) : Type 0 where
+pub record IsSearched (tasks : TaskTurns) (n : ℕ) (s : SpawnSearch) : Type 0 where
   pub size : length s.met ≡ n
   pub sound : (t : ℕ) → IsMet s.met t → IsAncestor tasks 0 t
   pub waits : (t : ℕ) → In s.waiting t → IsMet s.met t
@@ -131,7 +131,7 @@ none_met zero x e = none_some e
 none_met (suc n) zero e = absurd cc
 none_met (suc n) (suc x) e = none_met n x e
 
-pub search_start : (tasks : Tasks) (n : ℕ) → IsSearched tasks n (meet (record { met = replicate n false; waiting = [] }) 0)
+pub search_start : (tasks : TaskTurns) (n : ℕ) → IsSearched tasks n (meet (record { met = replicate n false; waiting = [] }) 0)
 search_start tasks n =
     let s : SpawnSearch = record { met = replicate n false; waiting = [] } in
     let f = meet_meets s 0 in
@@ -149,7 +149,7 @@ search_start tasks n =
     }
 
 -- a task that waits is followed
-pub search_step : (tasks : Tasks) (n t : ℕ) (before popped after : SpawnSearch) → before.met ≡ popped.met → before.waiting ≡ popped.waiting ++ t ∷ []
+pub search_step : (tasks : TaskTurns) (n t : ℕ) (before popped after : SpawnSearch) → before.met ≡ popped.met → before.waiting ≡ popped.waiting ++ t ∷ []
     → Meets (spawned_by (tasks t)) popped after → IsSearched tasks n before → IsSearched tasks n after
 search_step tasks n t before popped after em ew f s =
     let met : IsMet popped.met t = subst (λ m. IsMet m t) em (s.waits t (subst (λ w. In w t) (sym ew) (in_append_right popped.waiting (t ∷ []) t (inl refl)))) in

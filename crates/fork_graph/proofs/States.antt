@@ -1,5 +1,5 @@
 -- How tasks stand with their parents as turns are taken, and what is wrong with a turn that isn't allowed.
-use Rattle.fork_graph.proofs.Common.{◌≡◌, ◌==◌, ℕ, zero, suc, ◌+◌, ◌<◌, Bool, true, false, List, length, ◌⊎◌, inl, inr, refl, ap, sym, subst, ◌∙◌, arith, Option, Some, None, slice_get, slice_set, replicate, if◌then◌else◌, list_any, cases_lt, cases_eq, cases_order, false≢true, eqb-true, eqb-false, length-set, length-replicate, same_Some, slice_get_within, got_same, got_other, any_from_in, in_from_any, got_in, got_none, in_got, none_some, GraphTurn, Spawn, Join, GraphStrand, ChildState, Unspawned, Open, Joined, Extent, StrandCause, SpawnsNoNewTask, JoinsNoOpenChild, LeavesUnjoined, IsUnreached, Tasks, tasks_in, strand, last_of, Does, IsEarlier, IsSpawnedBefore, IsNew, IsOpen, IsFault, HasNoEarlier, cause_of_turn, none_spawned, spawned_from, joined_from, after_turn, is_open, spawns_open, HasState, AreStates}
+use Rattle.fork_graph.proofs.Common.{◌≡◌, ◌==◌, ℕ, zero, suc, ◌+◌, ◌<◌, Bool, true, false, List, length, ◌⊎◌, inl, inr, refl, ap, sym, subst, ◌∙◌, arith, Option, Some, None, slice_get, slice_set, replicate, if◌then◌else◌, list_any, cases_lt, cases_eq, cases_order, false≢true, eqb-true, eqb-false, length-set, length-replicate, same_Some, slice_get_within, got_same, got_other, any_from_in, in_from_any, got_in, got_none, in_got, none_some, GraphTurn, Spawn, Join, GraphStrand, ChildState, Unspawned, Open, Joined, Extent, StrandCause, SpawnsNoNewTask, JoinsNoOpenChild, LeavesUnjoined, IsUnreached, TaskTurns, tasks_in, strand, last_of, Does, IsEarlier, IsSpawnedBefore, IsNew, IsOpen, IsFault, HasNoEarlier, cause_of_turn, none_spawned, spawned_from, joined_from, after_turn, is_open, spawns_open, HasState, AreStates}
 use Rattle.fork_graph.proofs.Cut.{same_spawn, same_join, spawn_no_join}
 
 -- ORDER
@@ -30,13 +30,13 @@ own_earlier : (t p j i : ℕ) → p ≡ t → IsEarlier (strand p j) (strand t i
 own_earlier t p j i same (inl lt) = absurd (omega arith)
 own_earlier t p j i same (inr (e, lt)) = lt
 
-does_same : (tasks : Tasks) (t i : ℕ) (a b : GraphTurn) → Does tasks t i a → Does tasks t i b → a ≡ b
+does_same : (tasks : TaskTurns) (t i : ℕ) (a b : GraphTurn) → Does tasks t i a → Does tasks t i b → a ≡ b
 does_same tasks t i a b h k = same_Some a b (sym h ∙ k)
 
-not_both : {A : Type 0} (tasks : Tasks) (t i c d : ℕ) → Does tasks t i (Spawn c) → Does tasks t i (Join d) → A
+not_both : {A : Type 0} (tasks : TaskTurns) (t i c d : ℕ) → Does tasks t i (Spawn c) → Does tasks t i (Join d) → A
 not_both tasks t i c d h k = spawn_no_join c d (does_same tasks t i (Spawn c) (Join d) h k)
 
-not_last : {A : Type 0} (tasks : Tasks) (t i : ℕ) (turn : GraphTurn) → Does tasks t i turn → strand t i ≡ last_of tasks t → A
+not_last : {A : Type 0} (tasks : TaskTurns) (t i : ℕ) (turn : GraphTurn) → Does tasks t i turn → strand t i ≡ last_of tasks t → A
 not_last tasks t i turn h e =
     let lt : i < length (tasks t) = slice_get_within (tasks t) i turn h in
     let same : i ≡ length (tasks t) = ap (λ (x : GraphStrand). x.index) e in
@@ -44,7 +44,7 @@ not_last tasks t i turn h e =
 
 -- ---- states that a turn of another child leaves
 
-module _ (tasks : Tasks) (t i c : ℕ) (no_spawn : Does tasks t i (Spawn c) → ⊥) (no_join : Does tasks t i (Join c) → ⊥) where
+module _ (tasks : TaskTurns) (t i c : ℕ) (no_spawn : Does tasks t i (Spawn c) → ⊥) (no_join : Does tasks t i (Join c) → ⊥) where
   spawn_here : (s j : ℕ) → Does tasks s j (Spawn c) → IsEarlier (strand s j) (strand t (i + 1)) → IsEarlier (strand s j) (strand t i)
   spawn_here s j h e =
       elim (earlier_next (strand s j) t i e) [
@@ -67,7 +67,7 @@ module _ (tasks : Tasks) (t i c : ℕ) (no_spawn : Does tasks t i (Spawn c) → 
 
 -- ---- what stands at the start of the next task stands at the end of the one before
 
-module _ (tasks : Tasks) (t : ℕ) where
+module _ (tasks : TaskTurns) (t : ℕ) where
   end_from_next : (s j : ℕ) (turn : GraphTurn) → Does tasks s j turn → IsEarlier (strand s j) (strand (t + 1) 0) → IsEarlier (strand s j) (last_of tasks t)
   end_from_next s j turn h (inl lt) =
       elim (cases_lt s t) [
@@ -346,7 +346,7 @@ nothing_before : {A : Type 0} (u : GraphStrand) → IsEarlier u (strand 0 0) →
 nothing_before u (inl lt) = absurd (omega arith)
 nothing_before u (inr (same, lt)) = absurd (omega arith)
 
-first_state : (tasks : Tasks) (n c : ℕ) (state : ChildState) → slice_get (none_spawned n) c ≡ Some state → HasState tasks (strand 0 0) c state
+first_state : (tasks : TaskTurns) (n c : ℕ) (state : ChildState) → slice_get (none_spawned n) c ≡ Some state → HasState tasks (strand 0 0) c state
 first_state tasks zero c state h = none_some h
 first_state tasks (suc n) zero state h = subst (HasState tasks (strand 0 0) 0) (same_Some Joined state h) (inl refl)
 first_state tasks (suc n) (suc c) state h =
@@ -356,7 +356,7 @@ none_size : (n : ℕ) → length (none_spawned n) ≡ n
 none_size zero = refl
 none_size (suc n) = ap suc (length-replicate n Unspawned)
 
-pub states_start : (tasks : Tasks) (n : ℕ) → AreStates tasks n (strand 0 0) (none_spawned n)
+pub states_start : (tasks : TaskTurns) (n : ℕ) → AreStates tasks n (strand 0 0) (none_spawned n)
 states_start tasks n = record { size = none_size n; each = first_state tasks n }
 
 pub no_fault_before : (rows : List (List GraphTurn)) (extent : Extent) → HasNoEarlier rows extent (strand 0 0)

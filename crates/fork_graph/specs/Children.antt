@@ -5,7 +5,7 @@ use Rattle.fork_graph.specs.declared.graph.GraphTurn.TheVariants.{Spawn, Join}
 use Rattle.fork_graph.specs.declared.graph.GraphStrand.{GraphStrand}
 use Rattle.fork_graph.specs.declared.children.ChildState.{ChildState}
 use Rattle.fork_graph.specs.declared.children.ChildState.TheVariants.{Unspawned, Open, Joined}
-use Rattle.fork_graph.specs.Graph.{Tasks, strand, Does, IsEarlier}
+use Rattle.fork_graph.specs.Graph.{TaskTurns, strand, Does, IsEarlier}
 use Rattle.fork_graph.specs.Faults.{IsSpawnedBefore}
 
 -- at the start nothing is spawned but the root, which is never joined
@@ -50,13 +50,13 @@ spawns_open states (Spawn c) = is_open (slice_get states c)
 spawns_open states (Join c) = false
 
 -- the task c as it stands when strand u ends
-abbrev pub HasState : Tasks → GraphStrand → ℕ → ChildState → Type 0
+abbrev pub HasState : TaskTurns → GraphStrand → ℕ → ChildState → Type 0
 HasState tasks u c Unspawned = (0 < c) × (IsSpawnedBefore tasks u c → ⊥)
 HasState tasks u c (Open p) =
     ((j : ℕ) × Does tasks p j (Spawn c) × IsEarlier (strand p j) u) × ((k : ℕ) → Does tasks p k (Join c) → IsEarlier (strand p k) u → ⊥)
 HasState tasks u c Joined =
     (c ≡ 0) ⊎ ((p j k : ℕ) × Does tasks p j (Spawn c) × IsEarlier (strand p j) u × Does tasks p k (Join c) × IsEarlier (strand p k) u)
 
-pub record AreStates (tasks : Tasks) (n : ℕ) (u : GraphStrand) (states : List ChildState) : Type 0 where
+pub record AreStates (tasks : TaskTurns) (n : ℕ) (u : GraphStrand) (states : List ChildState) : Type 0 where
   pub size : length states ≡ n
   pub each : (c : ℕ) (state : ChildState) → slice_get states c ≡ Some state → HasState tasks u c state

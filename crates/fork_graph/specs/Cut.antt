@@ -2,7 +2,7 @@
 use Rattle.std.specs.Prelude.{◌≡◌, ◌==◌, ◌||◌, ℕ, Bool, false, not, List, [], ◌∷◌, ◌++◌, take, map, filter, reverse}
 use Rattle.fork_graph.specs.declared.graph.GraphTurn.{GraphTurn}
 use Rattle.fork_graph.specs.declared.graph.GraphTurn.TheVariants.{Spawn, Join}
-use Rattle.fork_graph.specs.Graph.{Tasks}
+use Rattle.fork_graph.specs.Graph.{TaskTurns}
 use Rattle.fork_graph.specs.Nested.{IsForkJoin, IsNested}
 
 -- the children that turns spawn, in order
@@ -26,13 +26,13 @@ abbrev pub completed : List GraphTurn → List GraphTurn
 completed turns = turns ++ map Join (unjoined turns)
 
 -- each task with all that it spawned joined
-abbrev pub with_joins : Tasks → Tasks
+abbrev pub with_joins : TaskTurns → TaskTurns
 with_joins tasks t = completed (tasks t)
 
 -- of each task a first part of its turns
-abbrev pub IsCut : Tasks → Tasks → Type 0
+abbrev pub IsCut : TaskTurns → TaskTurns → Type 0
 IsCut cut whole = (t : ℕ) → (n : ℕ) × (cut t ≡ take n (whole t))
 
 -- the joins that are added make a nested run
 abbrev pub CompletedAreNested : Type 0
-CompletedAreNested = (tasks : Tasks) → IsForkJoin tasks → IsNested (with_joins tasks)
+CompletedAreNested = (tasks : TaskTurns) → IsForkJoin tasks → IsNested (with_joins tasks)

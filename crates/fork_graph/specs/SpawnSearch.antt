@@ -3,7 +3,7 @@ use Rattle.std.specs.Prelude.{◌≡◌, ◌<◌, ℕ, Bool, true, false, Option
 use Rattle.fork_graph.specs.declared.graph.GraphTurn.{GraphTurn}
 use Rattle.fork_graph.specs.declared.graph.GraphTurn.TheVariants.{Spawn, Join}
 use Rattle.fork_graph.specs.declared.reached.SpawnSearch.{SpawnSearch}
-use Rattle.fork_graph.specs.Graph.{Tasks, IsAncestor}
+use Rattle.fork_graph.specs.Graph.{TaskTurns, IsAncestor}
 
 -- a task that wasn't met is met, and waits
 abbrev pub met_from : SpawnSearch → ℕ → Option Bool → SpawnSearch
@@ -25,7 +25,7 @@ abbrev pub IsMet : List Bool → ℕ → Type 0
 IsMet met t = slice_get met t ≡ Some true
 
 -- a mark for each of n tasks that tells whether the root's spawns lead to it
-pub record AreReached (tasks : Tasks) (n : ℕ) (met : List Bool) : Type 0 where
+pub record AreReached (tasks : TaskTurns) (n : ℕ) (met : List Bool) : Type 0 where
   pub size : length met ≡ n
   pub sound : (t : ℕ) → IsMet met t → IsAncestor tasks 0 t
   pub complete : (t : ℕ) → t < n → IsAncestor tasks 0 t → IsMet met t

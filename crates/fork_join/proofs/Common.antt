@@ -3,7 +3,7 @@ pub use Rattle.chunk_pool.specs.PoolValue.{PoolValue, slot_at, owner_of, Relabel
 pub use Rattle.chunk_pool.specs.declared.pool.Slot.{Slot}
 pub use Rattle.fork_join.specs.Joined.{with_owner, joined_nodes, relabelled, AreRelabelled}
 pub use Rattle.fork_join.specs.Laws.{JoinedAreOwned, Merges}
-pub use Rattle.fork_join.specs.Placement.{Owns, FilledField, IsPlaced}
+pub use Rattle.fork_join.specs.Placement.{Owns, FilledField, OwnersSatisfy}
 pub use Rattle.heap_tree.proofs.ChangeLemmas.{states_change}
 pub use Rattle.heap_tree.specs.TaskNode.{TaskNode, parent_of, parent_in, with_state}
 pub use Rattle.heap_tree.specs.Walk.{IsUpFrom, ancestor}

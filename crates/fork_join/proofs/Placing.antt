@@ -1,5 +1,5 @@
 -- Forks and joins keep placement.
-use Rattle.fork_join.proofs.Common.{◌≡◌, ℕ, true, false, List, Contains, ◌⊎◌, inl, inr, refl, sym, ap, ◌∙◌, subst, Option, Some, cases_Bool, cases_eq, ChunkValue, has_chunk, IsUpFrom, TaskNode, parent_of, PoolValue, RefField, lifted, lifted_are_there, joined_nodes, FilledField, IsPlaced, Owns, Merges}
+use Rattle.fork_join.proofs.Common.{◌≡◌, ℕ, true, false, List, Contains, ◌⊎◌, inl, inr, refl, sym, ap, ◌∙◌, subst, Option, Some, cases_Bool, cases_eq, ChunkValue, has_chunk, IsUpFrom, TaskNode, parent_of, PoolValue, RefField, lifted, lifted_are_there, joined_nodes, FilledField, OwnersSatisfy, Owns, Merges}
 use Rattle.fork_join.proofs.Owners.{some_same, Moved, moved}
 use Rattle.fork_join.proofs.Walks.{joined_parent, up_kept, up_more, up_over}
 
@@ -69,7 +69,7 @@ module _ (nodes : List TaskNode) (old new : PoolValue) (sources after : ℕ → 
   to_new s from into (inl up) = inl (up_kept par (parent_of (joined_nodes nodes p c d)) (joined_parent nodes p c d) from into up)
   to_new s from into (inr noted) = inr noted
 
-  pub placed_after : (f : FilledField) → IsPlaced nodes old sources f → IsPlaced (joined_nodes nodes p c d) new after f
+  pub placed_after : (f : FilledField) → OwnersSatisfy nodes old sources f → OwnersSatisfy (joined_nodes nodes p c d) new after f
   placed_after f placed = λ from into ea er.
       let s : RefField = record { object = f.object; field = f.number } in
       let u = moved old new sources after p c d ks ls rs op oc od J f.object.chunk from ea in

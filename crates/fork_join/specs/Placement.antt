@@ -10,12 +10,12 @@ pub record FilledField : Type 0 where
   pub target : Addr
 
 -- the owners of both chunks, if they are in use, satisfy this; the sources are given by heap
-abbrev pub IsPlaced : List TaskNode → PoolValue → (ℕ → List RefField) → FilledField → Type 0
-IsPlaced nodes pool sources f = (from into : ℕ) → owner_of pool f.object.chunk ≡ Some from → owner_of pool f.target.chunk ≡ Some into →
+abbrev pub OwnersSatisfy : List TaskNode → PoolValue → (ℕ → List RefField) → FilledField → Type 0
+OwnersSatisfy nodes pool sources f = (from into : ℕ) → owner_of pool f.object.chunk ≡ Some from → owner_of pool f.target.chunk ≡ Some into →
     IsUpFrom (parent_of nodes) from into ⊎ Contains (sources into) (record { object = f.object; field = f.number })
 
 abbrev pub Placement : List FilledField → List TaskNode → PoolValue → (ℕ → List RefField) → Type 0
-Placement fields nodes pool sources = (f : FilledField) → Contains fields f → IsPlaced nodes pool sources f
+Placement fields nodes pool sources = (f : FilledField) → Contains fields f → OwnersSatisfy nodes pool sources f
 
 -- the pool has for a task exactly the chunks of its heap
 abbrev pub Owns : PoolValue → ℕ → List ChunkValue → Type 0

@@ -1,5 +1,5 @@
 -- A part whose next step is the last return of a task that isn't the root: what is known before it is committed.
-use Rattle.fork_join_commit.proofs.Common.{◌≡◌, ℕ, ℤ, ◌+◌, ◌-◌, ◌<◌, ◌&&◌, arith, not, Bool, true, false, Option, Some, None, List, [], ◌∷◌, length, slice_get, option_map, is_some, refl, ap, sym, subst, ◌∙◌, and_parts, cond-false, cond-true, false≢true, same_Some, none_some, Instr, Ret, Line, Frame, Name, MachineState, TaskStatus, Running, Waiting as WaitingOf, Joined as JoinedOf, Task, effect, child_ended_by, fetched, follow, is_joined, is_over, is_waiting, result_at, last_of, last_return, parents, result_in, result_of, returned_to, setting, step, TreeOf, has_no_caller, is_open, is_private_by, is_private_line, TaskState, Ended, TaskNode, parent_of as parent_in_tree, state_of as state_in_tree, state_by, as_node, Private, is_some_place, refused, Fits, IsSharedValue, SharedValue, accounts, node_now, After, parent_is as tree_parent_is, IsShared, alone_entry, machine_after, AsksAlone, node_there, runs_on, AsksLast, machine_same, IsAtEnd, is_last_return, is_last_by, is_last_line}
+use Rattle.fork_join_commit.proofs.Common.{◌≡◌, ℕ, ℤ, ◌+◌, ◌-◌, ◌<◌, ◌&&◌, arith, not, Bool, true, false, Option, Some, None, List, [], ◌∷◌, length, slice_get, option_map, is_some, refl, ap, sym, subst, ◌∙◌, and_parts, cond-false, cond-true, false≢true, same_Some, none_some, Instr, Ret, Line, Frame, Name, MachineState, TaskStatus, Running, Waiting as WaitingOf, Joined as JoinedOf, Task, effect, child_ended_by, fetched, follow, is_joined, is_over, is_waiting, result_at, last_of, last_return, parents, result_in, result_of, returned_to, setting, step, TreeOf, has_no_caller, is_open, is_private_by, is_private_line, TaskState, Ended, TaskNode, parent_of as parent_in_tree, state_of as state_in_tree, state_by, as_node, Private, is_some_place, refused, WorkerPartFits, IsSharedValue, SharedValue, accounts, node_now, After, parent_is as tree_parent_is, IsShared, alone_entry, machine_after, AsksAlone, node_there, runs_on, AsksLast, machine_same, IsAtEnd, is_last_return, is_last_by, is_last_line}
 use Rattle.step_commit.specs.below.hh_model.{Ended as EndedWith, is_left, parent_of, sibling}
 use Rattle.step_commit.proofs.below.core_invariant.PartFitsMachine as link
 use Rattle.step_commit.proofs.AloneEntries as own
@@ -72,13 +72,13 @@ sibling_by t false e pos same = let s : sibling t ≡ t - 1 = cond-false (is_lef
 -- a call asks for the entry of a child's end, and nothing refuses it
 pub record AsksEnd (w : SharedValue) (k : ℕ) (p : Private) : Type 0 where
   pub I : IsSharedValue w
-  pub F : Fits w k p
+  pub F : WorkerPartFits w k p
   pub at_end : IsAtEnd w p
   pub free : refused w (alone_entry k p) ≡ None
 
 -- by what is known of an equal value
-pub asks_end : {w after : SharedValue} {k : ℕ} {p : Private} → w ≡ after → IsSharedValue w → Fits after k p → IsAtEnd after p → refused after (alone_entry k p) ≡ None → AsksEnd w k p
-asks_end {w} {after} {k} {p} same I F at free = record { I = I; F = subst (λ z. Fits z k p) (sym same) F; at_end = subst (λ z. IsAtEnd z p) (sym same) at; free = subst (λ z. refused z (alone_entry k p) ≡ None) (sym same) free }
+pub asks_end : {w after : SharedValue} {k : ℕ} {p : Private} → w ≡ after → IsSharedValue w → WorkerPartFits after k p → IsAtEnd after p → refused after (alone_entry k p) ≡ None → AsksEnd w k p
+asks_end {w} {after} {k} {p} same I F at free = record { I = I; F = subst (λ z. WorkerPartFits z k p) (sym same) F; at_end = subst (λ z. IsAtEnd z p) (sym same) at; free = subst (λ z. refused z (alone_entry k p) ≡ None) (sym same) free }
 
 module _ {w : SharedValue} {k : ℕ} {p : Private} (asks : AsksEnd w k p) where
   open asks use {I, F, at_end, free}

@@ -29,24 +29,24 @@ pub use Rattle.step_commit.proofs.below.refinement.{at_belongings, off_belonging
 pub use Rattle.step_commit.proofs.below.remembered_set.{lifted_are_there}
 pub use Rattle.step_commit.proofs.below.run_ledger.{steps_are_bounded, ran_tells, task_steps_steps, heap_machine}
 pub use Rattle.step_commit.proofs.below.task_machine.{is_some_place, same_line}
-pub use Rattle.step_commit.specs.Alone.{IsShared, alone_entry, machine_after, Tells}
+pub use Rattle.step_commit.specs.Alone.{IsShared, alone_entry, machine_after, EndingTells}
 pub use Rattle.step_commit.specs.below.chunk_list.{view_below, Level}
 pub use Rattle.step_commit.specs.below.chunk_pool.{PoolValue, owner_of, Slot, slot_at}
-pub use Rattle.step_commit.specs.below.core_invariant.{SharedValue, IsSharedValue, refused, Fits, accounts, levels_of, marks_at, belongings_in, belongings_of, noted_in, tree_counts_of, value_of, rest_at, chunk_of, chunks_of, belongings_by, HeapForm, IsAtWork, AreMeasured, IsFree, part_of, IsMeasured, KeepsUnits, Traps, above_of, next_line}
+pub use Rattle.step_commit.specs.below.core_invariant.{SharedValue, IsSharedValue, refused, WorkerPartFits, accounts, levels_of, marks_at, belongings_in, belongings_of, noted_in, tree_counts_of, value_of, rest_at, chunk_of, chunks_of, belongings_by, HeapForm, HasFrames, AreMeasured, IsFree, part_of, IsMeasured, KeepsUnits, Traps, above_of, next_line}
 pub use Rattle.step_commit.specs.below.fork_join.{Child, AreRelabelled, with_results, joined_nodes, EndedChild, HasCapacityForBoth, HaveEnded, JoinsSides, AreInUse, Side}
 pub use Rattle.step_commit.specs.below.heap_tree.{Ended, state_of, TaskState, TaskNode, parent_of, child_of, depth_of, forked, with_state, is_left, sibling, Ready}
 pub use Rattle.step_commit.specs.below.hh_lang.{Instr, Ret, Line, Par, ProgramText, Out}
 pub use Rattle.step_commit.specs.below.hh_model.{MachineState, Task, child_ended_by, ended_task, is_running, parents, result_of, with_task, Frame, Name, TaskStatus, Running, Waiting, Joined, effect, fetched, follow, is_joined, is_over, is_waiting, result_at, last_of, last_return, result_in, returned_to, setting, step, TreeOf, onward, child, depth_limit, edge, strand, strand_of, waits, Trapped, Depth, ended_by, AreLow, join_of, joined_task, or_same, resumed}
 pub use Rattle.step_commit.specs.below.leaf_heap.{LeafHeapValue, saturating_words, merged, room_of, with_places, IsCurrent, IsReserved, IsTidy}
-pub use Rattle.step_commit.specs.below.ledger_step_laws.{EndsFirst, Ending, RunsPrivateSteps, rested, Forking, LastStepForks, Rests, own, EndsLast, IsOfKind, JustReads, LastKind, Wrote, Reading, Writing, Printing, Joining, Finishing, Halting}
+pub use Rattle.step_commit.specs.below.ledger_step_laws.{EndsFirst, Ending, RunsPrivateSteps, rested, Forking, LastStepForks, Rests, own, EndsLast, IsOfKind, JustReads, LastKind, ChangesByWrite, Reading, Writing, Printing, Joining, Finishing, Halting}
 pub use Rattle.step_commit.specs.below.mark_sweep_gc.{MarkingValue}
 pub use Rattle.step_commit.specs.below.object_layout.{Addr, has_chunk, ChunkValue, HaveDistinctNumbers, chunk_at, no_chunk, words_in, Located}
 pub use Rattle.step_commit.specs.below.plain_vec.{ReservedVecValue}
-pub use Rattle.step_commit.specs.below.refinement.{state_by, as_node, Belongings, Noted, Memory, sources, AreRoots, ForksBelongings, advanced, child_belongings, with_belongings, NodesFork, ForksNotes, Chunk, no_belongings, In, IsLifted, JoinsBelongings, top_with_results, Stands, NodesJoin, JoinsNotes, StandsForAll, WorkerFits, node_then, HasResult, objects_of_chunks, StandsFor, objects, IsSource, part_for, reserved_chunks, reserved_units, HoldsRead, TaskIsRead, HasNames, BelongingsStand, Place}
+pub use Rattle.step_commit.specs.below.refinement.{state_by, as_node, Belongings, Noted, Memory, sources, AreRoots, ForksBelongings, advanced, child_belongings, with_belongings, NodesFork, ForksNotes, Chunk, no_belongings, In, IsLifted, JoinsBelongings, top_with_results, MemoryStands, NodesJoin, JoinsNotes, StandsForAll, WorkerFits, node_then, HasResult, objects_of_chunks, StandsFor, objects, IsSource, part_for, reserved_chunks, reserved_units, HoldsRead, TaskIsRead, ChunksHaveNames, BelongingsStand, LiesWithOwner}
 pub use Rattle.step_commit.specs.below.remembered_set.{RefField, lifted, RememberedValue, notes_in}
 pub use Rattle.step_commit.specs.below.run_ledger.{Ledger, has_no_caller, is_open, is_private_by, is_private_line, Heap, heap_of, is_private, let_go, or_fresh, CountsFew}
 pub use Rattle.step_commit.specs.below.run_trace.{EntryValue, private_limit}
 pub use Rattle.step_commit.specs.below.task_frames.{FramesValue}
-pub use Rattle.step_commit.specs.below.task_machine.{Private, AreReserved, IsLastLarge, IsLastSmall, FitsNow, Places, HeapMatchesAccount}
+pub use Rattle.step_commit.specs.below.task_machine.{Private, HasReservedUnits, IsLastLarge, IsLastSmall, FitsNow, Places, HeapMatchesAccount}
 pub use Rattle.step_commit.specs.below.task_slots.{ParkedTask, keeping, Work, Calls, Result, TaskSlot, TaskSlotsValue}
-pub use Rattle.step_commit.specs.below.write_barrier.{SetOf, content_at, content_of, bare, Content}
+pub use Rattle.step_commit.specs.below.write_barrier.{SetOf, content_at, content_of, bare_noted, Content}

@@ -1,5 +1,5 @@
 -- An entry of a fork, as the call makes it.
-use Rattle.fork_join_commit.proofs.Common.{◌≡◌, true, ℕ, zero, suc, ◌+◌, ◌<◌, ◌++◌, arith, false, option_map, Option, Some, None, List, [], ◌∷◌, length, length-append, length-set, slice_get, slice_set, inl, inr, refl, ap, sym, subst, ◌∙◌, option_flatten, cases_lt, got_back, got_front, got_other, got_past, got_set, ReservedVecValue, EntryValue, depth_of, SetOf, bare, content_at, content_of, MarkingValue, Child, Private, ParkedTask, keeping, SharedValue, marks_at, rest_at, IsSharedValue, ForksOn, ForksTo, RestsFork, SetsFork, begun_rest, part_child, waiting_rest}
+use Rattle.fork_join_commit.proofs.Common.{◌≡◌, true, ℕ, zero, suc, ◌+◌, ◌<◌, ◌++◌, arith, false, option_map, Option, Some, None, List, [], ◌∷◌, length, length-append, length-set, slice_get, slice_set, inl, inr, refl, ap, sym, subst, ◌∙◌, option_flatten, cases_lt, got_back, got_front, got_other, got_past, got_set, ReservedVecValue, EntryValue, depth_of, SetOf, bare_noted, content_at, content_of, MarkingValue, Child, Private, ParkedTask, keeping, SharedValue, marks_at, rest_at, IsSharedValue, ForksOn, ForksTo, RestsFork, SetsFork, begun_rest, part_child, waiting_rest}
 use Rattle.fork_join_commit.proofs.ForkEntered as fork
 use Rattle.fork_join_commit.proofs.NextStepForks.{AsksFork}
 
@@ -95,9 +95,9 @@ rests_fork_by rests after p left right first second made ef es ea =
 
 -- the set of the task keeps references, and two empty ones come after it
 pub sets_fork : (sets put : List SetOf) (t : ℕ) → t < length sets → length put ≡ length sets → content_at put t ≡ option_map (keeping true) (content_at sets t) → ((u : ℕ) → (u ≡ t → ⊥) → slice_get put u ≡ slice_get sets u)
-    → SetsFork sets ((put ++ bare false ∷ []) ++ bare false ∷ []) t
+    → SetsFork sets ((put ++ bare_noted false ∷ []) ++ bare_noted false ∷ []) t
 sets_fork sets put t made a own other =
-    let x : SetOf = bare false in
+    let x : SetOf = bare_noted false in
     let one : List SetOf = put ++ x ∷ [] in
     let b : length one ≡ length sets + 1 = length-append put (x ∷ []) ∙ ap (λ n. n + 1) a in
     let c : length (one ++ x ∷ []) ≡ length sets + 2 = length-append one (x ∷ []) ∙ (ap (λ n. n + 1) b ∙ (let e : length sets + 1 + 1 ≡ length sets + 2 = omega arith in e)) in

@@ -1,5 +1,5 @@
 -- How a join changes the belongings of two children and of their parent, in the terms of the relation.
-use Rattle.fork_join_commit.proofs.Common.{◌≡◌, ◌⊎◌, ℕ, ℤ, ◌+◌, ◌<◌, ◌^◌, ◌++◌, arith, true, false, Option, Some, None, List, [], inl, inr, refl, ap, ap₂, sym, subst, ◌∙◌, eqb, eq-eqb, append_assoc, Contains, cases_Bool, false≢true, map-append, same_Some, any_from_in, contains_from_in, in_append_cases, in_append_left, in_append_right, in_from_contains, in_map, map_in, Ledger, Addr, has_chunk, ChunkValue, found_any, PoolValue, owner_of, LeafHeapValue, saturating_words, merged, room_of, with_places, Level, FramesValue, RefField, lifted, lifted_are_there, Content, AreRelabelled, with_results as with_both, joined_are_owned, Rests, own, Chunk, Belongings, no_belongings, In, Memory, sources, IsLifted, JoinsBelongings, top_with_results, Stands, in_chunk, Work, Calls, Result, chunk_of, chunks_of, belongings_by, by_chunks, noted_of, chunk_in, owner_held, sources_by}
+use Rattle.fork_join_commit.proofs.Common.{◌≡◌, ◌⊎◌, ℕ, ℤ, ◌+◌, ◌<◌, ◌^◌, ◌++◌, arith, true, false, Option, Some, None, List, [], inl, inr, refl, ap, ap₂, sym, subst, ◌∙◌, eqb, eq-eqb, append_assoc, Contains, cases_Bool, false≢true, map-append, same_Some, any_from_in, contains_from_in, in_append_cases, in_append_left, in_append_right, in_from_contains, in_map, map_in, Ledger, Addr, has_chunk, ChunkValue, found_any, PoolValue, owner_of, LeafHeapValue, saturating_words, merged, room_of, with_places, Level, FramesValue, RefField, lifted, lifted_are_there, Content, AreRelabelled, with_results as with_both, joined_are_owned, Rests, own, Chunk, Belongings, no_belongings, In, Memory, sources, IsLifted, JoinsBelongings, top_with_results, MemoryStands, in_chunk, Work, Calls, Result, chunk_of, chunks_of, belongings_by, by_chunks, noted_of, chunk_in, owner_held, sources_by}
 
 -- ---- CHUNKS BY NUMBER
 
@@ -56,7 +56,7 @@ pub record Merges (v v' : Memory) (pool pool' : PoolValue) (q c d : ℕ) (al ar 
   pub right_noted_then : sources v' d ≡ []
   pub others_noted : (u : ℕ) → (u ≡ q → ⊥) → (u ≡ c → ⊥) → (u ≡ d → ⊥) → sources v' u ≡ sources v u
 
-module _ (v v' : Memory) (l : Ledger) (V : Stands v l) (pool pool' : PoolValue) (q c d : ℕ) (al ar : ℤ × Option Addr) (rq : Rests l q) (rc : Rests l c) (rd : Rests l d) (J : Merges v v' pool pool' q c d al ar) where
+module _ (v v' : Memory) (l : Ledger) (V : MemoryStands v l) (pool pool' : PoolValue) (q c d : ℕ) (al ar : ℤ × Option Addr) (rq : Rests l q) (rc : Rests l c) (rd : Rests l d) (J : Merges v v' pool pool' q c d al ar) where
   abbrev ks : List ChunkValue
   ks = J.own_heap.chunks
 

@@ -1,5 +1,5 @@
 -- A child's last frame returns after its sibling's: both join their parent, which is ready again.
-use Rattle.fork_join_commit.proofs.Common.{◌≡◌, ◌⊎◌, ℕ, ◌+◌, ◌++◌, arith, Option, Some, None, List, [], ◌∷◌, length-set, slice_get, slice_set, inl, inr, refl, ap, sym, subst, ◌∙◌, cases_eq, same_Some, ReservedVecValue, Task, EntryValue, Ledger, PoolValue, LeafHeapValue, merged, room_of, with_places, Level, Ended, TaskNode, state_of as state_in_tree, with_state, SetOf, Content, content_at, MarkingValue, AreRelabelled, joined_nodes, with_results, rested, EndsLast, RunsPrivateSteps, Noted, Memory, sources, JoinsBelongings, with_belongings, NodesJoin, JoinsNotes, Stands, Private, ParkedTask, Work, Calls, SharedValue, noted_in, belongings_by, belongings_in, marks_at, tree_counts_of, value_of, HeapForm, IsSharedValue, noted_of, RestIsWell, RestStays, accounts_are, each_form, free_before, none_at, still_goes, task_is_out, well_at, MakesSteps, steps_others, steps_world, lets_go, alone_entry, AsksLast, last_enters, last_entry, last_steps, EndsChild, running_parent, RestsJoin, SetsJoin, sources_at}
+use Rattle.fork_join_commit.proofs.Common.{◌≡◌, ◌⊎◌, ℕ, ◌+◌, ◌++◌, arith, Option, Some, None, List, [], ◌∷◌, length-set, slice_get, slice_set, inl, inr, refl, ap, sym, subst, ◌∙◌, cases_eq, same_Some, ReservedVecValue, Task, EntryValue, Ledger, PoolValue, LeafHeapValue, merged, room_of, with_places, Level, Ended, TaskNode, state_of as state_in_tree, with_state, SetOf, Content, content_at, MarkingValue, AreRelabelled, joined_nodes, with_results, rested, EndsLast, RunsPrivateSteps, Noted, Memory, sources, JoinsBelongings, with_belongings, NodesJoin, JoinsNotes, MemoryStands, Private, ParkedTask, Work, Calls, SharedValue, noted_in, belongings_by, belongings_in, marks_at, tree_counts_of, value_of, HeapForm, IsSharedValue, noted_of, RestIsWell, RestStays, accounts_are, each_form, free_before, none_at, still_goes, task_is_out, well_at, MakesSteps, steps_others, steps_world, lets_go, alone_entry, AsksLast, last_enters, last_entry, last_steps, EndsChild, running_parent, RestsJoin, SetsJoin, sources_at}
 use Rattle.step_commit.specs.below.core_invariant.{no_belongings}
 use Rattle.step_commit.proofs.LastStepEntry as last
 use Rattle.fork_join_commit.proofs.ChildReturns as steps
@@ -36,7 +36,7 @@ module _ {w : SharedValue} {k : ℕ} {p : Private} (asks : AsksEnd w k p) (ended
   abbrev pub s : ℕ
   s = steps.other asks
 
-  abbrev W : Stands vt R
+  abbrev W : MemoryStands vt R
   W = before.W asks ended
 
   abbrev Q : EndsLast M L t x

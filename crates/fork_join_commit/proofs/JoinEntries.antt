@@ -1,6 +1,6 @@
 -- An entry of a join, as the call makes it: what is required of the parts that it joins, and how the code changes slots
 -- and sets.
-use Rattle.fork_join_commit.proofs.Common.{◌≡◌, ℕ, ◌+◌, ◌<◌, ◌++◌, arith, Bool, true, false, Option, Some, None, List, [], ◌∷◌, length, slice_get, slice_set, option_map, inl, inr, refl, ap, sym, subst, ◌∙◌, option_flatten, IfSome, IsSome, cases_eq, same_Some, got_other, got_within, got_some, none_some, ReservedVecValue, EntryValue, PoolValue, FramesValue, TaskState, Ended, TaskNode, parent_of as parent_in_tree, state_of as state_in_tree, with_state, is_left, sibling, states_change, RememberedValue, lifted, SetOf, content_at, MarkingValue, EndedChild, AreRelabelled, HasCapacityForBoth, HaveEnded, JoinsSides, joined_nodes, with_results, Private, ParkedTask, Calls, SharedValue, marks_at, rest_at, IsSharedValue, IsAtWork, stands_now, HasCalls, parent_is as tree_parent_is, some_calls, as_node, alone_entry, EndsChild, nothing_noted, AreSides, CanJoin, HasPlaces, RestsJoin, IsRestOf, SetsJoin, chunk_count, left_child_of, other_child, own_child, parent_side, right_of, sources_at}
+use Rattle.fork_join_commit.proofs.Common.{◌≡◌, ℕ, ◌+◌, ◌<◌, ◌++◌, arith, Bool, true, false, Option, Some, None, List, [], ◌∷◌, length, slice_get, slice_set, option_map, inl, inr, refl, ap, sym, subst, ◌∙◌, option_flatten, IfSome, IsSome, cases_eq, same_Some, got_other, got_within, got_some, none_some, ReservedVecValue, EntryValue, PoolValue, FramesValue, TaskState, Ended, TaskNode, parent_of as parent_in_tree, state_of as state_in_tree, with_state, is_left, sibling, states_change, RememberedValue, lifted, SetOf, content_at, MarkingValue, EndedChild, AreRelabelled, HasCapacityForBoth, HaveEnded, JoinsSides, joined_nodes, with_results, Private, ParkedTask, Calls, SharedValue, marks_at, rest_at, IsSharedValue, HasFrames, stands_now, HasCalls, parent_is as tree_parent_is, some_calls, as_node, alone_entry, EndsChild, nothing_noted, AreSides, CanJoin, HasPlaces, RestsJoin, IsRestOf, SetsJoin, chunk_count, left_child_of, other_child, own_child, parent_side, right_of, sources_at}
 use Rattle.step_commit.specs.below.heap_tree.{Waiting}
 use Rattle.step_commit.proofs.LastStepEntry as last
 use Rattle.fork_join_commit.proofs.ChildReturns as steps
@@ -104,8 +104,8 @@ module _ {w : SharedValue} {k : ℕ} {p : Private} (asks : AsksEnd w k p) (ended
     abbrev pub frames_are : above.work ≡ Calls frames
     frames_are = above_all.2
 
-    pub at_work : IsAtWork above.work
-    at_work = subst IsAtWork (sym frames_are) tt
+    pub at_work : HasFrames above.work
+    at_work = subst HasFrames (sym frames_are) tt
 
     side : AreSides p s' beside L.side.task L.side.heap R.side.heap L.result R.result
     side = sides p beside own_notes other_notes low

@@ -1,5 +1,5 @@
 -- Spare capacity changes nothing of what a shared value holds.
-use Rattle.fork_join_commit.proofs.Common.{◌≡◌, ℕ, ◌++◌, arith, inl, inr, option_map, Option, Some, None, List, [], ◌∷◌, length, slice_get, refl, ap, sym, subst, ◌∙◌, cases_eq, same_Some, fun_ext, none_some, LeafHeapValue, with_places, Level, sibling, SetOf, content_at, content_of, Belongings, Noted, Memory, StandsForAll, WorkerFits, Private, ParkedTask, Work, Calls, Result, SharedValue, accounts, marks_at, belongings_by, belongings_in, rest_at, tree_counts_of, value_of, AreMeasured, IsFree, HeapForm, IsSharedValue, Fits, part_of, noted_of, places_form, alone_entry, TaskSlotsValue, EndsChild, GetsPlaces, HasHeapRoom, HasPlaces, HasSetRoom, IsSameRest, SameButPlaces, SameButPlacesOf, chunk_count, chunks_of_both, sources_at, sources_by, sources_of_both}
+use Rattle.fork_join_commit.proofs.Common.{◌≡◌, ℕ, ◌++◌, arith, inl, inr, option_map, Option, Some, None, List, [], ◌∷◌, length, slice_get, refl, ap, sym, subst, ◌∙◌, cases_eq, same_Some, fun_ext, none_some, LeafHeapValue, with_places, Level, sibling, SetOf, content_at, content_of, Belongings, Noted, Memory, StandsForAll, WorkerFits, Private, ParkedTask, Work, Calls, Result, SharedValue, accounts, marks_at, belongings_by, belongings_in, rest_at, tree_counts_of, value_of, AreMeasured, IsFree, HeapForm, IsSharedValue, WorkerPartFits, part_of, noted_of, places_form, alone_entry, TaskSlotsValue, EndsChild, GetsPlaces, HasHeapRoom, HasPlaces, HasSetRoom, IsSameRest, SameButPlaces, SameButPlacesOf, chunk_count, chunks_of_both, sources_at, sources_by, sources_of_both}
 use Rattle.fork_join_commit.proofs.SetsNoted.{noted_by}
 
 same_belongings : (h : LeafHeapValue) (view : List Level) (n slots spare : ℕ) (x : Work) → belongings_by (with_places h slots spare) view n x ≡ belongings_by h view n x
@@ -45,7 +45,7 @@ module _ (w : SharedValue) (rests : List (Option ParkedTask)) (sets : List SetOf
       measured = λ u r is f. measured_then u r (rest_at w.rests u) refl (same u) is f;
     }
 
-  places_fit_by : (k : ℕ) (p : Private) → Fits w k p → Fits w' k p
+  places_fit_by : (k : ℕ) (p : Private) → WorkerPartFits w k p → WorkerPartFits w' k p
   places_fit_by k p F = record {
     out = F.out;
     fits = subst (λ (v : Memory). WorkerFits w.program w.settings (part_of w.settings p) v (accounts w)) (sym value_same) F.fits;
@@ -59,8 +59,8 @@ module _ (w after : SharedValue) (P : SameButPlaces w after) where
   pub places_world : IsSharedValue w → IsSharedValue after
   places_world I = subst IsSharedValue (sym P.rest) (places_world_by w after.rests after.sets P.many P.rests P.many_sets P.sets I)
 
-  pub places_fit : (k : ℕ) (p : Private) → Fits w k p → Fits after k p
-  places_fit k p F = subst (λ (z : SharedValue). Fits z k p) (sym P.rest) (places_fit_by w after.rests after.sets P.many P.rests P.many_sets P.sets k p F)
+  pub places_fit : (k : ℕ) (p : Private) → WorkerPartFits w k p → WorkerPartFits after k p
+  places_fit k p F = subst (λ (z : SharedValue). WorkerPartFits z k p) (sym P.rest) (places_fit_by w after.rests after.sets P.many P.rests P.many_sets P.sets k p F)
 
   -- what doesn't depend on slots and sets is the same
   pub places_same : (G : SharedValue → Type 0) → ((rests : List (Option ParkedTask)) (sets : List SetOf) → G w → G (record w { rests = rests; sets = sets })) → G w → G after

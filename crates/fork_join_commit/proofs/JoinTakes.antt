@@ -1,9 +1,9 @@
 -- Slots that a join takes from and puts into, one after another.
-use Rattle.fork_join_commit.proofs.Common.{◌≡◌, ℕ, ◌<◌, false, Option, Some, None, List, length, length-set, slice_get, slice_set, option_map, ap, sym, subst, ◌∙◌, option_flatten, got_other, got_set, LeafHeapValue, FramesValue, SetOf, bare, Content, content_at, content_of, MarkingValue, Private, TaskSlot, ParkedTask, Calls, TaskSlotsValue, marks_at, rest_at, nothing_noted, RestsJoin}
+use Rattle.fork_join_commit.proofs.Common.{◌≡◌, ℕ, ◌<◌, false, Option, Some, None, List, length, length-set, slice_get, slice_set, option_map, ap, sym, subst, ◌∙◌, option_flatten, got_other, got_set, LeafHeapValue, FramesValue, SetOf, bare_noted, Content, content_at, content_of, MarkingValue, Private, TaskSlot, ParkedTask, Calls, TaskSlotsValue, marks_at, rest_at, nothing_noted, RestsJoin}
 
 -- nothing is left of a task
 abbrev pub left_by : TaskSlotsValue → ℕ → TaskSlotsValue
-left_by h t = record h { rests = slice_set h.rests t None; sets = slice_set h.sets t (bare false); marks = slice_set h.marks t None; blocks = slice_set h.blocks t false }
+left_by h t = record h { rests = slice_set h.rests t None; sets = slice_set h.sets t (bare_noted false); marks = slice_set h.marks t None; blocks = slice_set h.blocks t false }
 
 -- all that belongs to both children is taken, and the parked state of their parent, and what is noted for its heap
 pub record TaskSlotsTaken (h h1 h2 h3 h4 : TaskSlotsValue) (t s q : ℕ) (own beside : TaskSlot) (above : ParkedTask) (set : SetOf) : Type 0 where
@@ -15,7 +15,7 @@ pub record TaskSlotsTaken (h h1 h2 h3 h4 : TaskSlotsValue) (t s q : ℕ) (own be
   pub above_is : rest_at h2.rests q ≡ Some above
   pub rest_taken : h3 ≡ record h2 { rests = slice_set h2.rests q None }
   pub set_is : slice_get h3.sets q ≡ Some set
-  pub set_taken : h4 ≡ record h3 { sets = slice_set h3.sets q (bare false) }
+  pub set_taken : h4 ≡ record h3 { sets = slice_set h3.sets q (bare_noted false) }
 
 -- and both are put for the parent
 pub record TaskSlotsPut (h4 h5 h6 : TaskSlotsValue) (q : ℕ) (rest : ParkedTask) (set : SetOf) : Type 0 where
@@ -29,15 +29,15 @@ module _ (h h1 h2 h3 h4 : TaskSlotsValue) (p : Private) (s q : ℕ) (own beside 
   rests_two : h2.rests ≡ slice_set (slice_set h.rests t None) s None
   rests_two = ap (λ (z : TaskSlotsValue). z.rests) T.beside_left ∙ ap (λ (z : TaskSlotsValue). slice_set z.rests s None) T.own_left
 
-  sets_two : h3.sets ≡ slice_set (slice_set h.sets t (bare false)) s (bare false)
-  sets_two = ap (λ (z : TaskSlotsValue). z.sets) T.rest_taken ∙ (ap (λ (z : TaskSlotsValue). z.sets) T.beside_left ∙ ap (λ (z : TaskSlotsValue). slice_set z.sets s (bare false)) T.own_left)
+  sets_two : h3.sets ≡ slice_set (slice_set h.sets t (bare_noted false)) s (bare_noted false)
+  sets_two = ap (λ (z : TaskSlotsValue). z.sets) T.rest_taken ∙ (ap (λ (z : TaskSlotsValue). z.sets) T.beside_left ∙ ap (λ (z : TaskSlotsValue). slice_set z.sets s (bare_noted false)) T.own_left)
 
   -- WHAT IS TAKEN
   pub beside_was : (s ≡ t → ⊥) → beside.rest ≡ rest_at h.rests s
   beside_was st = T.beside_rest ∙ (ap (λ (z : TaskSlotsValue). rest_at z.rests s) T.own_left ∙ ap option_flatten (got_other h.rests t s None st))
 
   pub beside_set_was : (s ≡ t → ⊥) → slice_get h.sets s ≡ Some beside.set
-  beside_set_was st = sym (got_other h.sets t s (bare false) st) ∙ (sym (ap (λ (z : TaskSlotsValue). slice_get z.sets s) T.own_left) ∙ T.beside_set)
+  beside_set_was st = sym (got_other h.sets t s (bare_noted false) st) ∙ (sym (ap (λ (z : TaskSlotsValue). slice_get z.sets s) T.own_left) ∙ T.beside_set)
 
   pub above_was : (q ≡ t → ⊥) → (q ≡ s → ⊥) → rest_at h.rests q ≡ Some above
   above_was qt qs =
@@ -46,7 +46,7 @@ module _ (h h1 h2 h3 h4 : TaskSlotsValue) (p : Private) (s q : ℕ) (own beside 
 
   pub set_was : (q ≡ t → ⊥) → (q ≡ s → ⊥) → slice_get h.sets q ≡ Some set
   set_was qt qs =
-      sym (got_other (slice_set h.sets t (bare false)) s q (bare false) qs ∙ got_other h.sets t q (bare false) qt)
+      sym (got_other (slice_set h.sets t (bare_noted false)) s q (bare_noted false) qs ∙ got_other h.sets t q (bare_noted false) qt)
       ∙ (sym (ap (λ (xs : List SetOf). slice_get xs q) sets_two) ∙ T.set_is)
 
   -- WHAT IS THERE AFTERWARDS
@@ -59,12 +59,12 @@ module _ (h h1 h2 h3 h4 : TaskSlotsValue) (p : Private) (s q : ℕ) (own beside 
         ∙ (ap (λ (z : TaskSlotsValue). slice_set z.rests q (Some rest)) T.rest_taken
         ∙ ap (λ (xs : List (Option ParkedTask)). slice_set (slice_set xs q None) q (Some rest)) rests_two)))
 
-    sets_then : h6.sets ≡ slice_set (slice_set (slice_set (slice_set h.sets t (bare false)) s (bare false)) q (bare false)) q put
+    sets_then : h6.sets ≡ slice_set (slice_set (slice_set (slice_set h.sets t (bare_noted false)) s (bare_noted false)) q (bare_noted false)) q put
     sets_then =
         ap (λ (z : TaskSlotsValue). z.sets) P.set_put
         ∙ (ap (λ (z : TaskSlotsValue). slice_set z.sets q put) P.rest_put
         ∙ (ap (λ (z : TaskSlotsValue). slice_set z.sets q put) T.set_taken
-        ∙ ap (λ (xs : List SetOf). slice_set (slice_set xs q (bare false)) q put) sets_two))
+        ∙ ap (λ (xs : List SetOf). slice_set (slice_set xs q (bare_noted false)) q put) sets_two))
 
     marks_then : h6.marks ≡ slice_set (slice_set h.marks t None) s None
     marks_then =
@@ -80,35 +80,35 @@ module _ (h h1 h2 h3 h4 : TaskSlotsValue) (p : Private) (s q : ℕ) (own beside 
     pub sets_many : length h6.sets ≡ length h.sets
     sets_many =
         ap (λ (xs : List SetOf). length xs) sets_then
-        ∙ (length-set (slice_set (slice_set (slice_set h.sets t (bare false)) s (bare false)) q (bare false)) q put
-        ∙ (length-set (slice_set (slice_set h.sets t (bare false)) s (bare false)) q (bare false)
-        ∙ (length-set (slice_set h.sets t (bare false)) s (bare false) ∙ length-set h.sets t (bare false))))
+        ∙ (length-set (slice_set (slice_set (slice_set h.sets t (bare_noted false)) s (bare_noted false)) q (bare_noted false)) q put
+        ∙ (length-set (slice_set (slice_set h.sets t (bare_noted false)) s (bare_noted false)) q (bare_noted false)
+        ∙ (length-set (slice_set h.sets t (bare_noted false)) s (bare_noted false) ∙ length-set h.sets t (bare_noted false))))
 
-    away : (u : ℕ) → (u ≡ q → ⊥) → content_at h6.sets u ≡ content_at (slice_set (slice_set h.sets t (bare false)) s (bare false)) u
+    away : (u : ℕ) → (u ≡ q → ⊥) → content_at h6.sets u ≡ content_at (slice_set (slice_set h.sets t (bare_noted false)) s (bare_noted false)) u
     away u nq =
         ap (λ (xs : List SetOf). content_at xs u) sets_then
-        ∙ ap (option_map content_of) (got_other (slice_set (slice_set (slice_set h.sets t (bare false)) s (bare false)) q (bare false)) q u put nq ∙ got_other (slice_set (slice_set h.sets t (bare false)) s (bare false)) q u (bare false) nq)
+        ∙ ap (option_map content_of) (got_other (slice_set (slice_set (slice_set h.sets t (bare_noted false)) s (bare_noted false)) q (bare_noted false)) q u put nq ∙ got_other (slice_set (slice_set h.sets t (bare_noted false)) s (bare_noted false)) q u (bare_noted false) nq)
 
     pub set_others : (u : ℕ) → (u ≡ q → ⊥) → (u ≡ t → ⊥) → (u ≡ s → ⊥) → content_at h6.sets u ≡ content_at h.sets u
-    set_others u nq nt ns = away u nq ∙ ap (option_map content_of) (got_other (slice_set h.sets t (bare false)) s u (bare false) ns ∙ got_other h.sets t u (bare false) nt)
+    set_others u nq nt ns = away u nq ∙ ap (option_map content_of) (got_other (slice_set h.sets t (bare_noted false)) s u (bare_noted false) ns ∙ got_other h.sets t u (bare_noted false) nt)
 
     pub own_empty : (q ≡ t → ⊥) → (s ≡ t → ⊥) → t < length h.sets → content_at h6.sets t ≡ Some nothing_noted
     own_empty qt st lt =
         away t (λ e. qt (sym e))
-        ∙ ap (option_map content_of) (got_other (slice_set h.sets t (bare false)) s t (bare false) (λ e. st (sym e)) ∙ got_set h.sets t (bare false) lt)
+        ∙ ap (option_map content_of) (got_other (slice_set h.sets t (bare_noted false)) s t (bare_noted false) (λ e. st (sym e)) ∙ got_set h.sets t (bare_noted false) lt)
 
     pub beside_empty : (q ≡ s → ⊥) → s < length h.sets → content_at h6.sets s ≡ Some nothing_noted
     beside_empty qs lt =
         away s (λ e. qs (sym e))
-        ∙ ap (option_map content_of) (got_set (slice_set h.sets t (bare false)) s (bare false) (subst (λ n. s < n) (sym (length-set h.sets t (bare false))) lt))
+        ∙ ap (option_map content_of) (got_set (slice_set h.sets t (bare_noted false)) s (bare_noted false) (subst (λ n. s < n) (sym (length-set h.sets t (bare_noted false))) lt))
 
     pub parent_set : q < length h.sets → (c : Content) → content_of put ≡ c → content_at h6.sets q ≡ Some c
     parent_set lt c e =
-        let long : length (slice_set (slice_set (slice_set h.sets t (bare false)) s (bare false)) q (bare false)) ≡ length h.sets =
-        length-set (slice_set (slice_set h.sets t (bare false)) s (bare false)) q (bare false)
-        ∙ (length-set (slice_set h.sets t (bare false)) s (bare false) ∙ length-set h.sets t (bare false)) in
+        let long : length (slice_set (slice_set (slice_set h.sets t (bare_noted false)) s (bare_noted false)) q (bare_noted false)) ≡ length h.sets =
+        length-set (slice_set (slice_set h.sets t (bare_noted false)) s (bare_noted false)) q (bare_noted false)
+        ∙ (length-set (slice_set h.sets t (bare_noted false)) s (bare_noted false) ∙ length-set h.sets t (bare_noted false)) in
         ap (λ (xs : List SetOf). content_at xs q) sets_then
-        ∙ (ap (option_map content_of) (got_set (slice_set (slice_set (slice_set h.sets t (bare false)) s (bare false)) q (bare false)) q put (subst (λ n. q < n) (sym long) lt)) ∙ ap Some e)
+        ∙ (ap (option_map content_of) (got_set (slice_set (slice_set (slice_set h.sets t (bare_noted false)) s (bare_noted false)) q (bare_noted false)) q put (subst (λ n. q < n) (sym long) lt)) ∙ ap Some e)
 
     rest_off : (u : ℕ) → (u ≡ q → ⊥) → rest_at h6.rests u ≡ rest_at (slice_set (slice_set h.rests t None) s None) u
     rest_off u nq =

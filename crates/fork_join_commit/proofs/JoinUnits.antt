@@ -1,5 +1,5 @@
 -- A join: the pool still has the chunks of each heap with their units.
-use Rattle.fork_join_commit.proofs.Common.{◌≡◌, ℕ, ◌+◌, ◌++◌, Option, Some, None, List, option_map, inl, inr, refl, ap, sym, subst, ◌∙◌, same_Some, in_append_cases, in_append_left, in_append_right, Heap, Ledger, ChunkValue, Slot, PoolValue, slot_at, LeafHeapValue, merged, with_places, Ended, state_of as state_in_tree, AreRelabelled, with_results, Rests, rested, In, Private, ParkedTask, SharedValue, accounts, rest_at, AreMeasured, IsMeasured, IsFree, KeepsUnits, Fits, task_is_out, tasks_apart, free_at_rest, measured_both, measured_kept, part_kept, relabelled_keeps, relabelled_measured, relabelled_own, chunk_in, AreSides, RestsJoin, IsRestOf}
+use Rattle.fork_join_commit.proofs.Common.{◌≡◌, ℕ, ◌+◌, ◌++◌, Option, Some, None, List, option_map, inl, inr, refl, ap, sym, subst, ◌∙◌, same_Some, in_append_cases, in_append_left, in_append_right, Heap, Ledger, ChunkValue, Slot, PoolValue, slot_at, LeafHeapValue, merged, with_places, Ended, state_of as state_in_tree, AreRelabelled, with_results, Rests, rested, In, Private, ParkedTask, SharedValue, accounts, rest_at, AreMeasured, IsMeasured, IsFree, KeepsUnits, WorkerPartFits, task_is_out, tasks_apart, free_at_rest, measured_both, measured_kept, part_kept, relabelled_keeps, relabelled_measured, relabelled_own, chunk_in, AreSides, RestsJoin, IsRestOf}
 use Rattle.step_commit.proofs.below.core_invariant.PartFitsMachine as link
 use Rattle.step_commit.proofs.LastStepEntry as last
 use Rattle.fork_join_commit.proofs.ChildReturns as steps
@@ -90,7 +90,7 @@ module _ {w : SharedValue} {k : ℕ} {p : Private} (asks : AsksEnd w k p) (ended
           (measured_kept w.pool pool q above.heap.chunks (relabelled_own w.pool pool (lh.chunks ++ rh.chunks) q relabelled) above_measured)))
 
       -- THE PARTS OF OTHERS
-      pub others_measured : (u : ℕ) (i : Private) → (u ≡ k → ⊥) → Fits w u i → IsMeasured pool i
+      pub others_measured : (u : ℕ) (i : Private) → (u ≡ k → ⊥) → WorkerPartFits w u i → IsMeasured pool i
       others_measured u i ne G =
           let apart = other_apart i.task (λ e. tasks_apart w k u p i F G ne (sym e)) (λ e. unheld_s u (task_is_out w u i I on G ∙ ap (λ n. Some n) e)) in
           part_kept w.pool pool i (units_stay i.task apart.0 apart.1) G.measured

@@ -1,5 +1,5 @@
 -- What the code takes and puts for a join, and the resulting shared value.
-use Rattle.fork_join_commit.proofs.Common.{◌≡◌, ℕ, ◌+◌, ◌<◌, ◌++◌, false, Some, None, [], ◌∷◌, length, slice_get, slice_set, refl, ap, ap₂, sym, subst, ◌∙◌, IfSome, ReservedVecValue, EntryValue, PoolValue, FramesValue, Ended, parent_of as parent_in_tree, state_of as state_in_tree, with_state, is_left, sibling, RememberedValue, SetOf, content_at, content_of, EndedChild, AreRelabelled, JoinsSides, joined_nodes, with_results, Private, TaskSlot, ParkedTask, Calls, TaskSlotsValue, SharedValue, marks_at, rest_at, IsSharedValue, IsAtWork, alone_entry, EndsChild, CanJoin, HasPlaces, RestsJoin, IsRestOf, SetsJoin, left_child_of, other_child, own_child, parent_side, right_of, sources_at}
+use Rattle.fork_join_commit.proofs.Common.{◌≡◌, ℕ, ◌+◌, ◌<◌, ◌++◌, false, Some, None, [], ◌∷◌, length, slice_get, slice_set, refl, ap, ap₂, sym, subst, ◌∙◌, IfSome, ReservedVecValue, EntryValue, PoolValue, FramesValue, Ended, parent_of as parent_in_tree, state_of as state_in_tree, with_state, is_left, sibling, RememberedValue, SetOf, content_at, content_of, EndedChild, AreRelabelled, JoinsSides, joined_nodes, with_results, Private, TaskSlot, ParkedTask, Calls, TaskSlotsValue, SharedValue, marks_at, rest_at, IsSharedValue, HasFrames, alone_entry, EndsChild, CanJoin, HasPlaces, RestsJoin, IsRestOf, SetsJoin, left_child_of, other_child, own_child, parent_side, right_of, sources_at}
 use Rattle.fork_join_commit.proofs.JoinEntries as entry
 use Rattle.fork_join_commit.proofs.ChildReturns.{AsksEnd, own_made}
 use Rattle.fork_join_commit.proofs.JoinPlaces.{set_sources}
@@ -91,7 +91,7 @@ module _ {w : SharedValue} {k : ℕ} {p : Private} (asks : AsksEnd w k p) (ended
     own_set_sources : notes.sources ≡ sources_at w.sets q
     own_set_sources = ap (λ (n : RememberedValue). n.sources) K.notes_are ∙ set_sources w.sets q set set_there
 
-    at_work_q : IsAtWork above.work
+    at_work_q : HasFrames above.work
     at_work_q = entry.at_work asks ended above beside own_notes other_notes notes above_of beside_of
 
     can_join_q : HasPlaces w p q → CanJoin (with_state w.tree p.task Ended) w.pool (parent_side q above notes) left right
@@ -174,9 +174,9 @@ module _ {w : SharedValue} {k : ℕ} {p : Private} (asks : AsksEnd w k p) (ended
   abbrev K : ℕ → ℕ → Type 0
   K n o = Taken w p n o h h1 h2 h3 h4 slot beside above set notes own oth left right
 
-  pub can_join : K parent other → HasPlaces w p parent → IsAtWork above.work × CanJoin (with_state w.tree p.task Ended) w.pool (parent_side parent above notes) left right
+  pub can_join : K parent other → HasPlaces w p parent → HasFrames above.work × CanJoin (with_state w.tree p.task Ended) w.pool (parent_side parent above notes) left right
   can_join =
-      moved (λ n o. K n o → HasPlaces w p n → IsAtWork above.work × CanJoin (with_state w.tree p.task Ended) w.pool (parent_side n above notes) left right)
+      moved (λ n o. K n o → HasPlaces w p n → HasFrames above.work × CanJoin (with_state w.tree p.task Ended) w.pool (parent_side n above notes) left right)
       (λ T places. (
         at_work_q asks ended h h1 h2 h3 h4 slot beside above set notes own oth left right T,
         can_join_q asks ended h h1 h2 h3 h4 slot beside above set notes own oth left right T places,

@@ -1,5 +1,5 @@
 -- A join: the belongings that it merges.
-use Rattle.fork_join_commit.proofs.Common.{◌≡◌, ◌⊎◌, ℕ, ℤ, ◌+◌, ◌<◌, ◌^◌, ◌++◌, arith, true, false, Option, Some, None, List, slice_get, inl, inr, refl, ap, sym, subst, ◌∙◌, IsSome, cases_Bool, or_from, same_Some, all_from, in_map, Name, MachineState, Task, result_at, result_of, Ledger, heap_of, Addr, HaveDistinctNumbers, has_chunk, apart_together, has_append, slot_at, LeafHeapValue, Level, FramesValue, Ended, state_of as state_in_tree, AreInUse, Rests, rested, EndsLast, Chunk, Belongings, In, Memory, HasResult, with_belongings, Stands, Private, AreReserved, ParkedTask, Work, Calls, Result, chunk_of, SharedValue, belongings_by, belongings_in, belongings_of, rest_at, HeapForm, chunk_in, by_chunks, owner_held, AreSides, IsRestOf, part_result, work_result}
+use Rattle.fork_join_commit.proofs.Common.{◌≡◌, ◌⊎◌, ℕ, ℤ, ◌+◌, ◌<◌, ◌^◌, ◌++◌, arith, true, false, Option, Some, None, List, slice_get, inl, inr, refl, ap, sym, subst, ◌∙◌, IsSome, cases_Bool, or_from, same_Some, all_from, in_map, Name, MachineState, Task, result_at, result_of, Ledger, heap_of, Addr, HaveDistinctNumbers, has_chunk, apart_together, has_append, slot_at, LeafHeapValue, Level, FramesValue, Ended, state_of as state_in_tree, AreInUse, Rests, rested, EndsLast, Chunk, Belongings, In, Memory, HasResult, with_belongings, MemoryStands, Private, HasReservedUnits, ParkedTask, Work, Calls, Result, chunk_of, SharedValue, belongings_by, belongings_in, belongings_of, rest_at, HeapForm, chunk_in, by_chunks, owner_held, AreSides, IsRestOf, part_result, work_result}
 use Rattle.step_commit.proofs.LastStepEntry as last
 use Rattle.fork_join_commit.proofs.ChildReturns as steps
 use Rattle.fork_join_commit.proofs.ChildReturns.{AsksEnd}
@@ -44,7 +44,7 @@ module _ {w : SharedValue} {k : ℕ} {p : Private} (asks : AsksEnd w k p) (ended
   abbrev pub s : ℕ
   s = steps.other asks
 
-  abbrev W : Stands vt R
+  abbrev W : MemoryStands vt R
   W = before.W asks ended
 
   abbrev Q : EndsLast M L t x
@@ -177,12 +177,12 @@ module _ {w : SharedValue} {k : ℕ} {p : Private} (asks : AsksEnd w k p) (ended
     pub left_none : lh.reserved ≡ None
     left_none =
         none_reserved lh child_forms.0.shaped.reserved
-        (subst (AreReserved lh.chunks lh.reserved) (ap (λ u. (heap_of R u).reserved) (sym left_is) ∙ Q.can.left_spares) (before.counted_belongings asks ended c children_belongings.0.0 lh children_belongings.0.2 children_belongings.0.1 children_belongings.0.3 rests_c child_forms.0).reserved)
+        (subst (HasReservedUnits lh.chunks lh.reserved) (ap (λ u. (heap_of R u).reserved) (sym left_is) ∙ Q.can.left_spares) (before.counted_belongings asks ended c children_belongings.0.0 lh children_belongings.0.2 children_belongings.0.1 children_belongings.0.3 rests_c child_forms.0).reserved)
 
     pub right_none : rh.reserved ≡ None
     right_none =
         none_reserved rh child_forms.1.shaped.reserved
-        (subst (AreReserved rh.chunks rh.reserved) (ap (λ u. (heap_of R (u + 1)).reserved) (sym left_is) ∙ Q.can.right_spares) (before.counted_belongings asks ended (c + 1) children_belongings.1.0 rh children_belongings.1.2 children_belongings.1.1 children_belongings.1.3 rests_d child_forms.1).reserved)
+        (subst (HasReservedUnits rh.chunks rh.reserved) (ap (λ u. (heap_of R (u + 1)).reserved) (sym left_is) ∙ Q.can.right_spares) (before.counted_belongings asks ended (c + 1) children_belongings.1.0 rh children_belongings.1.2 children_belongings.1.1 children_belongings.1.3 rests_d child_forms.1).reserved)
 
     pub small : above.heap.since + (lh.since + rh.since) < 2 ^ 64
     small =

@@ -1,5 +1,5 @@
 -- The kind of a last return, by the task after it.
-use Rattle.fork_join_commit.proofs.Common.{◌≡◌, ℕ, true, false, Some, None, slice_get, ap, sym, subst, ◌∙◌, both_ways, false≢true, same_Some, none_some, Out, Par, Ret, Line, ProgramText, MachineState, Task, is_over, Ledger, is_private, EndsFirst, EndsLast, IsOfKind, JustReads, LastKind, Wrote, Reading, Writing, Printing, Forking, Ending, Joining, Finishing, Halting, joined_not}
+use Rattle.fork_join_commit.proofs.Common.{◌≡◌, ℕ, true, false, Some, None, slice_get, ap, sym, subst, ◌∙◌, both_ways, false≢true, same_Some, none_some, Out, Par, Ret, Line, ProgramText, MachineState, Task, is_over, Ledger, is_private, EndsFirst, EndsLast, IsOfKind, JustReads, LastKind, ChangesByWrite, Reading, Writing, Printing, Forking, Ending, Joining, Finishing, Halting, joined_not}
 use Rattle.step_commit.specs.below.ledger_step_laws.{Private}
 
 prints_not : {A : Type 0} {a : ℕ} → Ret ≡ Out a → A
@@ -17,7 +17,7 @@ module _ (p : ProgramText) (m l' : Ledger) (t : ℕ) (x : Task) (line : Line) (s
     pub ends : (kind : LastKind) → Last kind → EndsFirst m l' t x
     ends Private private = absurd (both_ways (is_private p m.machine t) shared private)
     ends Reading r = absurd (subst (λ i. JustReads x i r.object r.frame) by r.reads)
-    ends Writing r = absurd (subst (λ i. Wrote x i r.object r.written r.frame) by r.wrote)
+    ends Writing r = absurd (subst (λ i. ChangesByWrite x i r.object r.written r.frame) by r.wrote)
     ends Printing q = prints_not (sym by ∙ q.by)
     ends Forking f = forks_not (sym by ∙ f.by)
     ends Ending e = e
@@ -30,7 +30,7 @@ module _ (p : ProgramText) (m l' : Ledger) (t : ℕ) (x : Task) (line : Line) (s
     pub joins : (kind : LastKind) → Last kind → EndsLast m l' t x
     joins Private private = absurd (both_ways (is_private p m.machine t) shared private)
     joins Reading r = absurd (subst (λ i. JustReads x i r.object r.frame) by r.reads)
-    joins Writing r = absurd (subst (λ i. Wrote x i r.object r.written r.frame) by r.wrote)
+    joins Writing r = absurd (subst (λ i. ChangesByWrite x i r.object r.written r.frame) by r.wrote)
     joins Printing q = prints_not (sym by ∙ q.by)
     joins Forking f = forks_not (sym by ∙ f.by)
     joins Ending e = let same = same_Some _ y (sym e.ends.ended ∙ is) in absurd (false≢true (ap (λ (z : Task). is_over z.status) same ∙ over))

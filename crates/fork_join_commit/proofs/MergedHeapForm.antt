@@ -1,5 +1,5 @@
 -- The heap of a task that took over its children's has the form of a heap.
-use Rattle.fork_join_commit.proofs.Common.{◌≡◌, ◌⊎◌, ℕ, ◌+◌, ◌-◌, ◌*◌, ◌/◌, ◌<◌, ◌≤◌, ◌^◌, ◌++◌, arith, Option, Some, None, List, [], length, length-append, option_map, inl, inr, refl, ap, sym, subst, ◌∙◌, cases_lt, get_or_append_left, get_or-append-add, All-append, in_append_cases, in_map, map_in, none_some, HaveDistinctNumbers, chunk_at, no_chunk, ChunkValue, words_in, Located, LeafHeapValue, IsCurrent, IsReserved, IsTidy, saturating_words, merged, with_places, behind, Chunk, In, objects_of_chunks, in_chunk, in_objects, AreReserved, IsLastLarge, IsLastSmall, chunk_of, chunks_of, HeapForm}
+use Rattle.fork_join_commit.proofs.Common.{◌≡◌, ◌⊎◌, ℕ, ◌+◌, ◌-◌, ◌*◌, ◌/◌, ◌<◌, ◌≤◌, ◌^◌, ◌++◌, arith, Option, Some, None, List, [], length, length-append, option_map, inl, inr, refl, ap, sym, subst, ◌∙◌, cases_lt, get_or_append_left, get_or-append-add, All-append, in_append_cases, in_map, map_in, none_some, HaveDistinctNumbers, chunk_at, no_chunk, ChunkValue, words_in, Located, LeafHeapValue, IsCurrent, IsReserved, IsTidy, saturating_words, merged, with_places, behind, Chunk, In, objects_of_chunks, in_chunk, in_objects, HasReservedUnits, IsLastLarge, IsLastSmall, chunk_of, chunks_of, HeapForm}
 
 -- the content that an object lies in
 pub object_content : (ks : List ChunkValue) (o : Located) → In (objects_of_chunks (chunks_of ks)) o → (c : ChunkValue) × In ks c × In (chunk_of c).objects o
@@ -120,12 +120,12 @@ module _ (h a b : LeafHeapValue) (H : HeapForm h) (A : HeapForm a) (B : HeapForm
   }
 
 -- a heap for which no chunk is reserved
-pub none_reserved : (h : LeafHeapValue) → IsReserved h.chunks h.reserved → AreReserved h.chunks h.reserved 0 → h.reserved ≡ None
+pub none_reserved : (h : LeafHeapValue) → IsReserved h.chunks h.reserved → HasReservedUnits h.chunks h.reserved 0 → h.reserved ≡ None
 none_reserved h R C = none_reserved_by_cases h.reserved refl
   where
     none_reserved_by_cases : (o : Option ℕ) → h.reserved ≡ o → h.reserved ≡ None
     none_reserved_by_cases None e = e
     none_reserved_by_cases (Some i) e =
         let r = subst (IsReserved h.chunks) e R in
-        let s : (chunk_at h.chunks i).size ≡ 1024 * 0 = subst (λ o. AreReserved h.chunks o 0) e C in
+        let s : (chunk_at h.chunks i).size ≡ 1024 * 0 = subst (λ o. HasReservedUnits h.chunks o 0) e C in
         absurd (omega (arith, r.1.0, s))

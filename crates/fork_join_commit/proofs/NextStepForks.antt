@@ -1,5 +1,5 @@
 -- A part whose next step is a fork: what is known before it is committed.
-use Rattle.fork_join_commit.proofs.Common.{◌≡◌, ℕ, ◌<◌, ◌≤◌, ◌^◌, ◌&&◌, arith, not, nat_lt, Bool, true, false, Option, Some, None, length, slice_get, option_map, is_some, inl, inr, refl, ap, ap₂, sym, subst, ◌∙◌, cases_eq, cond-false, ltb-true, same_Some, Instr, Par, Line, Trapped, MachineState, Task, Depth, effect, depth_limit, ended_by, fetched, follow, parents, setting, step, AreLow, heap_of, is_open, is_private_by, is_private_line, steps_are_bounded, journals_are_counted, TaskNode, depth_of, parent_of as parent_in_tree, state_of as state_in_tree, StandsFor, state_by, as_node, Private, FitsNow as FitsMachine, Places, same_line, Traps, refused, Fits, above_of, next_line, IsSharedValue, SharedValue, accounts, tree_counts_of, value_of, stands_now, tree_long, status, After, same_length, parent_is, IsShared, Tells, alone_entry, machine_after, AsksAlone, runs_on, AreDeep, deep_in, run_deep, AsksLast, fits_machine, machine_same, ForksTo, IsAtFork, is_fork, is_fork_by, is_par}
+use Rattle.fork_join_commit.proofs.Common.{◌≡◌, ℕ, ◌<◌, ◌≤◌, ◌^◌, ◌&&◌, arith, not, nat_lt, Bool, true, false, Option, Some, None, length, slice_get, option_map, is_some, inl, inr, refl, ap, ap₂, sym, subst, ◌∙◌, cases_eq, cond-false, ltb-true, same_Some, Instr, Par, Line, Trapped, MachineState, Task, Depth, effect, depth_limit, ended_by, fetched, follow, parents, setting, step, AreLow, heap_of, is_open, is_private_by, is_private_line, steps_are_bounded, journals_are_counted, TaskNode, depth_of, parent_of as parent_in_tree, state_of as state_in_tree, StandsFor, state_by, as_node, Private, FitsNow as FitsMachine, Places, same_line, Traps, refused, WorkerPartFits, above_of, next_line, IsSharedValue, SharedValue, accounts, tree_counts_of, value_of, stands_now, tree_long, status, After, same_length, parent_is, IsShared, EndingTells, alone_entry, machine_after, AsksAlone, runs_on, AreDeep, deep_in, run_deep, AsksLast, fits_machine, machine_same, ForksTo, IsAtFork, is_fork, is_fork_by, is_par}
 use Rattle.step_commit.specs.below.hh_model.{forked as forked_machine}
 use Rattle.step_commit.specs.below.heap_tree.{Out}
 use Rattle.step_commit.proofs.below.core_invariant.PartFitsMachine as link
@@ -47,7 +47,7 @@ module _ (w : SharedValue) (I : IsSharedValue w) (on : (accounts w).end ≡ None
   S0 = stands_now w I on
 
   -- the task of a part is out
-  module _ (k : ℕ) (p : Private) (F : Fits w k p) where
+  module _ (k : ℕ) (p : Private) (F : WorkerPartFits w k p) where
     node_out : (n : TaskNode) × (slice_get w.tree p.task ≡ Some n) × (n.state ≡ Out)
     node_out =
         let is : slice_get w.tree p.task ≡ Some (as_node (heap_of (accounts w) p.task).worker F.fits.task) = S0.tree_counts.node p.task ∙ ap (option_map (as_node (heap_of (accounts w) p.task).worker)) F.fits.is in
@@ -61,13 +61,13 @@ module _ (w : SharedValue) (I : IsSharedValue w) (on : (accounts w).end ≡ None
 -- a call asks for the entry of a fork, and nothing refuses it
 pub record AsksFork (w : SharedValue) (k : ℕ) (p : Private) : Type 0 where
   pub I : IsSharedValue w
-  pub F : Fits w k p
+  pub F : WorkerPartFits w k p
   pub at_fork : IsAtFork w p
   pub free : refused w (alone_entry k p) ≡ None
 
 -- by what is known of an equal value
-pub asks_fork : {w after : SharedValue} {k : ℕ} {p : Private} → w ≡ after → IsSharedValue w → Fits after k p → IsAtFork after p → refused after (alone_entry k p) ≡ None → AsksFork w k p
-asks_fork {w} {after} {k} {p} same I F at free = record { I = I; F = subst (λ z. Fits z k p) (sym same) F; at_fork = subst (λ z. IsAtFork z p) (sym same) at; free = subst (λ z. refused z (alone_entry k p) ≡ None) (sym same) free }
+pub asks_fork : {w after : SharedValue} {k : ℕ} {p : Private} → w ≡ after → IsSharedValue w → WorkerPartFits after k p → IsAtFork after p → refused after (alone_entry k p) ≡ None → AsksFork w k p
+asks_fork {w} {after} {k} {p} same I F at free = record { I = I; F = subst (λ z. WorkerPartFits z k p) (sym same) F; at_fork = subst (λ z. IsAtFork z p) (sym same) at; free = subst (λ z. refused z (alone_entry k p) ≡ None) (sym same) free }
 
 module _ {w : SharedValue} {k : ℕ} {p : Private} (asks : AsksFork w k p) where
   open asks use {I, F, at_fork, free}
@@ -144,7 +144,7 @@ module _ {w : SharedValue} {k : ℕ} {p : Private} (asks : AsksFork w k p) where
         ∙ ap (λ (i : Instr). follow M.machine t S.task S.line.number (effect (setting M.machine t S.task) S.task.top M.machine.store i)) line_is_fork
 
     -- too deep, it traps
-    pub deep_traps : 1000 ≤ depth_of w.tree t → Tells w p (Traps Depth) number
+    pub deep_traps : 1000 ≤ depth_of w.tree t → EndingTells w p (Traps Depth) number
     deep_traps le =
         let not : nat_lt S.task.depth depth_limit ≡ false = too_deep (nat_lt S.task.depth depth_limit) refl in
         record {

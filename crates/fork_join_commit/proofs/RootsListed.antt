@@ -1,5 +1,5 @@
 -- The roots of a heap can be listed: each remembered field holds one or none.
-use Rattle.fork_join_commit.proofs.Common.{◌≡◌, ◌↔◌, ℕ, Option, Some, None, List, [], ◌∷◌, slice_get, inl, inr, refl, ap, sym, subst, ◌∙◌, cases_eq, same_Some, none_some, Ledger, Addr, Located, RefField, Rests, own, In, Memory, objects, sources, AreRoots, IsSource, Stands, lies_in}
+use Rattle.fork_join_commit.proofs.Common.{◌≡◌, ◌↔◌, ℕ, Option, Some, None, List, [], ◌∷◌, slice_get, inl, inr, refl, ap, sym, subst, ◌∙◌, cases_eq, same_Some, none_some, Ledger, Addr, Located, RefField, Rests, own, In, Memory, objects, sources, AreRoots, IsSource, MemoryStands, lies_in}
 
 -- this remembered field holds the root
 pub record RootBy (v : Memory) (l : Ledger) (t : ℕ) (s : RefField) (a : Addr) : Type 0 where
@@ -17,7 +17,7 @@ OneRoot v l t s = (o : Option Addr) × ((a : Addr) → (o ≡ Some a) ↔ RootBy
 abbrev pub RootsOf : Memory → Ledger → ℕ → List RefField → Type 0
 RootsOf v l t ss = (roots : List Addr) × ((a : Addr) → In roots a ↔ ((s : RefField) × In ss s × RootBy v l t s a))
 
-module _ (v : Memory) (l : Ledger) (t : ℕ) (V : Stands v l) where
+module _ (v : Memory) (l : Ledger) (t : ℕ) (V : MemoryStands v l) where
   module _ (s : RefField) (K : IsSource v l t s) where
     abbrev u : ℕ
     u = own l K.name

@@ -1,5 +1,5 @@
 -- A child's last frame returns after its sibling's: what is known of the accounts then.
-use Rattle.fork_join_commit.proofs.Common.{◌≡◌, ◌⊎◌, ℕ, ℤ, suc, ◌+◌, ◌-◌, ◌*◌, ◌≤◌, is_none, arith, Bool, true, false, cond, Option, Some, None, List, map, slice_get, slice_set, inl, inr, refl, ap, sym, subst, ◌∙◌, if◌then◌else◌, cases_eq, same_Some, got_other, got_same, Name, MachineState, Waiting as WaitingOf, Task, child_ended_by, is_joined, is_running, is_waiting, join_of, joined_task, result_at, or_same, parents, result_of, resumed, waits_is, wait_there, private_limit, Ledger, heap_of, let_go, or_fresh, CountsFew, ran_tells, task_steps_steps, heap_machine, since_is_few, LeafHeapValue, Level, Ended, state_of as state_in_tree, Rests, rested, EndsLast, Joining, RunsPrivateSteps, with_off, rested_view, Chunk, Belongings, Memory, part_for, with_belongings, reserved_chunks, reserved_units, HoldsRead, TaskIsRead, HasNames, BelongingsStand, Place, Stands, WorkerFits, at_belongings, off_belongings, Private, HeapMatchesAccount, Work, Calls, SharedValue, belongings_by, rest_at, HeapForm, counted_from, HasCalls, has_calls, by_chunks, AsksLast, running_parent, where_running}
+use Rattle.fork_join_commit.proofs.Common.{◌≡◌, ◌⊎◌, ℕ, ℤ, suc, ◌+◌, ◌-◌, ◌*◌, ◌≤◌, is_none, arith, Bool, true, false, cond, Option, Some, None, List, map, slice_get, slice_set, inl, inr, refl, ap, sym, subst, ◌∙◌, if◌then◌else◌, cases_eq, same_Some, got_other, got_same, Name, MachineState, Waiting as WaitingOf, Task, child_ended_by, is_joined, is_running, is_waiting, join_of, joined_task, result_at, or_same, parents, result_of, resumed, waits_is, wait_there, private_limit, Ledger, heap_of, let_go, or_fresh, CountsFew, ran_tells, task_steps_steps, heap_machine, since_is_few, LeafHeapValue, Level, Ended, state_of as state_in_tree, Rests, rested, EndsLast, Joining, RunsPrivateSteps, with_off, rested_view, Chunk, Belongings, Memory, part_for, with_belongings, reserved_chunks, reserved_units, HoldsRead, TaskIsRead, ChunksHaveNames, BelongingsStand, LiesWithOwner, MemoryStands, WorkerFits, at_belongings, off_belongings, Private, HeapMatchesAccount, Work, Calls, SharedValue, belongings_by, rest_at, HeapForm, counted_from, HasCalls, has_calls, by_chunks, AsksLast, running_parent, where_running}
 use Rattle.step_commit.specs.below.hh_model.{Ended as EndedOf, is_left}
 use Rattle.step_commit.proofs.below.core_invariant.PartFitsMachine as link
 use Rattle.step_commit.proofs.LastStepEntry as last
@@ -155,7 +155,7 @@ module _ {w : SharedValue} {k : ℕ} {p : Private} (asks : AsksEnd w k p) (ended
       ap (where_running L.machine.tasks) par ∙ ap (λ b. if b then Some q else None) (ap is_running is)
 
   -- ---- THE ACCOUNTS AT REST
-  pub W : Stands vt R
+  pub W : MemoryStands vt R
   W = link.W w k p I F (steps.on asks)
 
   -- the words that a heap counts
@@ -189,7 +189,7 @@ module _ {w : SharedValue} {k : ℕ} {p : Private} (asks : AsksEnd w k p) (ended
   counted_belongings u n g view z e rests form =
       let H : BelongingsStand vt R u = W.belongings u rests in
       counted_from g (heap_of R u) form
-      (subst (λ ks. HasNames ks (heap_of R u)) (ap (λ (i : Belongings). i.chunks) e ∙ by_chunks g view n z) H.names)
+      (subst (λ ks. ChunksHaveNames ks (heap_of R u)) (ap (λ (i : Belongings). i.chunks) e ∙ by_chunks g view n z) H.names)
       (sym (by_room g view n z) ∙ (ap (λ (i : Belongings). i.room) (sym e) ∙ H.room))
       (sym (by_since g view n z) ∙ (ap (λ (i : Belongings). i.since) (sym e) ∙ H.since))
       (subst (λ (ks : List Chunk). map (λ (c : Chunk). c.units) (reserved_chunks ks) ≡ reserved_units (heap_of R u).reserved) (ap (λ (i : Belongings). i.chunks) e ∙ by_chunks g view n z) H.laid.reserved)
@@ -209,6 +209,6 @@ module _ {w : SharedValue} {k : ℕ} {p : Private} (asks : AsksEnd w k p) (ended
 
   pub parent_calls : HasCalls (rest_at w.rests q)
   parent_calls =
-      let held : TaskIsRead (Place vt R) (vt.belongings q) xp = W.tasks q xp rests_parent (ap (λ (m : MachineState). slice_get m.tasks q) machine_rests ∙ above_task.1) in
-      has_calls (Place vt R) (rest_at w.rests q) xp
-      (subst (HoldsRead (Place vt R) (v.belongings q) xp) above_status (subst (λ (i : Belongings). TaskIsRead (Place vt R) i xp) (off q (steps.parent_apart asks)) held))
+      let held : TaskIsRead (LiesWithOwner vt R) (vt.belongings q) xp = W.tasks q xp rests_parent (ap (λ (m : MachineState). slice_get m.tasks q) machine_rests ∙ above_task.1) in
+      has_calls (LiesWithOwner vt R) (rest_at w.rests q) xp
+      (subst (HoldsRead (LiesWithOwner vt R) (v.belongings q) xp) above_status (subst (λ (i : Belongings). TaskIsRead (LiesWithOwner vt R) i xp) (off q (steps.parent_apart asks)) held))

@@ -1,7 +1,7 @@
 // The slots of a run before the first entry.
 
 ghost use Rattle.std.specs.Prelude.{◌≡◌, ◌∷◌, [], IfOk, None, Some, false, replicate};
-ghost use Rattle.step_commit.specs.below.write_barrier.{bare};
+ghost use Rattle.step_commit.specs.below.write_barrier.{bare_noted};
 ghost use Rattle.step_commit.specs.below.core_invariant.{first_rest};
 ghost use Rattle.step_commit.specs.below.task_slots.{ParkedTask as RestOf};
 
@@ -26,7 +26,7 @@ fn root(alloc: Global, program: &Program) -> Result<ParkedTask, AllocError>
 /// The slots of a run before the first entry.
 pub fn first_task_slots(alloc: Global, program: &Program) -> Result<TaskSlots, AllocError>
     ensures rests { IfOk result (λ h. (r : RestOf) × (r ≡ first_rest program.now r.heap.slots r.heap.spare) × (h.rests ≡ Some r ∷ [])) }
-    ensures sets { IfOk result (λ h. h.sets ≡ bare false ∷ []) }
+    ensures sets { IfOk result (λ h. h.sets ≡ bare_noted false ∷ []) }
     ensures marks { IfOk result (λ h. h.marks ≡ None ∷ []) }
 {
     TaskSlots::new(alloc, root(alloc, program)?)

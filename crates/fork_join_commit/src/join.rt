@@ -6,7 +6,7 @@ ghost use Rattle.step_commit.specs.below.heap_tree.{is_left};
 ghost use Rattle.step_commit.specs.below.remembered_set.{notes_in};
 ghost use Rattle.step_commit.specs.below.fork_join.{joined_nodes, with_results, AreRelabelled, JoinsSides};
 ghost use Rattle.step_commit.specs.below.task_slots.{ParkedTask as RestOf};
-ghost use Rattle.step_commit.specs.below.core_invariant.{IsAtWork, rest_at};
+ghost use Rattle.step_commit.specs.below.core_invariant.{HasFrames, rest_at};
 ghost use Rattle.fork_join_commit.specs.Joins.{chunk_count, chunks_of_both, left_child_of, other_child, own_child, parent_side, right_of, sources_of_both, work_result, CanJoin, GetsPlaces, IsRestOf, SameButPlacesOf};
 
 use std::alloc::{AllocError, Global};
@@ -101,7 +101,7 @@ pub fn join_children(
     noted: Remembered,
     children: (EndedChild, EndedChild),
 ) -> (ParkedTask, Remembered)
-    requires work { IsAtWork above.work }
+    requires work { HasFrames above.work }
     requires can { CanJoin tree.old pool.old (parent_side parent above noted) children.0 children.1 }
     ensures tree { tree.new ≡ joined_nodes tree.old parent children.0.side.task children.1.side.task }
     ensures pool { AreRelabelled pool.old pool.new (children.0.side.heap.chunks ++ children.1.side.heap.chunks) parent }

@@ -11,7 +11,7 @@ pub use Rattle.run_statistics.proofs.below.ledger_step_laws.{heap_then, with_at}
 pub use Rattle.run_statistics.proofs.below.plain_vec.{got_within, got_some, got_other, some_map}
 pub use Rattle.run_statistics.proofs.below.run_ledger.{entry_tells, legal_sound, wait_tells, heap_end, heap_machine}
 pub use Rattle.run_statistics.proofs.below.shared_tree.{handed_on}
-pub use Rattle.run_statistics.specs.below.core_invariant.{NotEntered, NoMemory, Refuses, SharedValue, accounts, refused, Enters, IsSharedValue, refusal_of_result, Fits, IsCaused, marks_at}
+pub use Rattle.run_statistics.specs.below.core_invariant.{NotEntered, NoMemory, Refuses, SharedValue, accounts, refused, Enters, IsSharedValue, refusal_of_result, WorkerPartFits, IsCaused, marks_at}
 pub use Rattle.run_statistics.specs.below.fork_join_commit.{IsUnchanged}
 pub use Rattle.run_statistics.specs.below.heap_marking.{Pace, Other, KeepsPace, KeepsPrevious, Fork, IsForkOf, previous_of, IsForkIn, waiting_cause, waiting_cause_in, is_state_joined, is_going, Forked, marking_cause, marking_cause_in, IsLastGoing}
 pub use Rattle.run_statistics.specs.below.heap_tree.{TaskNode, state_of}

@@ -5,11 +5,11 @@ pub use Rattle.heap_graph.specs.HeapTotals.{held_of, held_by}
 pub use Rattle.heap_graph.specs.Kinds.{port_at, edge_to, edge_by, edges_from, is_long, edges_of, kind_attributes}
 pub use Rattle.heap_graph.specs.Laws.{leads}
 pub use Rattle.heap_graph.specs.Names.{task_cluster, object_name, heap_title, port_name}
-pub use Rattle.heap_graph.specs.Overview.{Links, link_edge, links_drawn, heap_by, link_attributes, links_by, with_links}
+pub use Rattle.heap_graph.specs.Overview.{DrawnLinks, link_edge, links_drawn, heap_by, link_attributes, links_by, with_links}
 pub use Rattle.heap_graph.specs.Pieces.{opened, optional_lines}
 pub use Rattle.image_check.specs.Line.{line_meaning}
 pub use Rattle.image_check.specs.Sound.{ReferenceIs}
-pub use Rattle.image_check.specs.Tasks.{Tasks, image_parent, owner_at, is_running, relation_of}
+pub use Rattle.image_check.specs.ImageTasks.{ImageTasks, image_parent, owner_at, is_running, relation_of}
 pub use Rattle.image_check.specs.declared.read.Read.{Read}
 pub use Rattle.plain_vec.proofs.Places.{lines_more}
 pub use Rattle.quoted_text.specs.Labels.{task_name}

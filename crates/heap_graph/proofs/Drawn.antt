@@ -1,5 +1,5 @@
 -- How the text of a graph is put together.
-use Rattle.heap_graph.proofs.Common.{◌≡◌, ℕ, zero, suc, List, [], ◌∷◌, ◌++◌, refl, ap, sym, ◌∙◌, append_assoc, append-nil, ◌≢◌, codes, Some, None, flat_map, Statement, Attributes, Node, Edge, attribute, node_begin, edge_begin, statement_end, setting, cluster_begin, braces_end, dot, all_dot, Tasks, image_parent, path, path_above, boxed, point, titled_box, statements, opened}
+use Rattle.heap_graph.proofs.Common.{◌≡◌, ℕ, zero, suc, List, [], ◌∷◌, ◌++◌, refl, ap, sym, ◌∙◌, append_assoc, append-nil, ◌≢◌, codes, Some, None, flat_map, Statement, Attributes, Node, Edge, attribute, node_begin, edge_begin, statement_end, setting, cluster_begin, braces_end, dot, all_dot, ImageTasks, image_parent, path, path_above, boxed, point, titled_box, statements, opened}
 
 -- BOXES
 
@@ -80,11 +80,11 @@ edge_made s p q attrs before a b c e f g =
 
 -- PATHS
 
-pub path_alone : (n : ℕ) (tasks : Tasks) (t : ℕ) → n ≢ 0 → image_parent tasks t ≡ None → path n tasks t ≡ t ∷ []
+pub path_alone : (n : ℕ) (tasks : ImageTasks) (t : ℕ) → n ≢ 0 → image_parent tasks t ≡ None → path n tasks t ≡ t ∷ []
 path_alone zero tasks t ne e = absurd (ne refl)
 path_alone (suc n) tasks t ne e = ap (λ o. path_above (path n tasks) o ++ t ∷ []) e
 
-pub path_below : (m n : ℕ) (tasks : Tasks) (t p : ℕ) (before now later : List ℕ) → suc m ≡ n → image_parent tasks t ≡ Some p → now ≡ before ++ path m tasks p → later ≡ now ++ t ∷ []
+pub path_below : (m n : ℕ) (tasks : ImageTasks) (t p : ℕ) (before now later : List ℕ) → suc m ≡ n → image_parent tasks t ≡ Some p → now ≡ before ++ path m tasks p → later ≡ now ++ t ∷ []
     → later ≡ before ++ path n tasks t
 path_below m n tasks t p before now later q e f g =
     g ∙ ap (λ x. x ++ t ∷ []) f ∙ append_assoc before (path m tasks p) (t ∷ [])

@@ -1,5 +1,5 @@
 -- What is left to be written, item by item.
-use Rattle.heap_graph.proofs.Common.{◌≡◌, ◌<◌, ◌≤◌, ◌+◌, ℕ, zero, suc, List, [], ◌∷◌, ◌++◌, length, take, drop, get_or, ap, sym, ◌∙◌, append_assoc, append-nil, arith, length-drop, drop_all, drop_more, flat_map, Some, slice_get, slice_get_within, get_or_from_slice_get, dot, Read, Links, link_edge, links_drawn}
+use Rattle.heap_graph.proofs.Common.{◌≡◌, ◌<◌, ◌≤◌, ◌+◌, ℕ, zero, suc, List, [], ◌∷◌, ◌++◌, length, take, drop, get_or, ap, sym, ◌∙◌, append_assoc, append-nil, arith, length-drop, drop_all, drop_more, flat_map, Some, slice_get, slice_get_within, get_or_from_slice_get, dot, Read, DrawnLinks, link_edge, links_drawn}
 
 -- one more item has the same piece as each
 same_next : (piece : List ℕ) (xs : List ℕ) (i : ℕ) → i < length xs → flat_map (λ _. piece) (take (suc i) xs) ≡ flat_map (λ _. piece) (take i xs) ++ piece
@@ -18,7 +18,7 @@ piece_more now later piece left rest all e f g =
     ap (λ x. x ++ rest) g ∙ append_assoc now piece rest ∙ ap (λ x. now ++ x) (sym f) ∙ e
 
 -- the edge of the pair at an index, and those after it
-pub pairs_cut : (r : Read) (ls : Links) (i : ℕ) (l : (ℕ × ℕ) × ℕ) → slice_get ls i ≡ Some l
+pub pairs_cut : (r : Read) (ls : DrawnLinks) (i : ℕ) (l : (ℕ × ℕ) × ℕ) → slice_get ls i ≡ Some l
     → flat_map dot (links_drawn r (drop i ls)) ≡ dot (link_edge r l) ++ flat_map dot (links_drawn r (drop (i + 1) ls))
 pairs_cut r ls i l e =
     ap (λ ys. flat_map dot (links_drawn r ys)) (drop_more ls i l (slice_get_within ls i l e))

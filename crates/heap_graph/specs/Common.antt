@@ -5,7 +5,7 @@ pub use Rattle.image_check.specs.Line.{line_meaning, state_word}
 pub use Rattle.image_check.specs.Place.{chunk_number}
 pub use Rattle.image_check.specs.Sets.{same_birth}
 pub use Rattle.image_check.specs.Sound.{all_read, ReferenceIs}
-pub use Rattle.image_check.specs.Tasks.{Tasks, image_parent, owner_at, relation_of, is_running}
+pub use Rattle.image_check.specs.ImageTasks.{ImageTasks, image_parent, owner_at, relation_of, is_running}
 pub use Rattle.image_check.specs.declared.line.ImageBirth.{ImageBirth}
 pub use Rattle.image_check.specs.declared.line.ImageChunk.{ImageChunk}
 pub use Rattle.image_check.specs.declared.line.ImageLine.{ImageLine}

@@ -2,7 +2,7 @@
 use Rattle.std.specs.Prelude.{ℕ, zero, suc, ◌+◌, ◌==◌, not, Bool, false, Option, Some, None, List, [], ◌∷◌, ◌++◌, codes, drop, length, nat_lt, if◌then◌else◌}
 use Rattle.std.specs.List.{flat_map}
 use Rattle.std.specs.Fmt.{decimal}
-use Rattle.heap_graph.specs.Common.{words_of, ImageBirth, ImageTask, ImageChunk, ImageObject, ImageLine, OfTask, OfChunk, OfObject, Read, line_meaning, chunk_number, Tasks, image_parent, owner_at, task_name, Statement, Statements, Setting, Node, Cluster, NoStatement, Statement_, alone}
+use Rattle.heap_graph.specs.Common.{words_of, ImageBirth, ImageTask, ImageChunk, ImageObject, ImageLine, OfTask, OfChunk, OfObject, Read, line_meaning, chunk_number, ImageTasks, image_parent, owner_at, task_name, Statement, Statements, Setting, Node, Cluster, NoStatement, Statement_, alone}
 use Rattle.heap_graph.specs.declared.held.HeapTotals.{HeapTotals}
 use Rattle.heap_graph.specs.Names.{task_cluster, chunk_name, chunk_cluster, object_name, task_title, chunk_title}
 use Rattle.heap_graph.specs.Kinds.{field_limit, is_long, edges_of}
@@ -15,11 +15,11 @@ path_above walk None = []
 path_above walk (Some p) = walk p
 
 -- the tasks from the root to t, but at most the last n
-abbrev pub path : ℕ → Tasks → ℕ → List ℕ
+abbrev pub path : ℕ → ImageTasks → ℕ → List ℕ
 path zero tasks t = []
 path (suc n) tasks t = path_above (path n tasks) (image_parent tasks t) ++ t ∷ []
 
-abbrev pub path_to : Tasks → ℕ → List ℕ
+abbrev pub path_to : ImageTasks → ℕ → List ℕ
 path_to tasks t = path (length tasks) tasks t
 
 -- a statement in nested boxes of these tasks
@@ -28,7 +28,7 @@ boxed [] s = s
 boxed (t ∷ ts) s = Cluster (task_cluster t) (alone (boxed ts s))
 
 -- in the box of a task, which is inside its parent's
-abbrev pub inside : Tasks → ℕ → Statement → Statement
+abbrev pub inside : ImageTasks → ℕ → Statement → Statement
 inside tasks t s = boxed (path_to tasks t) s
 
 abbrev pub statements : List Statement → Statements

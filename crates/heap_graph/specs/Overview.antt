@@ -33,40 +33,40 @@ heaps_drawn r m p lines = flat_map (λ l. heap_by r m p (line_meaning l)) lines
 
 -- THE NUMBERS OF REFERENCES FROM HEAP TO HEAP
 
-abbrev pub Links : Type 0
-Links = List ((ℕ × ℕ) × ℕ)
+abbrev pub DrawnLinks : Type 0
+DrawnLinks = List ((ℕ × ℕ) × ℕ)
 
 abbrev pub or_none : Option ℕ → ℕ
 or_none None = 0
 or_none (Some n) = n
 
-abbrev pub links_at : Links → ℕ → ℕ → ℕ
+abbrev pub links_at : DrawnLinks → ℕ → ℕ → ℕ
 links_at m t u = or_none (lookup (same_birth (t, u)) m)
 
 -- one more from t to u
-abbrev pub with_link : Links → ℕ → ℕ → Links
+abbrev pub with_link : DrawnLinks → ℕ → ℕ → DrawnLinks
 with_link m t u = insert_entry same_birth m (t, u) (raised_by (links_at m t u) 1)
 
 -- to the heap of an address, if it is in one
-abbrev pub with_link_to : Links → ℕ → Option ℕ → Links
+abbrev pub with_link_to : DrawnLinks → ℕ → Option ℕ → DrawnLinks
 with_link_to m t None = m
 with_link_to m t (Some u) = with_link m t u
 
 -- those of these references of a heap
-abbrev pub with_links : Read → Links → ℕ → List ℕ → Links
+abbrev pub with_links : Read → DrawnLinks → ℕ → List ℕ → DrawnLinks
 with_links r m t [] = m
 with_links r m t (v ∷ vs) = with_links r (with_link_to m t (owner_at r.chunks v)) t vs
 
-abbrev pub with_links_of : Read → Option ℕ → Links → ImageObject → Option ℕ → Links
+abbrev pub with_links_of : Read → Option ℕ → DrawnLinks → ImageObject → Option ℕ → DrawnLinks
 with_links_of r p m o None = m
 with_links_of r p m o (Some t) = if is_drawn r p t then with_links r m t o.references else m
 
 -- adds those of a line, if its object's heap is drawn
-abbrev pub links_with : Read → Option ℕ → Links → ImageLine → Links
+abbrev pub links_with : Read → Option ℕ → DrawnLinks → ImageLine → DrawnLinks
 links_with r p m (OfObject o) = with_links_of r p m o (owner_at r.chunks o.address)
 links_with r p m _ = m
 
-abbrev pub links_by : Read → Option ℕ → Links → List (List ℕ) → Links
+abbrev pub links_by : Read → Option ℕ → DrawnLinks → List (List ℕ) → DrawnLinks
 links_by r p m [] = m
 links_by r p m (l ∷ ls) = links_by r p (links_with r p m (line_meaning l)) ls
 
@@ -82,6 +82,6 @@ link_attributes runs n kind = (codes "style", style_of runs) ∷ (codes "label",
 abbrev pub link_edge : Read → (ℕ × ℕ) × ℕ → Statement
 link_edge r l = Edge (task_name l.0.0) (port_name 0) (task_name l.0.1) (link_attributes (is_running r.tasks l.0.1) l.1 (relation_of r.tasks l.0.0 l.0.1))
 
-abbrev pub links_drawn : Read → Links → List Statement
+abbrev pub links_drawn : Read → DrawnLinks → List Statement
 links_drawn r [] = []
 links_drawn r (l ∷ ls) = link_edge r l ∷ links_drawn r ls

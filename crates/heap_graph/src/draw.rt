@@ -4,7 +4,7 @@ ghost use Rattle.std.specs.Prelude.{◌≡◌, ◌++◌, ◌∷◌, [], List, On
 ghost use Rattle.std.specs.List.{flat_map};
 ghost use Rattle.image_check.specs.Read.{IsSized};
 ghost use Rattle.image_check.specs.Place.{chunk_number};
-ghost use Rattle.image_check.specs.Tasks.{owner_at};
+ghost use Rattle.image_check.specs.ImageTasks.{owner_at};
 ghost use Rattle.text_lines.specs.Lines.{lines_of};
 ghost use Rattle.heap_graph.specs.Drawn.{path, path_above, path_to, inside, point, titled_box, task_box, task_drawn, chunk_box, node_by, lies_elsewhere, nodes_in, lines_behind, edges_drawn, drawn_task, drawn_chunk, drawn, undrawn_after, all_drawn};
 ghost use Rattle.heap_graph.specs.Pieces.{opened, optional_lines};
@@ -19,7 +19,8 @@ use dot_text::{
     add_attribute, begin_cluster, begin_node, end_braces, end_statement, set_attribute,
 };
 use image_check::{
-    ImageChunk, ImageLine, ImageObject, ImageTable, ImageTask, Read, Tasks, owner_of, read_line,
+    ImageChunk, ImageLine, ImageObject, ImageTable, ImageTask, ImageTasks, Read, owner_of,
+    read_line,
 };
 use std::alloc::{AllocError, Global};
 use text_lines::next_line;
@@ -33,7 +34,12 @@ fn add_last(way: &mut Vec<u64>, task: u64) -> Result<(), AllocError>
 }
 
 // Adds the tasks from the root to one, but at most the last n.
-fn add_path(way: &mut Vec<u64>, tasks: &Tasks, task: u64, links: usize) -> Result<(), AllocError>
+fn add_path(
+    way: &mut Vec<u64>,
+    tasks: &ImageTasks,
+    task: u64,
+    links: usize,
+) -> Result<(), AllocError>
     ensures { OnOk result (way.new.items ≡ way.old.items ++ path links tasks.now task) }
 {
     if links == 0 {
@@ -49,7 +55,7 @@ fn add_path(way: &mut Vec<u64>, tasks: &Tasks, task: u64, links: usize) -> Resul
 }
 
 // The tasks from the root to one.
-fn path_to(alloc: Global, tasks: &Tasks, task: Option<u64>) -> Result<Vec<u64>, AllocError>
+fn path_to(alloc: Global, tasks: &ImageTasks, task: Option<u64>) -> Result<Vec<u64>, AllocError>
     ensures { IfOk result (λ way. way.items ≡ path_above (path_to tasks.now) task) }
 {
     let mut way = Vec::new(alloc);

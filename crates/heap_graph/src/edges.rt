@@ -2,7 +2,7 @@
 
 ghost use Rattle.std.specs.Prelude.{◌≡◌, ◌++◌, OnOk};
 ghost use Rattle.std.specs.List.{flat_map};
-ghost use Rattle.image_check.specs.Tasks.{owner_at};
+ghost use Rattle.image_check.specs.ImageTasks.{owner_at};
 ghost use Rattle.heap_graph.specs.Kinds.{colour_of, width_of, kind_attributes, running_attributes, dashed_edge, plain_edge, edge_to, edge_by, is_long, port_at, edges_of};
 ghost use Rattle.dot_text.specs.Dot.{attribute, dot};
 

@@ -10,7 +10,7 @@ ghost use Rattle.heap_graph.specs.Graph.{settings, overview, is_large, statement
 ghost use Rattle.dot_text.specs.Dot.{dot};
 
 use crate::held::HeapTotals;
-use crate::links::Links;
+use crate::links::DrawnLinks;
 use crate::overview::{add_heaps, add_links, count_links};
 use crate::{draw, held};
 use dot_text::{begin_graph, end_braces, set_attribute};
@@ -37,7 +37,7 @@ fn add_overview(
     requires { heaps.now ≡ held_by read.now [] (lines_of text.now) }
     ensures { OnOk result (graph.new.items ≡ graph.old.items ++ flat_map dot (overview read.now path (lines_of text.now))) }
 {
-    let mut links = Links::new(alloc);
+    let mut links = DrawnLinks::new(alloc);
     count_links(alloc, &mut links, read, path, text)?;
     add_heaps(alloc, graph, read, heaps, path, text)?;
     add_links(alloc, graph, read, &links)

@@ -2,10 +2,10 @@
 
 ghost use Rattle.std.specs.Prelude.{◌≡◌, ◌≤◌, ◌+◌, OnOk, length};
 ghost use Rattle.image_check.specs.Read.{IsSized};
-ghost use Rattle.image_check.specs.Tasks.{owner_at};
+ghost use Rattle.image_check.specs.ImageTasks.{owner_at};
 ghost use Rattle.text_lines.specs.Lines.{lines_of};
 ghost use Rattle.image_check.specs.Line.{most_fields};
-ghost use Rattle.heap_graph.specs.HeapTotals.{is_on_path, is_drawn, held_of, with_chunk, with_object, with_object_of, held_with, held_by};
+ghost use Rattle.heap_graph.specs.HeapTotals.{is_path_relation, is_drawn, held_of, with_chunk, totals_with_object, with_object_of, held_with, held_by};
 
 use image_check::{ImageLine, ImageObject, ImageTable, Read, Relation, owner_of, read_line};
 use saturating_counts::raised_by;
@@ -20,8 +20,8 @@ pub(crate) struct HeapTotals {
     pub(crate) words: u64,
 }
 
-fn is_on_path(relation: Relation) -> bool
-    ensures { result ≡ is_on_path relation }
+fn is_path_relation(relation: Relation) -> bool
+    ensures { result ≡ is_path_relation relation }
 {
     match relation {
         Relation::Own => true,
@@ -36,7 +36,7 @@ pub(crate) fn is_drawn(read: &Read, path: Option<u64>, task: u64) -> bool
 {
     match path {
         None => true,
-        Some(end) => is_on_path(read.tasks.relation(end, task)),
+        Some(end) => is_path_relation(read.tasks.relation(end, task)),
     }
 }
 
@@ -66,9 +66,9 @@ fn with_chunk(held: HeapTotals) -> HeapTotals
 }
 
 // Adds an object.
-fn with_object(held: HeapTotals, object: &ImageObject) -> HeapTotals
+fn totals_with_object(held: HeapTotals, object: &ImageObject) -> HeapTotals
     requires { length object.now.references + object.now.numbers ≤ most_fields }
-    ensures { result ≡ with_object held object.now }
+    ensures { result ≡ totals_with_object held object.now }
 {
     let words = 2 + object.references.len() as u64 + object.numbers;
     HeapTotals {
@@ -90,7 +90,7 @@ fn add_object(
     match owner_of(&read.chunks, object.address) {
         None => Ok(()),
         Some(task) => {
-            let held = with_object(held_of(heaps, task), object);
+            let held = totals_with_object(held_of(heaps, task), object);
             heaps.put(task, held)
         }
     }

@@ -10,11 +10,11 @@ use std::marker::Model;
 
 /// Counts of references from heap to heap, in the order in which the first of each was met.
 #[derive(Drop)]
-pub(crate) struct Links {
+pub(crate) struct DrawnLinks {
     counts: IndexMap<(u64, u64), u64>,
 }
 
-impl Model for Links {
+impl Model for DrawnLinks {
     ghost use Rattle.std.specs.Prelude.{ℕ, List};
 
     ghost Value = { List ((ℕ × ℕ) × ℕ) };
@@ -22,12 +22,12 @@ impl Model for Links {
     ghost view = { λ l. l.counts.entries };
 }
 
-impl Links {
+impl DrawnLinks {
     /// No counts.
-    pub(crate) fn new(alloc: Global) -> Links
+    pub(crate) fn new(alloc: Global) -> DrawnLinks
         ensures { result ≡ [] }
     {
-        Links {
+        DrawnLinks {
             counts: IndexMap::new(alloc),
         }
     }

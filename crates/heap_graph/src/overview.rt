@@ -2,7 +2,7 @@
 
 ghost use Rattle.std.specs.Prelude.{◌≡◌, ◌++◌, OnOk};
 ghost use Rattle.std.specs.List.{flat_map};
-ghost use Rattle.image_check.specs.Tasks.{owner_at};
+ghost use Rattle.image_check.specs.ImageTasks.{owner_at};
 ghost use Rattle.text_lines.specs.Lines.{lines_of};
 ghost use Rattle.heap_graph.specs.Overview.{heap_node, tree_edges, heap_drawn, heap_by, heaps_drawn, with_links, with_links_of, links_with, links_by, style_of, link_attributes, link_edge, links_drawn};
 ghost use Rattle.quoted_text.specs.Labels.{task_name};
@@ -11,7 +11,7 @@ ghost use Rattle.dot_text.specs.Dot.{attribute, edge_begin, dot};
 
 use crate::edges::add_kind;
 use crate::held::{HeapTotals, held_of, is_drawn};
-use crate::links::Links;
+use crate::links::DrawnLinks;
 use crate::names::{heap_title, port_name, task_name};
 use dot_text::{add_attribute, begin_edge, begin_node, end_statement};
 use image_check::{
@@ -126,7 +126,7 @@ pub(crate) fn add_heaps(
 
 // Counts the references of a heap's object.
 fn count_references(
-    links: &mut Links,
+    links: &mut DrawnLinks,
     read: &Read,
     task: u64,
     references: &[u64],
@@ -141,7 +141,7 @@ fn count_references(
 
 // Counts the references of an object, if its heap is drawn.
 fn count_object(
-    links: &mut Links,
+    links: &mut DrawnLinks,
     read: &Read,
     path: Option<u64>,
     object: &ImageObject,
@@ -162,7 +162,7 @@ fn count_object(
 
 // Counts the references of the object that a line says.
 fn count_said(
-    links: &mut Links,
+    links: &mut DrawnLinks,
     read: &Read,
     path: Option<u64>,
     said: &ImageLine,
@@ -178,7 +178,7 @@ fn count_said(
 /// Counts the references of the objects that the lines of a text say.
 pub(crate) fn count_links(
     alloc: Global,
-    links: &mut Links,
+    links: &mut DrawnLinks,
     read: &Read,
     path: Option<u64>,
     text: &[u8],
@@ -240,7 +240,7 @@ pub(crate) fn add_links(
     alloc: Global,
     text: &mut Vec<u8>,
     read: &Read,
-    links: &Links,
+    links: &DrawnLinks,
 ) -> Result<(), AllocError>
     ensures { OnOk result (text.new.items ≡ text.old.items ++ flat_map dot (links_drawn read.now links.now)) }
 {

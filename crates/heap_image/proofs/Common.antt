@@ -1,6 +1,6 @@
 -- The names of lower crates and of the specifications that these proofs use. Declares nothing.
 pub use Rattle.heap_image.specs.Form.{IsLong, HasFitParent, IsTaskForm, IsChunkForm, IsObjectForm, IsFieldForm, IsInForm}
-pub use Rattle.heap_image.specs.ImageData.{TaskBefore, IsParent, ParentsLead, IsAbove, HasTask, IsRunning, KeepsToPath, IsSoundPicture, Rises, ObjectBefore, LeadsSomewhere, IsOwned, ChunkBefore, LiesIn, picked_end, PickedDontOverlap, FieldBefore, IsPlaced, IsFit}
+pub use Rattle.heap_image.specs.ImageData.{TaskBefore, HasImageParent, ParentsLead, IsAbove, HasTask, IsRunning, ImageKeepsToPath, IsSoundPicture, RisesByPlace, ObjectBefore, ImageLeadsSomewhere, IsOwnedBy, ChunkBefore, LiesIn, picked_end, PickedDontOverlap, RememberedBefore, LiesInIdleChunk, IsDownField}
 pub use Rattle.heap_image.specs.Text.{text_of, parent_word, reference_kind_word, title_words, task_words, chunk_words, head_words, object_words, field_words, end_words, line, task_line, object_line, reference_text, number_text, chunk_line, field_line}
 pub use Rattle.heap_image.specs.Told.{object_said, SoundIsFaultless, as_read, SomePictureIsSound, PicturesAreRead}
 pub use Rattle.heap_image.specs.declared.picture.ImageData.{ImageData}
@@ -14,11 +14,11 @@ pub use Rattle.image_check.proofs.Paths.{AreOrdered, met_ancestor, related}
 pub use Rattle.image_check.specs.ImageFault.{cause_on, or_later_line, lines_fault, objects_in, is_astray, owner_runs, relation_to, is_apart, is_below, crosses, is_noted, is_forgotten, forgets, cause_by, is_misplaced, has_wrong_place, breaks_form, fault_from_line, after_lines, overlaps, is_crowded, lacks_parent, has_field, owner_is_above, object_cause, remembered_cause, object_cause_in}
 pub use Rattle.image_check.specs.ImageTable.{found, has, with_entry, with_new}
 pub use Rattle.image_check.specs.Line.{line_meaning, said_by_words, state_named, state_word, parent_named, is_rooted, most_chunk_words, is_chunk_size, is_kind, is_field_count, references_in, number_below, short_number, long_number}
-pub use Rattle.image_check.specs.Links.{StandsAt}
+pub use Rattle.image_check.specs.Links.{TaskStandsAt}
 pub use Rattle.image_check.specs.Place.{chunk_number, offset}
 pub use Rattle.image_check.specs.Read.{nothing_read, nothing_had, after_line, whole_of, most, with_line, rises, position_of, with_lines, position, extent_of}
 pub use Rattle.image_check.specs.Sets.{is_among, same_field, same_birth, with_item}
-pub use Rattle.image_check.specs.Tasks.{Tasks, parent_of_row, image_parent, is_ancestor_of, relation_of, runs, is_running, is_running_state, LinksLead, IsAncestor, owner_at, Chunks, chunk_at, owner_in}
+pub use Rattle.image_check.specs.ImageTasks.{ImageTasks, parent_of_row, image_parent, is_ancestor_of, relation_of, runs, is_running, is_running_state, LinksLead, IsProperAncestor, owner_at, Chunks, chunk_at, owner_in}
 pub use Rattle.image_check.specs.declared.cause.ImageCause.TheVariants.{Twice}
 pub use Rattle.image_check.specs.declared.cause.ImageFault.{ImageFault}
 pub use Rattle.image_check.specs.declared.line.ImageBirth.{ImageBirth}

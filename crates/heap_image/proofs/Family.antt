@@ -1,5 +1,5 @@
 -- The tasks of a sound picture, as the verifier keeps them.
-use Rattle.heap_image.proofs.Common.{◌≡◌, ◌<◌, ℕ, zero, suc, Bool, true, false, List, refl, ap, sym, ◌∙◌, inl, inr, arith, Option, Some, None, slice_get, is_some, In, got_in, in_got, map_got, got_map, ImageState, Running, Waiting, Ended, ImageTask, Own, Above, Below, found, has, Tasks, parent_of_row, image_parent, is_ancestor_of, relation_of, runs, is_running, is_running_state, LinksLead, IsAncestor, StandsAt, AreOrdered, met_ancestor, related, ImageData, TaskBefore, IsParent, ParentsLead, IsAbove, HasTask, IsRunning, KeepsToPath, IsSoundPicture}
+use Rattle.heap_image.proofs.Common.{◌≡◌, ◌<◌, ℕ, zero, suc, Bool, true, false, List, refl, ap, sym, ◌∙◌, inl, inr, arith, Option, Some, None, slice_get, is_some, In, got_in, in_got, map_got, got_map, ImageState, Running, Waiting, Ended, ImageTask, Own, Above, Below, found, has, ImageTasks, parent_of_row, image_parent, is_ancestor_of, relation_of, runs, is_running, is_running_state, LinksLead, IsProperAncestor, TaskStandsAt, AreOrdered, met_ancestor, related, ImageData, TaskBefore, HasImageParent, ParentsLead, IsAbove, HasTask, IsRunning, ImageKeepsToPath, IsSoundPicture}
 use Rattle.heap_image.proofs.Splits.{comes_first, one_place, same_item}
 use Rattle.heap_image.proofs.Tables.{table, found_in, found_from}
 
@@ -9,14 +9,14 @@ number_of t = t.number
 abbrev pub itself : ImageTask → ImageTask
 itself t = t
 
-abbrev pub task_table : List ImageTask → Tasks
+abbrev pub task_table : List ImageTask → ImageTasks
 task_table ts = table number_of itself ts
 
 pub earlier : (t u : ImageTask) → TaskBefore t u → t.number < u.number
 earlier t u h = h
 
 module _ (p : ImageData) (s : IsSoundPicture p) where
-  abbrev es : Tasks
+  abbrev es : ImageTasks
   es = task_table p.tasks
 
   pub task_found : (t : ImageTask) → In p.tasks t → found es t.number ≡ Some t
@@ -27,7 +27,7 @@ module _ (p : ImageData) (s : IsSoundPicture p) where
 
   -- PATHS
 
-  parent_stands : (i q : ℕ) (t k : ImageTask) → slice_get p.tasks i ≡ Some t → In p.tasks k → k.number ≡ q → q < t.number → (j : ℕ) × (j < i) × StandsAt es j q
+  parent_stands : (i q : ℕ) (t k : ImageTask) → slice_get p.tasks i ≡ Some t → In p.tasks k → k.number ≡ q → q < t.number → (j : ℕ) × (j < i) × TaskStandsAt es j q
   parent_stands i q t k got there e lt =
       let j = in_got p.tasks k there in (
         j.0,
@@ -48,14 +48,14 @@ module _ (p : ImageData) (s : IsSoundPicture p) where
         parent_stands i q x.0 up.0.0 x.1 up.0.1 up.0.2 up.1;
   }
 
-  parent_found : (t q : ℕ) → IsParent p.tasks t q → image_parent es t ≡ Some q
+  parent_found : (t q : ℕ) → HasImageParent p.tasks t q → image_parent es t ≡ Some q
   parent_found t q h = ap parent_of_row (ap (found es) (sym h.2) ∙ task_found h.0 h.1) ∙ h.3
 
   leads_up : (n t a : ℕ) → ParentsLead n p.tasks t a → LinksLead n es t a
   leads_up zero t a h = parent_found t a h
   leads_up (suc n) t a h = (h.0, parent_found t h.0 h.1, leads_up n h.0 a h.2)
 
-  in_table : (a t : ℕ) → IsAbove p.tasks a t → IsAncestor es a t
+  in_table : (a t : ℕ) → IsAbove p.tasks a t → IsProperAncestor es a t
   in_table a t h = (h.0, leads_up h.0 t a h.1)
 
   pub ancestor_met : (a t : ℕ) → IsAbove p.tasks a t → is_ancestor_of es a t ≡ true
@@ -75,7 +75,7 @@ module _ (p : ImageData) (s : IsSoundPicture p) where
     up : relation_of es t u ≡ Above → Stands a k t u
     down : relation_of es t u ≡ Below → In p.fields (record { task = u; address = a; place = k }) → Stands a k t u
 
-  pub stands : (a k t u : ℕ) → KeepsToPath p a k t u → Stands a k t u
+  pub stands : (a k t u : ℕ) → ImageKeepsToPath p a k t u → Stands a k t u
   stands a k t u (inl e) = own ((related es ordered t u).own.1 e)
   stands a k t u (inr (inl h)) = up ((related es ordered t u).above.1 (in_table u t h))
   stands a k t u (inr (inr h)) = down ((related es ordered t u).below.1 (in_table t u h.0)) h.1

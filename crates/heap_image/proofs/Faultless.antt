@@ -1,5 +1,5 @@
 -- The verifier finds no fault in the text of a sound picture.
-use Rattle.heap_image.proofs.Common.{◌≡◌, ◌<◌, ◌≤◌, ◌+◌, ◌-◌, ◌^◌, ℕ, suc, true, false, List, [], ◌∷◌, ◌++◌, length, map, refl, ap, ◌∙◌, inl, inr, arith, None, nat_le, length-map, In, lines_of, most_bytes, ImageLine, Nothing, Title, OfTask, OfChunk, OfRemembered, OfEnd, Read, Whole, line_meaning, nothing_read, nothing_had, after_line, whole_of, cause_on, or_later_line, lines_fault, objects_in, Picked, ImageData, Rises, ObjectBefore, IsSoundPicture, text_of, object_said, SoundIsFaultless}
+use Rattle.heap_image.proofs.Common.{◌≡◌, ◌<◌, ◌≤◌, ◌+◌, ◌-◌, ◌^◌, ℕ, suc, true, false, List, [], ◌∷◌, ◌++◌, length, map, refl, ap, ◌∙◌, inl, inr, arith, None, nat_le, length-map, In, lines_of, most_bytes, ImageLine, Nothing, Title, OfTask, OfChunk, OfRemembered, OfEnd, Read, Whole, line_meaning, nothing_read, nothing_had, after_line, whole_of, cause_on, or_later_line, lines_fault, objects_in, Picked, ImageData, RisesByPlace, ObjectBefore, IsSoundPicture, text_of, object_said, SoundIsFaultless}
 use Rattle.heap_image.proofs.Splits.{behind_first, rises_from}
 use Rattle.heap_image.proofs.Told.{pictures_are_read, six_behind}
 use Rattle.heap_image.proofs.Passes.{none_left, fault_of, after_said, with_said, fault_said, lines_said, whole_said, more_left, faultless_items, read_items}
@@ -12,7 +12,7 @@ use Rattle.heap_image.proofs.Had.{behind_title, whole_picture, has_all}
 one_more : (n x low high : ℕ) → n ≤ high - suc x → low ≤ x → x < high → suc n ≤ high - low
 one_more n x low high a b c = omega (arith, a, b, c)
 
-few_between : (low high : ℕ) (os : List Picked) → Rises ObjectBefore os → ((o : Picked) → In os o → low ≤ o.address) → ((o : Picked) → In os o → o.address < high) → length os ≤ high - low
+few_between : (low high : ℕ) (os : List Picked) → RisesByPlace ObjectBefore os → ((o : Picked) → In os o → low ≤ o.address) → ((o : Picked) → In os o → o.address < high) → length os ≤ high - low
 few_between low high [] r above below = omega arith
 few_between low high (o ∷ os) r above below =
     one_more (length os) o.address low high

@@ -1,5 +1,5 @@
 -- The references of an object of a sound picture are allowed.
-use Rattle.heap_image.proofs.Common.{◌≡◌, ◌≤◌, ◌+◌, ℕ, suc, Bool, true, false, List, [], ◌∷◌, length, refl, ap, sym, ◌∙◌, inl, inr, arith, Option, Some, None, ◌==◌, ◌&&◌, ◌||◌, not, slice_get, is_some, list_any, or_left, or_right, In, in_got, ImageRemembered, Read, Whole, is_among, same_field, found, has, is_running, owner_at, is_astray, owner_runs, relation_to, is_apart, is_below, crosses, is_noted, is_forgotten, forgets, Picked, ImageData, LeadsSomewhere, IsOwned, IsSoundPicture}
+use Rattle.heap_image.proofs.Common.{◌≡◌, ◌≤◌, ◌+◌, ℕ, suc, Bool, true, false, List, [], ◌∷◌, length, refl, ap, sym, ◌∙◌, inl, inr, arith, Option, Some, None, ◌==◌, ◌&&◌, ◌||◌, not, slice_get, is_some, list_any, or_left, or_right, In, in_got, ImageRemembered, Read, Whole, is_among, same_field, found, has, is_running, owner_at, is_astray, owner_runs, relation_to, is_apart, is_below, crosses, is_noted, is_forgotten, forgets, Picked, ImageData, ImageLeadsSomewhere, IsOwnedBy, IsSoundPicture}
 use Rattle.heap_image.proofs.Family.{running, Stands, stands}
 use Rattle.heap_image.proofs.Family.Stands.{own, up, down}
 use Rattle.heap_image.proofs.Owners.{owner_found, owned_from}
@@ -31,10 +31,10 @@ module _ (p : ImageData) (s : IsSoundPicture p) (w : Whole) (all : HasAll p w) (
 
   -- REF
 
-  runs_there : (v u : ℕ) → IsOwned p v u → is_running r.tasks u ≡ true → owner_runs r (owner_at r.chunks v) ≡ true
+  runs_there : (v u : ℕ) → IsOwnedBy p v u → is_running r.tasks u ≡ true → owner_runs r (owner_at r.chunks v) ≡ true
   runs_there v u owned run = ap (owner_runs r) (owner_found p s v u owned) ∙ run
 
-  leads : (v : ℕ) → LeadsSomewhere p v → ((v == 0) || (has w.objects v || owner_runs r (owner_at r.chunks v))) ≡ true
+  leads : (v : ℕ) → ImageLeadsSomewhere p v → ((v == 0) || (has w.objects v || owner_runs r (owner_at r.chunks v))) ≡ true
   leads v (inl e) = or_left (v == 0) (has w.objects v || owner_runs r (owner_at r.chunks v)) (let f : (0 == 0) ≡ true = grind arith in ap (λ x. x == 0) e ∙ f)
   leads v (inr (inl h)) =
       or_right (v == 0) (has w.objects v || owner_runs r (owner_at r.chunks v))
@@ -48,7 +48,7 @@ module _ (p : ImageData) (s : IsSoundPicture p) (w : Whole) (all : HasAll p w) (
 
   -- CROSS AND DOWN
 
-  module _ (o : Picked) (h : In p.objects o) (t : ℕ) (owned : IsOwned p o.address t) where
+  module _ (o : Picked) (h : In p.objects o) (t : ℕ) (owned : IsOwnedBy p o.address t) where
     noted : (k u : ℕ) → In p.fields (record { task = u; address = o.address; place = k }) → is_noted w o.address k (Some u) ≡ true
     noted k u i = all.fields (record { task = u; address = o.address; place = k }) i
 

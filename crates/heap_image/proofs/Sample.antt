@@ -1,14 +1,14 @@
 -- A sound picture: an object of a waiting task refers to one of its child, which runs and remembers the field.
-use Rattle.heap_image.proofs.Common.{◌≡◌, ◌<◌, ℕ, zero, suc, true, [], ◌∷◌, refl, ap, sym, subst, ◌∙◌, inl, inr, arith, Some, None, slice_get, In, Running, Waiting, ImageTask, ImageChunk, ImageRemembered, chunk_number, Picked, ImageData, IsTaskForm, IsChunkForm, IsObjectForm, IsFieldForm, IsInForm, Rises, TaskBefore, ChunkBefore, ObjectBefore, FieldBefore, IsAbove, HasTask, IsRunning, IsOwned, IsPlaced, LeadsSomewhere, KeepsToPath, IsFit, IsSoundPicture, SomePictureIsSound}
+use Rattle.heap_image.proofs.Common.{◌≡◌, ◌<◌, ℕ, zero, suc, true, [], ◌∷◌, refl, ap, sym, subst, ◌∙◌, inl, inr, arith, Some, None, slice_get, In, Running, Waiting, ImageTask, ImageChunk, ImageRemembered, chunk_number, Picked, ImageData, IsTaskForm, IsChunkForm, IsObjectForm, IsFieldForm, IsInForm, RisesByPlace, TaskBefore, ChunkBefore, ObjectBefore, RememberedBefore, IsAbove, HasTask, IsRunning, IsOwnedBy, LiesInIdleChunk, ImageLeadsSomewhere, ImageKeepsToPath, IsDownField, IsSoundPicture, SomePictureIsSound}
 
 -- LISTS OF ONE AND OF TWO
 
-one_rises : {A : Type 0} (before : A → A → Type 0) (a : A) → Rises before (a ∷ [])
+one_rises : {A : Type 0} (before : A → A → Type 0) (a : A) → RisesByPlace before (a ∷ [])
 one_rises before a zero zero x y lt g h = absurd (omega (arith, lt))
 one_rises before a zero (suc j) x y lt g h = absurd cc
 one_rises before a (suc i) j x y lt g h = absurd cc
 
-two_rise : {A : Type 0} (before : A → A → Type 0) (a b : A) → before a b → Rises before (a ∷ b ∷ [])
+two_rise : {A : Type 0} (before : A → A → Type 0) (a b : A) → before a b → RisesByPlace before (a ∷ b ∷ [])
 two_rise before a b r zero zero x y lt g h = absurd (omega (arith, lt))
 two_rise before a b r zero (suc zero) x y lt g h = let e : a ≡ x = cc in let f : b ≡ y = cc in subst (λ z. before z y) e (subst (before a) f r)
 two_rise before a b r zero (suc (suc j)) x y lt g h = absurd cc
@@ -103,22 +103,22 @@ parents_known t q (inr (inr i)) h = absurd i
 owner_is : (c : ImageChunk) → In sample.chunks c → c.owner ≡ c.number
 owner_is = each_two (λ c. c.owner ≡ c.number) upper lower refl refl
 
-owned_by : (a t : ℕ) → IsOwned sample a t → t ≡ chunk_number a
+owned_by : (a t : ℕ) → IsOwnedBy sample a t → t ≡ chunk_number a
 owned_by a t h = sym h.2 ∙ owner_is h.0 h.1.0 ∙ sym h.1.2
 
 first_is : (k v : ℕ) → slice_get object.references k ≡ Some v → (k ≡ 0) × (1025 ≡ v)
 first_is zero v e = (refl, cc)
 first_is (suc k) v e = absurd cc
 
-keeps : (k v t u : ℕ) → slice_get object.references k ≡ Some v → IsOwned sample 1 t → IsOwned sample v u → KeepsToPath sample 1 k t u
+keeps : (k v t u : ℕ) → slice_get object.references k ≡ Some v → IsOwnedBy sample 1 t → IsOwnedBy sample v u → ImageKeepsToPath sample 1 k t u
 keeps k v t u got a b =
     let f = first_is k v got in
     let at_t : t ≡ 0 = owned_by 1 t a in
     let at_u : u ≡ 1 = owned_by v u b ∙ ap chunk_number (sym f.1) in
-    let there : KeepsToPath sample 1 0 0 1 = inr (inr (above, inl refl)) in
-    subst (λ i. KeepsToPath sample 1 i t u) (sym f.0) (subst (λ x. KeepsToPath sample 1 0 x u) (sym at_t) (subst (λ x. KeepsToPath sample 1 0 0 x) (sym at_u) there))
+    let there : ImageKeepsToPath sample 1 0 0 1 = inr (inr (above, inl refl)) in
+    subst (λ i. ImageKeepsToPath sample 1 i t u) (sym f.0) (subst (λ x. ImageKeepsToPath sample 1 0 x u) (sym at_t) (subst (λ x. ImageKeepsToPath sample 1 0 0 x) (sym at_u) there))
 
-leads : LeadsSomewhere sample 1025
+leads : ImageLeadsSomewhere sample 1025
 leads = inr (inr (1, (lower, (inr (inl refl), omega arith, refl), refl), (child, inr (inl refl), refl, refl)))
 
 is_sound : IsSoundPicture sample
@@ -130,12 +130,12 @@ is_sound = record {
   owners = each_two (λ c. HasTask sample c.owner) upper lower has_parent has_child;
   objects_rise = one_rises ObjectBefore object;
   births = λ o q i j e. ap (λ (x : Picked). x.address) (sym (only object o i) ∙ only object q j);
-  places = each_one (IsPlaced sample) object (record { chunk = upper; lies = (inl refl, omega arith, refl); inside = omega arith; rests = parent_rests });
+  places = each_one (LiesInIdleChunk sample) object (record { chunk = upper; lies = (inl refl, omega arith, refl); inside = omega arith; rests = parent_rests });
   apart = λ o q i j lt e. absurd (let f : o.address ≡ q.address = ap (λ (x : Picked). x.address) (sym (only object o i) ∙ only object q j) in omega (arith, lt, f));
-  leads = λ o v i j. each_one (λ (x : Picked). In x.references v → LeadsSomewhere sample v) object (λ h. each_one (LeadsSomewhere sample) 1025 leads v h) o i j;
-  keeps = λ o k v t u i. each_one (λ (x : Picked). slice_get x.references k ≡ Some v → IsOwned sample x.address t → IsOwned sample v u → KeepsToPath sample x.address k t u) object (keeps k v t u) o i;
-  fields_rise = one_rises FieldBefore field;
-  fields_fit = each_one (IsFit sample) field (record {
+  leads = λ o v i j. each_one (λ (x : Picked). In x.references v → ImageLeadsSomewhere sample v) object (λ h. each_one (ImageLeadsSomewhere sample) 1025 leads v h) o i j;
+  keeps = λ o k v t u i. each_one (λ (x : Picked). slice_get x.references k ≡ Some v → IsOwnedBy sample x.address t → IsOwnedBy sample v u → ImageKeepsToPath sample x.address k t u) object (keeps k v t u) o i;
+  fields_rise = one_rises RememberedBefore field;
+  fields_fit = each_one (IsDownField sample) field (record {
     object = object;
     drawn = inl refl;
     address = refl;

@@ -1,5 +1,5 @@
 -- An ascending list, cut before and after one of its items.
-use Rattle.heap_image.proofs.Common.{◌≡◌, ◌<◌, ℕ, suc, Bool, true, false, List, [], ◌∷◌, ◌++◌, length, arith, refl, ap, sym, subst, ◌∙◌, inl, inr, ◌⊎◌, Some, slice_get, nat_lt, In, in_append_left, in_append_right, in_append_cases, got_middle, in_got, Rises}
+use Rattle.heap_image.proofs.Common.{◌≡◌, ◌<◌, ℕ, suc, Bool, true, false, List, [], ◌∷◌, ◌++◌, length, arith, refl, ap, sym, subst, ◌∙◌, inl, inr, ◌⊎◌, Some, slice_get, nat_lt, In, in_append_left, in_append_right, in_append_cases, got_middle, in_got, RisesByPlace}
 
 -- of two places one comes first
 first_of_two : (i j : ℕ) → (i < j) ⊎ ((i ≡ j) ⊎ (j < i))
@@ -12,19 +12,19 @@ first_of_two i j = first_of_two_by_cases (nat_lt i j) (nat_lt j i) refl refl
 
 module _ {A : Type 0} where
   module _ (before : A → A → Type 0) where
-    pub behind_first : (y : A) (ys : List A) → Rises before (y ∷ ys) → Rises before ys
+    pub behind_first : (y : A) (ys : List A) → RisesByPlace before (y ∷ ys) → RisesByPlace before ys
     behind_first y ys r i j x z lt g h = r (suc i) (suc j) x z (omega (arith, lt)) g h
 
-    rises_to : (a : List A) (x : A) (b : List A) → Rises before (a ++ x ∷ b) → (y : A) → In a y → before y x
+    rises_to : (a : List A) (x : A) (b : List A) → RisesByPlace before (a ++ x ∷ b) → (y : A) → In a y → before y x
     rises_to [] x b r y h = absurd h
     rises_to (z ∷ a) x b r y (inl e) = subst (λ v. before v x) e (r 0 (suc (length a)) z x (omega arith) refl (got_middle a x b))
     rises_to (z ∷ a) x b r y (inr h) = rises_to a x b (behind_first z (a ++ x ∷ b) r) y h
 
-    pub rises_from : (a : List A) (x : A) (b : List A) → Rises before (a ++ x ∷ b) → (y : A) → In b y → before x y
+    pub rises_from : (a : List A) (x : A) (b : List A) → RisesByPlace before (a ++ x ∷ b) → (y : A) → In b y → before x y
     rises_from [] x b r y h = let p = in_got b y h in r 0 (suc p.0) x y (omega arith) refl p.1
     rises_from (z ∷ a) x b r y h = rises_from a x b (behind_first z (a ++ x ∷ b) r) y h
 
-  module _ (before : A → A → Type 0) (key : A → ℕ) (up : (x y : A) → before x y → key x < key y) (xs : List A) (r : Rises before xs) where
+  module _ (before : A → A → Type 0) (key : A → ℕ) (up : (x y : A) → before x y → key x < key y) (xs : List A) (r : RisesByPlace before xs) where
     -- items come in the order of their numbers
     pub comes_first : (i j : ℕ) (x y : A) → slice_get xs i ≡ Some x → slice_get xs j ≡ Some y → key x < key y → i < j
     comes_first i j x y g h lt = comes_first_by_cases (first_of_two i j)
@@ -64,9 +64,9 @@ module _ {A : Type 0} where
     pub one_of_three : (y : A) → In xs y → In a y ⊎ ((x ≡ y) ⊎ In b y)
     one_of_three y h = in_append_cases a (x ∷ b) y (subst (λ l. In l y) c.cut h)
 
-    module _ (before : A → A → Type 0) (r : Rises before xs) where
+    module _ (before : A → A → Type 0) (r : RisesByPlace before xs) where
       pub before_it : (y : A) → In a y → before y x
-      before_it y h = rises_to before a x b (subst (Rises before) c.cut r) y h
+      before_it y h = rises_to before a x b (subst (RisesByPlace before) c.cut r) y h
 
       pub behind_it : (y : A) → In b y → before x y
-      behind_it y h = rises_from before a x b (subst (Rises before) c.cut r) y h
+      behind_it y h = rises_from before a x b (subst (RisesByPlace before) c.cut r) y h

@@ -1,5 +1,5 @@
 -- No line of a sound picture's text has a fault.
-use Rattle.heap_image.proofs.Common.{◌≡◌, ◌<◌, ◌≤◌, ℕ, true, false, List, [], cond, length, map, refl, ap, sym, ◌∙◌, inl, inr, ◌⊎◌, arith, Option, Some, None, not, is_some, list_any, length-map, eq-eqb, lt-ltb, In, ImageTask, ImageChunk, ImageRemembered, OfTask, OfChunk, OfRemembered, OfEnd, ImagePosition, Whole, Twice, found, has, same_birth, position, rises, is_running, owner_at, chunk_at as chunk_around, cause_on, lacks_parent, is_astray, crosses, forgets, is_crowded, has_field, owner_is_above, object_cause, remembered_cause, object_cause_in, Picked, ImageData, TaskBefore, ChunkBefore, ObjectBefore, FieldBefore, IsOwned, IsFit, IsSoundPicture, as_read, object_said}
+use Rattle.heap_image.proofs.Common.{◌≡◌, ◌<◌, ◌≤◌, ℕ, true, false, List, [], cond, length, map, refl, ap, sym, ◌∙◌, inl, inr, ◌⊎◌, arith, Option, Some, None, not, is_some, list_any, length-map, eq-eqb, lt-ltb, In, ImageTask, ImageChunk, ImageRemembered, OfTask, OfChunk, OfRemembered, OfEnd, ImagePosition, Whole, Twice, found, has, same_birth, position, rises, is_running, owner_at, chunk_at as chunk_around, cause_on, lacks_parent, is_astray, crosses, forgets, is_crowded, has_field, owner_is_above, object_cause, remembered_cause, object_cause_in, Picked, ImageData, TaskBefore, ChunkBefore, ObjectBefore, RememberedBefore, IsOwnedBy, IsDownField, IsSoundPicture, as_read, object_said}
 use Rattle.heap_image.proofs.Splits.{IsCut, in_front, in_middle, one_of_three, before_it, behind_it, same_item}
 use Rattle.heap_image.proofs.Tables.{found_in, entry_more, new_more, item_more}
 use Rattle.heap_image.proofs.Passes.{IsStep, last_of, last_more, last_from, formed, lower}
@@ -25,7 +25,7 @@ three_rise a b c d e f (inl h) = grind (arith, h)
 three_rise a b c d e f (inr (inl h)) = let x : a ≡ d = h.0 in let y : b < e = h.1 in grind (arith, x, y)
 three_rise a b c d e f (inr (inr h)) = let x : a ≡ d = h.0 in let y : b ≡ e = h.1 in let z : c < f = h.2 in grind (arith, x, y, z)
 
-field_rises : (f g : ImageRemembered) → FieldBefore f g → rises (field_at f) (field_at g) ≡ true
+field_rises : (f g : ImageRemembered) → RememberedBefore f g → rises (field_at f) (field_at g) ≡ true
 field_rises f g h = three_rise f.task f.address f.place g.task g.address g.place h
 
 module _ (p : ImageData) (s : IsSoundPicture p) (w : Whole) (all : HasAll p w) where
@@ -113,7 +113,7 @@ module _ (p : ImageData) (s : IsSoundPicture p) (w : Whole) (all : HasAll p w) w
     object_clear : object_cause w (objects_read p a) (as_read o) ≡ None
     object_clear =
         let k = s.places o object_is_in_image in
-        let owned : IsOwned p o.address k.chunk.owner = (k.chunk, k.lies, refl) in
+        let owned : IsOwnedBy p o.address k.chunk.owner = (k.chunk, k.lies, refl) in
         ap (λ x. cond x (Some Twice) (object_cause_in w (objects_read p a) (as_read o) (chunk_around (chunk_table p.chunks) o.address))) (fresh_birth p s a o b c)
         ∙ ap (object_cause_in w (objects_read p a) (as_read o)) (chunk_found p s o.address k.chunk k.lies)
         ∙ in_its_chunk k.chunk (uncrowded p s a o b c k.chunk k.inside) (resting p s k.chunk.owner k.rests)
@@ -138,16 +138,16 @@ module _ (p : ImageData) (s : IsSoundPicture p) (w : Whole) (all : HasAll p w) w
     field_up : rises (behind_fields p a) (field_at f) ≡ true
     field_up =
         last_from field_at (λ (q : ImagePosition). rises q (field_at f) ≡ true) (behind_objects p p.objects) a (lower (behind_objects p p.objects) (field_at f) (objects_low p p.objects))
-        (λ g i. field_rises g f (before_it p.fields a f b c FieldBefore s.fields_rise g i))
+        (λ g i. field_rises g f (before_it p.fields a f b c RememberedBefore s.fields_rise g i))
 
-    has_it : (fit : IsFit p f) → has_field (found w.objects f.address) f.place ≡ true
+    has_it : (fit : IsDownField p f) → has_field (found w.objects f.address) f.place ≡ true
     has_it fit =
         let h = all.objects fit.object fit.drawn in
         let least : length fit.object.references ≤ h.0 = h.2 in
         let lt : f.place < length fit.object.references = fit.place in
         ap (λ m. has_field m f.place) (ap (found w.objects) (sym fit.address) ∙ h.1) ∙ lt-ltb f.place h.0 (omega (arith, lt, least))
 
-    above_it : (fit : IsFit p f) → owner_is_above (fields_read p a) f.task (owner_at (chunk_table p.chunks) f.address) ≡ true
+    above_it : (fit : IsDownField p f) → owner_is_above (fields_read p a) f.task (owner_at (chunk_table p.chunks) f.address) ≡ true
     above_it fit = ap (owner_is_above (fields_read p a) f.task) (owner_found p s f.address fit.owner fit.owned) ∙ ancestor_met p s fit.owner f.task fit.above
 
     field_clear : remembered_cause w (fields_read p a) f ≡ None

@@ -13,8 +13,8 @@ use Rattle.heap_image.specs.Form.{IsInForm}
 -- ORDER
 
 -- each item is less than all after it
-abbrev pub Rises : {A : Type 0} → (A → A → Type 0) → List A → Type 0
-Rises {A} before xs = (i j : ℕ) (x y : A) → i < j → slice_get xs i ≡ Some x → slice_get xs j ≡ Some y → before x y
+abbrev pub RisesByPlace : {A : Type 0} → (A → A → Type 0) → List A → Type 0
+RisesByPlace {A} before xs = (i j : ℕ) (x y : A) → i < j → slice_get xs i ≡ Some x → slice_get xs j ≡ Some y → before x y
 
 abbrev pub TaskBefore : ImageTask → ImageTask → Type 0
 TaskBefore t u = t.number < u.number
@@ -26,8 +26,8 @@ abbrev pub ObjectBefore : Picked → Picked → Type 0
 ObjectBefore o q = o.address < q.address
 
 -- by task, address and index
-abbrev pub FieldBefore : ImageRemembered → ImageRemembered → Type 0
-FieldBefore f g =
+abbrev pub RememberedBefore : ImageRemembered → ImageRemembered → Type 0
+RememberedBefore f g =
     (f.task < g.task)
     ⊎ ((f.task ≡ g.task) × (f.address < g.address)
     ⊎ (f.task ≡ g.task) × (f.address ≡ g.address) × (f.place < g.place))
@@ -35,13 +35,13 @@ FieldBefore f g =
 -- TASKS
 
 -- the task t has the parent p
-abbrev pub IsParent : List ImageTask → ℕ → ℕ → Type 0
-IsParent tasks t p = (k : ImageTask) × In tasks k × (k.number ≡ t) × (k.parent ≡ Some p)
+abbrev pub HasImageParent : List ImageTask → ℕ → ℕ → Type 0
+HasImageParent tasks t p = (k : ImageTask) × In tasks k × (k.number ≡ t) × (k.parent ≡ Some p)
 
 -- n + 1 links from a task to its parent lead to a
 abbrev pub ParentsLead : ℕ → List ImageTask → ℕ → ℕ → Type 0
-ParentsLead zero tasks t a = IsParent tasks t a
-ParentsLead (suc n) tasks t a = (p : ℕ) × IsParent tasks t p × ParentsLead n tasks p a
+ParentsLead zero tasks t a = HasImageParent tasks t a
+ParentsLead (suc n) tasks t a = (p : ℕ) × HasImageParent tasks t p × ParentsLead n tasks p a
 
 -- a is a proper ancestor of t
 abbrev pub IsAbove : List ImageTask → ℕ → ℕ → Type 0
@@ -60,15 +60,15 @@ abbrev pub LiesIn : ImageData → ℕ → ImageChunk → Type 0
 LiesIn p a c = In p.chunks c × (0 < a) × (chunk_number a ≡ c.number)
 
 -- the owner of an address
-abbrev pub IsOwned : ImageData → ℕ → ℕ → Type 0
-IsOwned p a t = (c : ImageChunk) × LiesIn p a c × (c.owner ≡ t)
+abbrev pub IsOwnedBy : ImageData → ℕ → ℕ → Type 0
+IsOwnedBy p a t = (c : ImageChunk) × LiesIn p a c × (c.owner ≡ t)
 
 -- where an object ends in its chunk, after its header, its birth and its fields
 abbrev pub picked_end : Picked → ℕ
 picked_end o = offset o.address + 2 + length o.references + length o.numbers
 
 -- an object lies inside a chunk, and the chunk's owner isn't running
-pub record IsPlaced (p : ImageData) (o : Picked) : Type 0 where
+pub record LiesInIdleChunk (p : ImageData) (o : Picked) : Type 0 where
   pub chunk : ImageChunk
   pub lies : LiesIn p o.address chunk
   pub inside : picked_end o ≤ chunk.words
@@ -84,12 +84,12 @@ abbrev pub HasObject : ImageData → ℕ → Type 0
 HasObject p a = (o : Picked) × In p.objects o × (o.address ≡ a)
 
 -- nil, an object's address, or in a running task's chunk
-abbrev pub LeadsSomewhere : ImageData → ℕ → Type 0
-LeadsSomewhere p v = (v ≡ 0) ⊎ (HasObject p v ⊎ ((u : ℕ) × IsOwned p v u × IsRunning p u))
+abbrev pub ImageLeadsSomewhere : ImageData → ℕ → Type 0
+ImageLeadsSomewhere p v = (v ≡ 0) ⊎ (HasObject p v ⊎ ((u : ℕ) × IsOwnedBy p v u × IsRunning p u))
 
 -- a reference from field k of heap t's object at a to heap u stays inside, goes up, or is remembered
-abbrev pub KeepsToPath : ImageData → ℕ → ℕ → ℕ → ℕ → Type 0
-KeepsToPath p a k t u =
+abbrev pub ImageKeepsToPath : ImageData → ℕ → ℕ → ℕ → ℕ → Type 0
+ImageKeepsToPath p a k t u =
     (u ≡ t)
     ⊎ (IsAbove p.tasks u t
     ⊎ (IsAbove p.tasks t u × In p.fields (record { task = u; address = a; place = k })))
@@ -97,13 +97,13 @@ KeepsToPath p a k t u =
 -- REMEMBERED FIELDS
 
 -- a reference field of an object whose owner is above the heap that remembers it
-pub record IsFit (p : ImageData) (f : ImageRemembered) : Type 0 where
+pub record IsDownField (p : ImageData) (f : ImageRemembered) : Type 0 where
   pub object : Picked
   pub drawn : In p.objects object
   pub address : object.address ≡ f.address
   pub place : f.place < length object.references
   pub owner : ℕ
-  pub owned : IsOwned p f.address owner
+  pub owned : IsOwnedBy p f.address owner
   pub above : IsAbove p.tasks owner f.task
 
 -- THE WHOLE
@@ -111,15 +111,15 @@ pub record IsFit (p : ImageData) (f : ImageRemembered) : Type 0 where
 -- a sound picture
 pub record IsSoundPicture (p : ImageData) : Type 0 where
   pub form : IsInForm p
-  pub tasks_rise : Rises TaskBefore p.tasks
+  pub tasks_rise : RisesByPlace TaskBefore p.tasks
   pub parents : (t : ImageTask) (q : ℕ) → In p.tasks t → t.parent ≡ Some q → HasTask p q × (q < t.number)
-  pub chunks_rise : Rises ChunkBefore p.chunks
+  pub chunks_rise : RisesByPlace ChunkBefore p.chunks
   pub owners : (c : ImageChunk) → In p.chunks c → HasTask p c.owner
-  pub objects_rise : Rises ObjectBefore p.objects
+  pub objects_rise : RisesByPlace ObjectBefore p.objects
   pub births : (o q : Picked) → In p.objects o → In p.objects q → o.birth ≡ q.birth → o.address ≡ q.address
-  pub places : (o : Picked) → In p.objects o → IsPlaced p o
+  pub places : (o : Picked) → In p.objects o → LiesInIdleChunk p o
   pub apart : (o q : Picked) → In p.objects o → In p.objects q → PickedDontOverlap o q
-  pub leads : (o : Picked) (v : ℕ) → In p.objects o → In o.references v → LeadsSomewhere p v
-  pub keeps : (o : Picked) (k v t u : ℕ) → In p.objects o → slice_get o.references k ≡ Some v → IsOwned p o.address t → IsOwned p v u → KeepsToPath p o.address k t u
-  pub fields_rise : Rises FieldBefore p.fields
-  pub fields_fit : (f : ImageRemembered) → In p.fields f → IsFit p f
+  pub leads : (o : Picked) (v : ℕ) → In p.objects o → In o.references v → ImageLeadsSomewhere p v
+  pub keeps : (o : Picked) (k v t u : ℕ) → In p.objects o → slice_get o.references k ≡ Some v → IsOwnedBy p o.address t → IsOwnedBy p v u → ImageKeepsToPath p o.address k t u
+  pub fields_rise : RisesByPlace RememberedBefore p.fields
+  pub fields_fit : (f : ImageRemembered) → In p.fields f → IsDownField p f

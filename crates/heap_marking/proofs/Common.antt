@@ -31,9 +31,9 @@ pub use Rattle.core_invariant.proofs.below.run_ledger.{entry_tells, out_tells, s
 pub use Rattle.core_invariant.proofs.below.walk_laws.{reached_more, reached_start, reached_within}
 pub use Rattle.core_invariant.specs.Causes.{or_else, first_cause}
 pub use Rattle.core_invariant.specs.Entered.{Enters, refused}
-pub use Rattle.core_invariant.specs.Fits.{AllFit, Fits, part_of}
+pub use Rattle.core_invariant.specs.WorkerPartFits.{EachPartStillFits, WorkerPartFits, part_of}
 pub use Rattle.core_invariant.specs.Measured.{KeepsUnits, AreMeasured}
-pub use Rattle.core_invariant.specs.Objects.{AreNear, chunk_of, chunks_of}
+pub use Rattle.core_invariant.specs.Objects.{OffsetsAreSmall, chunk_of, chunks_of}
 pub use Rattle.core_invariant.specs.Roots.{heaps_of, sources_of}
 pub use Rattle.core_invariant.specs.SharedValue.{SharedValue, accounts, marks_at, noted_in, tree_counts_of, value_of, belongings_in, rest_at, frames_down, belongings_by, belongings_of}
 pub use Rattle.core_invariant.specs.Stands.{IsSharedValue, HeapForm}
@@ -43,18 +43,18 @@ pub use Rattle.core_invariant.specs.below.copying_gc.{frame_references, referenc
 pub use Rattle.core_invariant.specs.below.heap_tree.{TaskNode, state_of, parent_in}
 pub use Rattle.core_invariant.specs.below.hh_lang.{ProgramText}
 pub use Rattle.core_invariant.specs.below.hh_model.{Task, MachineState, asked, can_step, is_waiting, step, waits, TaskStatus, Running, Waiting, Ended, Joined, is_joined, is_over, joined, parents, waiting, Name, row_of, Strand, strand_of, Edge, onward, child, ended_task, is_left, is_running, joined_task, parent_of, result_of, resumed, run, run_from, sibling, start, IsForkJoinState, TreeOf, runs}
-pub use Rattle.core_invariant.specs.below.leaf_heap.{saturating_words, LeafHeapValue, IsFresh, room_of, with_places, unit_count, units, AreWithin, IsCurrent, IsSettled, IsTidy, room_at, counted32}
+pub use Rattle.core_invariant.specs.below.leaf_heap.{saturating_words, LeafHeapValue, IsFresh, room_of, with_places, unit_count, units, CellsFitInChunks, IsCurrent, IsSettled, IsTidy, room_at, counted32}
 pub use Rattle.core_invariant.specs.below.ledger_step_laws.{Rests, own}
-pub use Rattle.core_invariant.specs.below.mark_sweep_gc.{IsMarking, IsOf, MarkingValue, Fork, IsInSnapshot, Starts, marked_of, IsAllMarked, IsSince, AreGiven, gone_of, goes, swept, units_in_slots, has_address, has_object, is_object, swept_cell, swept_cells, swept_chunk, stays, chunk_number_at, place_at, IsDone}
-pub use Rattle.core_invariant.specs.below.object_layout.{Addr, Born, Hole, IsBorn, Moved, HaveDistinctNumbers, cell_of, has_chunk, place_of, ChunkValue, IsClosed, HasObjectAt, IsSoundReference, Located, located, object_count, RefersTo, held_words, Cell, moved_to, size_of, located_by, objects_from, chunk_at, no_chunk, place_in}
+pub use Rattle.core_invariant.specs.below.mark_sweep_gc.{IsMarking, IsOf, MarkingValue, Fork, IsInSnapshot, MarkStarts, marked_of, IsAllMarked, IsSince, AreGiven, gone_of, goes, swept, units_in_slots, has_address, has_object, is_object, swept_cell, swept_cells, swept_chunk, stays, chunk_number_at, place_at, IsDone}
+pub use Rattle.core_invariant.specs.below.object_layout.{Addr, Born, Hole, IsBorn, Moved, HaveDistinctNumbers, cell_of, has_chunk, chunk_position, ChunkValue, HeapIsClosed, HasObjectAt, IsSoundReference, Located, located, object_count, RefersTo, held_words, Cell, moved_to, size_of, located_by, objects_from, chunk_at, no_chunk, place_in}
 pub use Rattle.core_invariant.specs.below.plain_vec.{option_is, ReservedVecValue, is_empty}
-pub use Rattle.core_invariant.specs.below.refinement.{StandsFor, state_by, In, Memory, objects, objects_of_chunks, Place, Stands, object_name, HoldsAt, IsRoot, LeadsAt, CanGoOnMarking, kept, MarkedBy, SameObjects, CountsGo, IsMarked, IsQuiet, AreLaidOut, HasNames, BelongingsStand, IsBy, MarksStand, AreRoots, FramesAreRead, HoldsRead, Belongings, sources, KeepsJust, OthersNotes, StandsForAll, HoldsLarge, words, large_chunks, names_of, small_chunks}
+pub use Rattle.core_invariant.specs.below.refinement.{StandsFor, state_by, In, Memory, objects, objects_of_chunks, LiesWithOwner, MemoryStands, object_name, HoldsAt, IsRememberedRoot, LeadsAt, CanGoOnMarking, kept, MarkedBy, SameObjects, CountsGo, IsMarked, IsQuiet, AreLaidOut, ChunksHaveNames, BelongingsStand, IsBy, MarksStand, AreRoots, FramesAreRead, HoldsRead, Belongings, sources, KeepsJust, OthersNotes, StandsForAll, HoldsLarge, words, large_chunks, chunk_names, small_chunks}
 pub use Rattle.core_invariant.specs.below.refinement_laws.{IsReachedNow, StartsNow}
 pub use Rattle.core_invariant.specs.below.remembered_set.{AreFields, RefField, into, targets_of}
 pub use Rattle.core_invariant.specs.below.run_ledger.{Heap, Ledger, Pool, chunk_words, collected, heap_of, in_use, is_small_size, or_fresh, swept_heap, with_heap, allocated_in, on_asked, stepped_to, task_step, task_steps, after, after_kind, chunk_units, kind_refusal, refusal, with_chunk, SoundAt, SoundLedger, NotMarking, NotWaiting, Swept, refused_unless, words_in, ledger_of, tasks_of, Refused, Left, Marked, Marking, NotDue, refused_if, left_in, marked_in, sweep_number, held_in, Previous, Other, Forked, WorkerPace, fork_of, previous_by, waits_on, waits_since, Owed, Nothing, is_to_mark, is_under_way, is_unmarked, more_of, owed_after, owed_to_marks, Count, units_sum, without_empty, words_at, in_snapshot, is_last_empty, holds_name, begun_in, held, small_in, units_in, words_sum, unless_wrong_number}
 pub use Rattle.core_invariant.specs.below.run_trace.{Kind, Took, Ran, Chunk, Begin, End, PutOff, Mark, More, Sweep, Fuel, EntryValue, SettingsValue, field_limit}
 pub use Rattle.core_invariant.specs.below.task_frames.{CallFrame, references_of, frames_of}
-pub use Rattle.core_invariant.specs.below.task_machine.{Private, IsLastSmall, AreReserved}
+pub use Rattle.core_invariant.specs.below.task_machine.{Private, IsLastSmall, HasReservedUnits}
 pub use Rattle.core_invariant.specs.below.task_slots.{ParkedTask, kept_of, resting_references, Work, Calls, Result, keeping, keeps_of, TaskSlotsValue}
 pub use Rattle.core_invariant.specs.below.write_barrier.{SetOf, Content, content_at, content_of}
 pub use Rattle.heap_marking.specs.MarkCauses.{marking_cause, waiting_cause, MarksRefuse, is_state_waiting, words_cause, waiting_cause_in}

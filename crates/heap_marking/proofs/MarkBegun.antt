@@ -1,6 +1,6 @@
 -- A marking of a waiting heap begins, from the registers and the roots as they are now: it can go on to the whole
 -- snapshot.
-use Rattle.heap_marking.proofs.Common.{◌≡◌, ◌⊎◌, ◌↔◌, ℕ, suc, ◌+◌, ◌<◌, ◌≤◌, ◌++◌, true, Some, None, List, [], ◌∷◌, length, slice_get, inl, inr, refl, ap, sym, subst, ◌∙◌, contains_from_in, in_append_cases, in_append_left, in_append_right, in_from_contains, reached_more, reached_start, reached_within, is_waiting, wait_there, waiting_stops, Ledger, heap_of, legal_sound, Addr, cell_of, object_count, ChunkValue, HasObjectAt, RefersTo, Located, CallFrame, IsMarking, IsOf, MarkingValue, Fork, IsInSnapshot, Starts, Rests, legal_idle, In, Memory, object_name, objects, objects_of_chunks, HoldsAt, IsRoot, LeadsAt, CanGoOnMarking, kept, IsReachedNow, StartsNow, snapshot_now, ParkedTask, chunks_of, SharedValue, accounts, belongings_in, rest_at, value_of, HeapForm, IsSharedValue, stands_now, objects_counted, belongings_chunks, MarksBegin}
+use Rattle.heap_marking.proofs.Common.{◌≡◌, ◌⊎◌, ◌↔◌, ℕ, suc, ◌+◌, ◌<◌, ◌≤◌, ◌++◌, true, Some, None, List, [], ◌∷◌, length, slice_get, inl, inr, refl, ap, sym, subst, ◌∙◌, contains_from_in, in_append_cases, in_append_left, in_append_right, in_from_contains, reached_more, reached_start, reached_within, is_waiting, wait_there, waiting_stops, Ledger, heap_of, legal_sound, Addr, cell_of, object_count, ChunkValue, HasObjectAt, RefersTo, Located, CallFrame, IsMarking, IsOf, MarkingValue, Fork, IsInSnapshot, MarkStarts, Rests, legal_idle, In, Memory, object_name, objects, objects_of_chunks, HoldsAt, IsRememberedRoot, LeadsAt, CanGoOnMarking, kept, IsReachedNow, StartsNow, snapshot_now, ParkedTask, chunks_of, SharedValue, accounts, belongings_in, rest_at, value_of, HeapForm, IsSharedValue, stands_now, objects_counted, belongings_chunks, MarksBegin}
 use Rattle.heap_marking.proofs.HeapClosed.{held_seen, seen_held}
 
 pub length_chunks : (cs : List ChunkValue) → length (chunks_of cs) ≡ length cs
@@ -47,18 +47,18 @@ module _ (w : SharedValue) (I : IsSharedValue w) (on : (accounts w).end ≡ None
   refs_are o i = (seen_held ks form.shaped.apart o (from_belongings o i)).1
 
   -- the roots: what registers name, and what remembered fields hold
-  module _ (roots : List Addr) (are : (a : Addr) → In roots a ↔ (((o : Located) × HoldsAt (v.belongings t) a o × ((f : CallFrame) × In (v.belongings t).frames f × In f.refs (Some a))) ⊎ IsRoot v l t a)) where
+  module _ (roots : List Addr) (are : (a : Addr) → In roots a ↔ (((o : Located) × HoldsAt (v.belongings t) a o × ((f : CallFrame) × In (v.belongings t).frames f × In f.refs (Some a))) ⊎ IsRememberedRoot v l t a)) where
     abbrev pub f : Fork
     f = record { heap = ks; roots = roots }
 
     abbrev IsThere : Addr → Type 0
     IsThere a = IsReachedNow v l t a × ((o : Located) × HoldsAt (v.belongings t) a o)
 
-    start_now : (a : Addr) → Starts f (kept v t) a → IsThere a
+    start_now : (a : Addr) → MarkStarts f (kept v t) a → IsThere a
     start_now a s =
         let o = seen_at a s.0 in
         let at : HoldsAt (v.belongings t) a o.0 = (o.1, o.2) in
-        let now : ((g : CallFrame) × In (v.belongings t).frames g × In g.refs (Some a)) ⊎ (IsRoot v l t a ⊎ In (kept v t) a) = elim (in_append_cases roots (kept v t) a (in_from_contains (roots ++ kept v t) a s.1)) [
+        let now : ((g : CallFrame) × In (v.belongings t).frames g × In g.refs (Some a)) ⊎ (IsRememberedRoot v l t a ⊎ In (kept v t) a) = elim (in_append_cases roots (kept v t) a (in_from_contains (roots ++ kept v t) a s.1)) [
           | inl i ↦ elim ((are a).0 i) [ inl n ↦ inl n.2 | inr y ↦ inr (inl y) ]
           | inr k ↦ inr (inr k)
         ] in
@@ -73,14 +73,14 @@ module _ (w : SharedValue) (I : IsSharedValue w) (on : (accounts w).end ≡ None
         (reached_more (StartsNow v l t) (LeadsAt (v.belongings t)) b a y.0 (o.0, q.0, o.1, subst (λ rs. In rs (Some a)) refs (in_from_contains (cell_of ks b).refs (Some a) d.2), at), (q.0, at))
 
     to_now : (a : Addr) → IsInSnapshot f (kept v t) a → IsReachedNow v l t a
-    to_now a g = (reached_within (Starts f (kept v t)) (RefersTo ks) IsThere start_now more_now a g).0
+    to_now a g = (reached_within (MarkStarts f (kept v t)) (RefersTo ks) IsThere start_now more_now a g).0
 
     held_at : (a : Addr) (o : Located) → HoldsAt (v.belongings t) a o → HasObjectAt ks a
     held_at a o at = subst (HasObjectAt ks) at.1 (is_held o at.0)
 
     start_then : (a : Addr) → StartsNow v l t a → IsInSnapshot f (kept v t) a
     start_then a s =
-        reached_start (Starts f (kept v t)) (RefersTo ks) a (
+        reached_start (MarkStarts f (kept v t)) (RefersTo ks) a (
           held_at a s.0 s.1,
           contains_from_in (roots ++ kept v t) a (elim s.2 [
             | inl n ↦ in_append_left roots (kept v t) a ((are a).1 (inl (s.0, s.1, n)))
@@ -94,7 +94,7 @@ module _ (w : SharedValue) (I : IsSharedValue w) (on : (accounts w).end ≡ None
     more_then : (b a : Addr) → IsInSnapshot f (kept v t) b → LeadsAt (v.belongings t) b a → IsInSnapshot f (kept v t) a
     more_then b a g d =
         let refs : (cell_of ks b).refs ≡ d.0.refs = ap (λ x. (cell_of ks x).refs) (sym d.2.1) ∙ refs_are d.0 d.2.0 in
-        reached_more (Starts f (kept v t)) (RefersTo ks) b a g (held_at b d.0 d.2, held_at a d.1 d.4, contains_from_in (cell_of ks b).refs (Some a) (subst (λ rs. In rs (Some a)) (sym refs) d.3))
+        reached_more (MarkStarts f (kept v t)) (RefersTo ks) b a g (held_at b d.0 d.2, held_at a d.1 d.4, contains_from_in (cell_of ks b).refs (Some a) (subst (λ rs. In rs (Some a)) (sym refs) d.3))
 
     from_now : (a : Addr) → IsReachedNow v l t a → IsInSnapshot f (kept v t) a
     from_now a g = reached_within (StartsNow v l t) (LeadsAt (v.belongings t)) (IsInSnapshot f (kept v t)) start_then more_then a g

@@ -1,5 +1,5 @@
 -- How many objects a marking marks, by its account.
-use Rattle.heap_marking.proofs.Common.{◌≡◌, ℕ, ◌+◌, ◌-◌, ◌<◌, ◌≤◌, arith, min, Option, Some, None, List, length, slice_get, inl, inr, refl, ap, sym, subst, ◌∙◌, unwrap_or, min-eq_left, min-eq_right, cases_lt, length-take-le, contains_from_in, in_from_contains, in_take, reached_within, Name, Heap, Ledger, heap_of, held_in, left_in, marked_in, or_fresh, with_heap, snapshots_are_held, Addr, HasObjectAt, RefersTo, Located, distinct_take, MarkingValue, marked_of, IsInSnapshot, Starts, Rests, heap_then, with_at, In, Memory, object_name, objects, CanGoOnMarking, MarkedBy, kept, StandsFor, all_marked, few_marked, accounts, tree_counts_of, value_of, stands_now, MarksCount}
+use Rattle.heap_marking.proofs.Common.{◌≡◌, ℕ, ◌+◌, ◌-◌, ◌<◌, ◌≤◌, arith, min, Option, Some, None, List, length, slice_get, inl, inr, refl, ap, sym, subst, ◌∙◌, unwrap_or, min-eq_left, min-eq_right, cases_lt, length-take-le, contains_from_in, in_from_contains, in_take, reached_within, Name, Heap, Ledger, heap_of, held_in, left_in, marked_in, or_fresh, with_heap, snapshots_are_held, Addr, HasObjectAt, RefersTo, Located, distinct_take, MarkingValue, marked_of, IsInSnapshot, MarkStarts, Rests, heap_then, with_at, In, Memory, object_name, objects, CanGoOnMarking, MarkedBy, kept, StandsFor, all_marked, few_marked, accounts, tree_counts_of, value_of, stands_now, MarksCount}
 use Rattle.heap_marking.proofs.MarkBegun as begun
 use Rattle.heap_marking.proofs.MarkingGoesOn.{is_since}
 
@@ -7,7 +7,7 @@ use Rattle.heap_marking.proofs.MarkingGoesOn.{is_since}
 marked_each : (v : Memory) (t : ℕ) (names : List Name) (m : MarkingValue) → CanGoOnMarking v t names m → (a : Addr) → In (marked_of m) a → (q : Located) × In (objects v t) q × (q.at ≡ a) × In names (object_name q)
 marked_each v t names m G a i =
     let reached = G.marks.each a (contains_from_in m.found a (in_take m.marked m.found a i)) in
-    let held : HasObjectAt G.fork.heap a = reached_within (Starts G.fork (kept v t)) (RefersTo G.fork.heap) (HasObjectAt G.fork.heap) (λ x s. s.0) (λ b x h d. d.1) a reached in
+    let held : HasObjectAt G.fork.heap a = reached_within (MarkStarts G.fork (kept v t)) (RefersTo G.fork.heap) (HasObjectAt G.fork.heap) (λ x s. s.0) (λ b x h d. d.1) a reached in
     let o = G.were a held in
     (o.0, o.1, o.2, (G.snapshot o.0 o.1).0 (subst (IsInSnapshot G.fork (kept v t)) (sym o.2) reached))
 

@@ -1,6 +1,6 @@
 -- Entries that mark a heap: why they are refused, and what they keep.
 use Rattle.std.proofs.Common.{le-leb}
-use Rattle.heap_marking.proofs.Common.{◌≡◌, ◌==◌, ◌↔◌, ℕ, ◌+◌, ◌-◌, ◌^◌, ◌<◌, ◌≤◌, arith, All, Bool, true, false, min, Option, Some, None, List, length, is_none, is_some, slice_get, slice_set, take, inl, inr, refl, ap, sym, subst, ◌∙◌, option_flatten, IfSome, cases_lt, got_other, got_same, got_within, none_of, got_set, Mark, More, EntryValue, SettingsValue, Heap, Ledger, Refused, Marked, Marking, NotDue, after, kind_refusal, refused_if, refused_unless, heap_of, left_in, or_fresh, with_heap, words_in, SoundLedger, entry_tells, legal_sound, heap_there, Addr, held_words, HasObjectAt, saturating_words, AreFields, SetOf, IsAllMarked, IsMarking, IsOf, MarkingValue, marked_of, Fork, IsSince, heap_then, with_at, CanGoOnMarking, kept, kept_of, ParkedTask, resting_references, first_cause, or_else, refused, AllFit, heaps_of, sources_of, SharedValue, accounts, marks_at, noted_in, rest_at, value_of, IsSharedValue, words_are, entry_on, found_first, nothing_first, stands_now, on_is, refused_is, marking_cause, waiting_cause, words_cause, marked_more, MarkingHasBegun, starts_by, starts_in, starts_of}
+use Rattle.heap_marking.proofs.Common.{◌≡◌, ◌==◌, ◌↔◌, ℕ, ◌+◌, ◌-◌, ◌^◌, ◌<◌, ◌≤◌, arith, All, Bool, true, false, min, Option, Some, None, List, length, is_none, is_some, slice_get, slice_set, take, inl, inr, refl, ap, sym, subst, ◌∙◌, option_flatten, IfSome, cases_lt, got_other, got_same, got_within, none_of, got_set, Mark, More, EntryValue, SettingsValue, Heap, Ledger, Refused, Marked, Marking, NotDue, after, kind_refusal, refused_if, refused_unless, heap_of, left_in, or_fresh, with_heap, words_in, SoundLedger, entry_tells, legal_sound, heap_there, Addr, held_words, HasObjectAt, saturating_words, AreFields, SetOf, IsAllMarked, IsMarking, IsOf, MarkingValue, marked_of, Fork, IsSince, heap_then, with_at, CanGoOnMarking, kept, kept_of, ParkedTask, resting_references, first_cause, or_else, refused, EachPartStillFits, heaps_of, sources_of, SharedValue, accounts, marks_at, noted_in, rest_at, value_of, IsSharedValue, words_are, entry_on, found_first, nothing_first, stands_now, on_is, refused_is, marking_cause, waiting_cause, words_cause, marked_more, MarkingHasBegun, starts_by, starts_in, starts_of}
 use Rattle.heap_marking.proofs.MarkBegun.{chunks_at_rest, marks_begin, waiting_rests}
 use Rattle.heap_marking.proofs.MarkCauses.{marks_refuse}
 use Rattle.heap_marking.proofs.MarkCounts.{marks_count}
@@ -137,7 +137,7 @@ mark_begun w I t on free m B =
 module _ (w : SharedValue) (I : IsSharedValue w) (k t : ℕ) (m : MarkingValue) (marks : List (Option MarkingValue)) (room : ℕ) (at : marks_at marks t ≡ Some m) (others : (u : ℕ) → (u ≡ t → ⊥) → marks_at marks u ≡ marks_at w.marks u) where
   -- a marking that has marked nothing yet
   pub mark_enters : refused w (record { worker = k; kind = Mark t }) ≡ None → m.marked ≡ 0 → CanGoOnMarking (value_of w) t (heap_of (accounts w) t).snapshot m
-      → IsSharedValue (marked_more w (record { worker = k; kind = Mark t }) marks room) × AllFit w (marked_more w (record { worker = k; kind = Mark t }) marks room)
+      → IsSharedValue (marked_more w (record { worker = k; kind = Mark t }) marks room) × EachPartStillFits w (marked_more w (record { worker = k; kind = Mark t }) marks room)
   mark_enters free none G =
       let l : Ledger = accounts w in
       let on = entry_on w (record { worker = k; kind = Mark t }) free in
@@ -169,7 +169,7 @@ module _ (w : SharedValue) (I : IsSharedValue w) (k t n : ℕ) (free : refused w
   some_count = counts.0
 
   pub some_enters : (marks : List (Option MarkingValue)) (room : ℕ) → marks_at marks t ≡ Some m' → ((u : ℕ) → (u ≡ t → ⊥) → marks_at marks u ≡ marks_at w.marks u)
-      → IsSharedValue (marked_more w (record { worker = k; kind = More t n }) marks room) × AllFit w (marked_more w (record { worker = k; kind = More t n }) marks room)
+      → IsSharedValue (marked_more w (record { worker = k; kind = More t n }) marks room) × EachPartStillFits w (marked_more w (record { worker = k; kind = More t n }) marks room)
   some_enters marks room here others = marks_enter w k (More t n) t m' marks room I free refl here others counts.1 goes
 
 -- a marking that was taken out and put back

@@ -1,12 +1,12 @@
 -- An entry that marks a heap further: the shared value after it, and the parts.
-use Rattle.heap_marking.proofs.Common.{◌≡◌, ℕ, ◌+◌, min, Option, Some, None, List, [], ◌∷◌, ◌++◌, Contains, length, slice_get, inl, inr, refl, ap, sym, subst, ◌∙◌, cases_eq, contains_from_in, in_take, reached_within, MachineState, row_of, is_joined, Took, Ran, Chunk, Begin, End, PutOff, Mark, More, Sweep, Fuel, EntryValue, Heap, Ledger, heap_of, left_in, marked_in, or_fresh, with_heap, after, heap_machine, Addr, HasObjectAt, RefersTo, Located, distinct_take, MarkingValue, marked_of, IsInSnapshot, Starts, heap_then, with_at, with_off, Rests, In, Memory, object_name, objects, SameObjects, CountsGo, IsMarked, IsQuiet, CanGoOnMarking, MarkedBy, kept, AreLaidOut, HasNames, BelongingsStand, IsBy, belongings_kept, SharedValue, accounts, marks_at, tree_counts_of, value_of, IsSharedValue, AllFit, refused, entry_on, MovesNothing, quiet_others, quiet_world, all_kept, stands_now, MarksEnter}
+use Rattle.heap_marking.proofs.Common.{◌≡◌, ℕ, ◌+◌, min, Option, Some, None, List, [], ◌∷◌, ◌++◌, Contains, length, slice_get, inl, inr, refl, ap, sym, subst, ◌∙◌, cases_eq, contains_from_in, in_take, reached_within, MachineState, row_of, is_joined, Took, Ran, Chunk, Begin, End, PutOff, Mark, More, Sweep, Fuel, EntryValue, Heap, Ledger, heap_of, left_in, marked_in, or_fresh, with_heap, after, heap_machine, Addr, HasObjectAt, RefersTo, Located, distinct_take, MarkingValue, marked_of, IsInSnapshot, MarkStarts, heap_then, with_at, with_off, Rests, In, Memory, object_name, objects, SameObjects, CountsGo, IsMarked, IsQuiet, CanGoOnMarking, MarkedBy, kept, AreLaidOut, ChunksHaveNames, BelongingsStand, IsBy, belongings_kept, SharedValue, accounts, marks_at, tree_counts_of, value_of, IsSharedValue, EachPartStillFits, refused, entry_on, MovesNothing, quiet_others, quiet_world, all_kept, stands_now, MarksEnter}
 
 -- belongings whose account differs only in its count of marks
 belongings_marked : (v v' : Memory) (l L : Ledger) (t : ℕ) (o : Option ℕ) → v'.belongings t ≡ v.belongings t → ((k : ℕ) → v.owner k ≡ Some t → v'.owner k ≡ Some t) → L.machine ≡ l.machine → heap_of L t ≡ record (heap_of l t) { marked = o } → BelongingsStand v l t → BelongingsStand v' L t
 belongings_marked v v' l L t o belongings owner machine heap H =
     let before : BelongingsStand v' l t = belongings_kept v v' l l t belongings owner refl refl refl H in
     record {
-      names = subst (HasNames (v'.belongings t).chunks) (sym heap) (record { small = before.names.small; large = before.names.large });
+      names = subst (ChunksHaveNames (v'.belongings t).chunks) (sym heap) (record { small = before.names.small; large = before.names.large });
       room = before.room ∙ sym (ap (λ (h : Heap). h.room) heap);
       since = before.since ∙ sym (ap (λ (h : Heap). h.since) heap);
       count = λ live. before.count (ap (λ (m : MachineState). is_joined (slice_get m.tasks t)) (sym machine) ∙ live) ∙ ap (λ (m : MachineState). length (row_of (slice_get m.store t))) (sym machine);
@@ -87,7 +87,7 @@ module _ (w : SharedValue) (e : EntryValue) (I : IsSharedValue w) (free : refuse
     each_marked a i =
         let found : Contains m.found a = contains_from_in m.found a (in_take m.marked m.found a i) in
         let reached = G.marks.each a found in
-        let held : HasObjectAt G.fork.heap a = reached_within (Starts G.fork (kept v t)) (RefersTo G.fork.heap) (HasObjectAt G.fork.heap) (λ x s. s.0) (λ b x h d. d.1) a reached in
+        let held : HasObjectAt G.fork.heap a = reached_within (MarkStarts G.fork (kept v t)) (RefersTo G.fork.heap) (HasObjectAt G.fork.heap) (λ x s. s.0) (λ b x h d. d.1) a reached in
         let o = G.were a held in
         (o.0, o.1, o.2, subst (λ (h : Heap). In h.snapshot (object_name o.0)) (sym heap_t) ((G.snapshot o.0 o.1).0 (subst (λ b. IsInSnapshot G.fork (kept v t) b) (sym o.2) reached)))
 
@@ -111,7 +111,7 @@ module _ (w : SharedValue) (e : EntryValue) (I : IsSharedValue w) (free : refuse
     }
 
     -- every part that fits still fits
-    pub marking_made : IsSharedValue w' × AllFit w w'
+    pub marking_made : IsSharedValue w' × EachPartStillFits w w'
     marking_made = (quiet_world I free moves, λ u q F. quiet_others I free moves u q (by_none q.task) F)
 
 -- THE LAW

@@ -1,5 +1,5 @@
 -- A marking that can go on marks more: what it requires of the heap, and that it can go on afterwards.
-use Rattle.heap_marking.proofs.Common.{◌≡◌, ◌⊎◌, ◌↔◌, ℕ, ◌+◌, ◌<◌, ◌≤◌, true, Some, None, List, All, Contains, length, slice_get, inl, inr, ap, sym, subst, ◌∙◌, contains_from_in, in_from_contains, all_from, reached_more, reached_within, is_waiting, wait_there, Ledger, heap_of, held_in, left_in, snapshots_are_held, legal_sound, Addr, cell_of, object_count, ChunkValue, IsClosed, HasObjectAt, RefersTo, Located, IsAllMarked, IsMarking, IsOf, MarkingValue, marked_of, Fork, IsInSnapshot, IsSince, Starts, In, Memory, object_name, objects, objects_of_chunks, LeadsAt, CanGoOnMarking, MarksStand, kept, StandsFor, marks_are_all, snapshot_now, IsReachedNow, StartsNow, lies_in, ParkedTask, SharedValue, accounts, rest_at, tree_counts_of, value_of, HeapForm, IsSharedValue, objects_counted, stands_now, MarksGoFurther}
+use Rattle.heap_marking.proofs.Common.{◌≡◌, ◌⊎◌, ◌↔◌, ℕ, ◌+◌, ◌<◌, ◌≤◌, true, Some, None, List, All, Contains, length, slice_get, inl, inr, ap, sym, subst, ◌∙◌, contains_from_in, in_from_contains, all_from, reached_more, reached_within, is_waiting, wait_there, Ledger, heap_of, held_in, left_in, snapshots_are_held, legal_sound, Addr, cell_of, object_count, ChunkValue, HeapIsClosed, HasObjectAt, RefersTo, Located, IsAllMarked, IsMarking, IsOf, MarkingValue, marked_of, Fork, IsInSnapshot, IsSince, MarkStarts, In, Memory, object_name, objects, objects_of_chunks, LeadsAt, CanGoOnMarking, MarksStand, kept, StandsFor, marks_are_all, snapshot_now, IsReachedNow, StartsNow, lies_in, ParkedTask, SharedValue, accounts, rest_at, tree_counts_of, value_of, HeapForm, IsSharedValue, objects_counted, stands_now, MarksGoFurther}
 use Rattle.heap_marking.proofs.HeapClosed.{closed as is_closed}
 use Rattle.heap_marking.proofs.MarkBegun as begun
 
@@ -26,7 +26,7 @@ module _ (w : SharedValue) (I : IsSharedValue w) (on : (accounts w).end ≡ None
       snapshot_now v l t x.0 (legal_sound w.program w.settings w.journal.items I.legal) stands.belongings x.1 wait (begun.waiting_rests w I on t wait) (stands.since t keeps)
 
   reached_held : (a : Addr) → IsInSnapshot G.fork (kept v t) a → HasObjectAt G.fork.heap a
-  reached_held a g = reached_within (Starts G.fork (kept v t)) (RefersTo G.fork.heap) (HasObjectAt G.fork.heap) (λ x s. s.0) (λ b x h d. d.1) a g
+  reached_held a g = reached_within (MarkStarts G.fork (kept v t)) (RefersTo G.fork.heap) (HasObjectAt G.fork.heap) (λ x s. s.0) (λ b x h d. d.1) a g
 
   written : (b a : Addr) → IsInSnapshot G.fork (kept v t) b → RefersTo ks b a → IsInSnapshot G.fork (kept v t) a
   written b a g d =
@@ -103,7 +103,7 @@ module _ (w : SharedValue) (I : IsSharedValue w) (on : (accounts w).end ≡ None
   kept_held = all_from (HasObjectAt ks) (kept v t) (λ b i. let o = (stands.since t keeps).each b i in subst (HasObjectAt ks) o.2 (begun.is_held w I on t r there wait keeps o.0 o.1))
 
   -- and each reference into a chunk of the heap leads to an object
-  pub closed : IsClosed ks
+  pub closed : HeapIsClosed ks
   closed = is_closed v l stands.belongings t (begun.waiting_rests w I on t wait) ks (begun.chunks_at_rest w t r there) form.shaped.apart form.near
 
   -- WHEN NOTHING IS LEFT

@@ -1,5 +1,5 @@
 -- The start of the marking of a waiting heap, computed from its words, is its start by the accounts.
-use Rattle.heap_marking.proofs.Common.{◌≡◌, ◌↔◌, ℕ, true, All, Option, Some, None, List, [], ◌∷◌, slice_get, inl, inr, refl, ap, sym, subst, ◌∙◌, flat_map, in_append_cases, in_append_left, in_append_right, in_flat, all_from, TaskStatus, Running, Waiting, Ended, Joined, Task, Name, is_waiting, waits, wait_there, Ledger, Addr, has_chunk, ChunkValue, HasObjectAt, Located, CallFrame, frames_of, RefField, AreFields, into, targets_of, references_in, Rests, AreRoots, HoldsAt, FramesAreRead, HoldsRead, Place, Stands, Belongings, In, Memory, objects, objects_of_chunks, sources, from_flat, lies_in, frame_name, ParkedTask, Work, Calls, Result, resting_references, chunks_of, heaps_of, sources_of, SharedValue, accounts, frames_down, belongings_by, belongings_in, belongings_of, rest_at, value_of, IsSharedValue, stands_now, into_tells, into_there, read_at_rest, noted_sources, IsStart, registers_of, starts_by, starts_in, starts_of}
+use Rattle.heap_marking.proofs.Common.{◌≡◌, ◌↔◌, ℕ, true, All, Option, Some, None, List, [], ◌∷◌, slice_get, inl, inr, refl, ap, sym, subst, ◌∙◌, flat_map, in_append_cases, in_append_left, in_append_right, in_flat, all_from, TaskStatus, Running, Waiting, Ended, Joined, Task, Name, is_waiting, waits, wait_there, Ledger, Addr, has_chunk, ChunkValue, HasObjectAt, Located, CallFrame, frames_of, RefField, AreFields, into, targets_of, references_in, Rests, AreRoots, HoldsAt, FramesAreRead, HoldsRead, LiesWithOwner, MemoryStands, Belongings, In, Memory, objects, objects_of_chunks, sources, from_flat, lies_in, frame_name, ParkedTask, Work, Calls, Result, resting_references, chunks_of, heaps_of, sources_of, SharedValue, accounts, frames_down, belongings_by, belongings_in, belongings_of, rest_at, value_of, IsSharedValue, stands_now, into_tells, into_there, read_at_rest, noted_sources, IsStart, registers_of, starts_by, starts_in, starts_of}
 use Rattle.core_invariant.proofs.RootsHeld as held
 use Rattle.heap_marking.proofs.MarkBegun as begun
 
@@ -49,7 +49,7 @@ module _ (w : SharedValue) (I : IsSharedValue w) (on : (accounts w).end ≡ None
   abbrev ss : List RefField
   ss = sources_of (slice_get w.sets t)
 
-  W : Stands v l
+  W : MemoryStands v l
   W = (stands_now w I on).belongings
 
   abbrev rests : Rests l t
@@ -77,13 +77,13 @@ module _ (w : SharedValue) (I : IsSharedValue w) (on : (accounts w).end ≡ None
   task : (x : Task) × (slice_get l.machine.tasks t ≡ Some x)
   task = wait_there (slice_get l.machine.tasks t) wait
 
-  registers_read : FramesAreRead (Place v l) (v.belongings t).frames (task.0.top ∷ task.0.below)
-  registers_read = frames_read (Place v l) (v.belongings t) task.0 task.0.status (ap is_waiting (sym task.1) ∙ wait) (W.tasks t task.0 rests task.1)
+  registers_read : FramesAreRead (LiesWithOwner v l) (v.belongings t).frames (task.0.top ∷ task.0.below)
+  registers_read = frames_read (LiesWithOwner v l) (v.belongings t) task.0 task.0.status (ap is_waiting (sym task.1) ∙ wait) (W.tasks t task.0 rests task.1)
 
   -- a register that leads into the heap leads to an object of it
   at_register : (f : CallFrame) (a : Addr) → In (v.belongings t).frames f → In f.refs (Some a) → has_chunk ks a.chunk ≡ true → (q : Located) × HoldsAt (v.belongings t) a q
   at_register f a i j h =
-      let n = frame_name (Place v l) (v.belongings t).frames (task.0.top ∷ task.0.below) f a registers_read i j in
+      let n = frame_name (LiesWithOwner v l) (v.belongings t).frames (task.0.top ∷ task.0.below) f a registers_read i j in
       let q = held.lies_here v l t W rests ks own_chunks ss sources_are (heaps_of w) read n.0 a n.2 (held.own_chunk v l t W rests ks own_chunks ss sources_are (heaps_of w) read a.chunk h) in
       (q.0, (subst (λ cs. In (objects_of_chunks cs) q.0) (sym own_chunks) q.1, q.2))
 

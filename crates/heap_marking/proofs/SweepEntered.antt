@@ -1,5 +1,5 @@
 -- A sweep is committed: the shared value after it, and the parts.
-use Rattle.heap_marking.proofs.Common.{◌≡◌, ℕ, ◌-◌, ◌==◌, ◌++◌, arith, Bool, true, false, Option, Some, None, is_none, List, [], ◌∷◌, length, option_map, slice_get, slice_set, inl, inr, refl, ap, ap₂, sym, subst, ◌∙◌, option_flatten, ◌≢◌, IsSome, cases_eq, eqb-true, same_Some, ReservedVecValue, got_other, got_within, all_from, none_some, Sweep, EntryValue, Ledger, Refused, Count, Left, refused_unless, heap_of, left_in, marked_in, sweep_number, swept_heap, with_heap, entry_tells, heap_machine, ChunkValue, PoolValue, slot_at, SetOf, Content, content_at, content_of, MarkingValue, marked_of, AreGiven, gone_of, KeepsJust, CountsGo, OthersNotes, Belongings, Memory, sources, StandsForAll, sweeps_stand_for, sweeps_leave, Private, ParkedTask, keeping, or_else, Enters, refused, AllFit, Fits, part_of, KeepsUnits, IsSharedValue, SharedValue, accounts, belongings_in, marks_at, noted_in, rest_at, tree_counts_of, value_of, ChangesRest, IsWell, changed_form, entered_world, entry_on, part_fits, rest_off, rest_then, given_keeps, part_kept, some_flat, marking_cause, CanSweep, SweepsSlot}
+use Rattle.heap_marking.proofs.Common.{◌≡◌, ℕ, ◌-◌, ◌==◌, ◌++◌, arith, Bool, true, false, Option, Some, None, is_none, List, [], ◌∷◌, length, option_map, slice_get, slice_set, inl, inr, refl, ap, ap₂, sym, subst, ◌∙◌, option_flatten, ◌≢◌, IsSome, cases_eq, eqb-true, same_Some, ReservedVecValue, got_other, got_within, all_from, none_some, Sweep, EntryValue, Ledger, Refused, Count, Left, refused_unless, heap_of, left_in, marked_in, sweep_number, swept_heap, with_heap, entry_tells, heap_machine, ChunkValue, PoolValue, slot_at, SetOf, Content, content_at, content_of, MarkingValue, marked_of, AreGiven, gone_of, KeepsJust, CountsGo, OthersNotes, Belongings, Memory, sources, StandsForAll, sweeps_stand_for, sweeps_leave, Private, ParkedTask, keeping, or_else, Enters, refused, EachPartStillFits, WorkerPartFits, part_of, KeepsUnits, IsSharedValue, SharedValue, accounts, belongings_in, marks_at, noted_in, rest_at, tree_counts_of, value_of, ChangesRest, IsWell, changed_form, entered_world, entry_on, part_fits, rest_off, rest_then, given_keeps, part_kept, some_flat, marking_cause, CanSweep, SweepsSlot}
 use Rattle.heap_marking.proofs.MarkCauses.{marks_refuse}
 use Rattle.heap_marking.proofs.SweptBelongings as swept
 use Rattle.heap_marking.proofs.SweptStart as start
@@ -149,10 +149,10 @@ module _ (w : SharedValue) (k t given : ℕ) (I : IsSharedValue w) (free : refus
         (changed_form I changes (λ x q. subst (IsWell pool t) (same_Some rest' x q) (swept.form_then w I on t T.cause T.none_left pool G slots spare, swept.measured_then w I on t T.cause T.none_left pool G slots spare)) refl many refl G.limit) stands
 
     -- a task that a worker holds is another one
-    apart : (u : ℕ) (q : Private) → Fits w u q → q.task ≡ t → ⊥
+    apart : (u : ℕ) (q : Private) → WorkerPartFits w u q → q.task ≡ t → ⊥
     apart u q F s = none_some (sym (start.rests w I on t T.cause) ∙ (ap (λ z. (heap_of l z).worker) (sym s) ∙ F.out))
 
-    pub swept_fits : AllFit w w'
+    pub swept_fits : EachPartStillFits w w'
     swept_fits u q F =
         part_fits I free enters swept_world u q q refl F refl F.form (part_kept w.pool pool q (keeps_units q.task (apart u q F)) F.measured)
         (sweeps_leave w.program w.settings w.journal.items I.legal v v' k t given free keeps (part_of w.settings q) F.fits)
@@ -172,5 +172,5 @@ module _ (w : SharedValue) (k t given : ℕ) (I : IsSharedValue w) (free : refus
     pub world_so : IsSharedValue entered_so
     world_so = subst IsSharedValue (sym so) (swept_world pool S.given S.slots S.spare sets many kept_none others (w.journal.room - 1))
 
-    pub fits_so : AllFit w entered_so
-    fits_so = subst (AllFit w) (sym so) (swept_fits pool S.given S.slots S.spare sets many kept_none others (w.journal.room - 1))
+    pub fits_so : EachPartStillFits w entered_so
+    fits_so = subst (EachPartStillFits w) (sym so) (swept_fits pool S.given S.slots S.spare sets many kept_none others (w.journal.room - 1))

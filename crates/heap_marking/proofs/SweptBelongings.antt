@@ -1,5 +1,5 @@
 -- A sweep leaves in a heap exactly what its snapshot names.
-use Rattle.heap_marking.proofs.Common.{◌≡◌, ℕ, ◌*◌, ◌/◌, arith, All, true, false, Option, Some, None, List, [], ◌∷◌, filter, length, option_map, slice_get, inl, inr, refl, ap, sym, subst, ◌∙◌, false≢true, not-true, same_Some, in_from_kept, in_kept, all_from, in_map, map_in, MachineState, row_of, is_joined, Heap, Ledger, heap_of, left_in, or_fresh, swept_heap, with_heap, holds_from_in, in_from_holds, Addr, ChunkValue, Located, Slot, PoolValue, slot_at, owner_of, slot_units, LeafHeapValue as HeapOfCode, IsFresh, room_of, with_places, unit_count, Level, marked_of, AreGiven, gone_of, goes, swept, units_in_slots, heap_then, with_at, KeepsJust, AreLaidOut, HasNames, BelongingsStand, Belongings, In, Memory, object_name, objects, objects_of_chunks, sources, ParkedTask, Work, Calls, Result, AreMeasured, chunk_of, chunks_of, HeapForm, IsSharedValue, SharedValue, accounts, belongings_by, belongings_of, value_of, places_form, free_at_rest, inside_from, laid_from, same_chunk, belongings_chunks, fresh_by, owned_before, marking_cause}
+use Rattle.heap_marking.proofs.Common.{◌≡◌, ℕ, ◌*◌, ◌/◌, arith, All, true, false, Option, Some, None, List, [], ◌∷◌, filter, length, option_map, slice_get, inl, inr, refl, ap, sym, subst, ◌∙◌, false≢true, not-true, same_Some, in_from_kept, in_kept, all_from, in_map, map_in, MachineState, row_of, is_joined, Heap, Ledger, heap_of, left_in, or_fresh, swept_heap, with_heap, holds_from_in, in_from_holds, Addr, ChunkValue, Located, Slot, PoolValue, slot_at, owner_of, slot_units, LeafHeapValue as HeapOfCode, IsFresh, room_of, with_places, unit_count, Level, marked_of, AreGiven, gone_of, goes, swept, units_in_slots, heap_then, with_at, KeepsJust, AreLaidOut, ChunksHaveNames, BelongingsStand, Belongings, In, Memory, object_name, objects, objects_of_chunks, sources, ParkedTask, Work, Calls, Result, AreMeasured, chunk_of, chunks_of, HeapForm, IsSharedValue, SharedValue, accounts, belongings_by, belongings_of, value_of, places_form, free_at_rest, inside_from, laid_from, same_chunk, belongings_chunks, fresh_by, owned_before, marking_cause}
 use Rattle.core_invariant.specs.below.refinement.{Chunk}
 use Rattle.heap_marking.proofs.SweptCells.{is_there}
 use Rattle.heap_marking.proofs.SweptChunks.{gone, has, left, objects_left}
@@ -162,7 +162,7 @@ module _ (w : SharedValue) (I : IsSharedValue w) (on : (accounts w).end ≡ None
 
       belongings_then : BelongingsStand v' L t
       belongings_then = record {
-        names = subst (λ cs. HasNames cs (heap_of L t)) (sym chunks_then) (subst (HasNames (chunks_of now)) (sym account)
+        names = subst (λ cs. ChunksHaveNames cs (heap_of L t)) (sym chunks_then) (subst (ChunksHaveNames (chunks_of now)) (sym account)
             (names_left kept l.machine a ks (form.filled kept r.heap F (start.none w I on t free) (start.large w I on t free)) (start.names w I on t free) (start.agree w I on t free none_left) (know w I on t free)));
         room = ap (λ (h : Belongings). h.room) belongings ∙ (room_there rest' ∙ (ap room_of heap_is
             ∙ (form.plain_room kept r.heap F (start.none w I on t free) (start.large w I on t free) a (start.names w I on t free).small (start.room w I on t free) (start.agree w I on t free none_left) ∙ sym (ap (λ (z : Heap). z.room) account))));

@@ -1,6 +1,6 @@
 -- What a sweep leaves of chunks, none of which is reserved: their objects, the objects' names, and the units that are
 -- released.
-use Rattle.heap_marking.proofs.Common.{◌≡◌, ℕ, suc, ◌+◌, ◌*◌, ◌/◌, ◌==◌, ◌++◌, arith, Bool, true, false, cond, not, None, List, [], ◌∷◌, All, filter, length, map, inl, inr, refl, ap, ap₂, sym, subst, ◌∙◌, eqb-true, false≢true, sum_by-append, sum_by-cons, map-append, filter-append, is_empty, in_append_left, in_append_right, Name, MachineState, units_sum, without_empty, words_at, Addr, moved_to, ChunkValue, Located, sifted_are_filtered, units, unit_count, has_address, goes, has_object, stays, swept_chunk, HoldsLarge, words, large_chunks, names_of, small_chunks, In, object_name, objects_of_chunks, chunk_of, chunks_of, SameWords}
+use Rattle.heap_marking.proofs.Common.{◌≡◌, ℕ, suc, ◌+◌, ◌*◌, ◌/◌, ◌==◌, ◌++◌, arith, Bool, true, false, cond, not, None, List, [], ◌∷◌, All, filter, length, map, inl, inr, refl, ap, ap₂, sym, subst, ◌∙◌, eqb-true, false≢true, sum_by-append, sum_by-cons, map-append, filter-append, is_empty, in_append_left, in_append_right, Name, MachineState, units_sum, without_empty, words_at, Addr, moved_to, ChunkValue, Located, sifted_are_filtered, units, unit_count, has_address, goes, has_object, stays, swept_chunk, HoldsLarge, words, large_chunks, chunk_names, small_chunks, In, object_name, objects_of_chunks, chunk_of, chunks_of, SameWords}
 use Rattle.heap_marking.proofs.SweptCells.{is_there, object_left}
 
 -- a chunk of a heap without a reserved one
@@ -66,9 +66,9 @@ module _ (kept : List Addr) where
     empty_is (o ∷ os) = refl
 
     abbrev pub names : ChunkValue → List Name
-    names k = filter keep (names_of (chunk_of k))
+    names k = filter keep (chunk_names (chunk_of k))
 
-    names_are : (k : ChunkValue) → Agrees (chunk_of k).objects → names_of (chunk_of (swept_chunk kept k)) ≡ names k
+    names_are : (k : ChunkValue) → Agrees (chunk_of k).objects → chunk_names (chunk_of (swept_chunk kept k)) ≡ names k
     names_are k A = ap (map object_name) (swept_is k) ∙ names_kept (chunk_of k).objects A
 
     pub has_names : (k : ChunkValue) → IsFilled k → Agrees (chunk_of k).objects → has k ≡ not (is_empty (names k))
@@ -89,21 +89,21 @@ module _ (kept : List Addr) where
 
     -- of small objects, chunk by chunk
     abbrev lists : List ChunkValue → List (List Name)
-    lists ks = without_empty (map (filter keep) (map names_of (small_chunks (chunks_of ks))))
+    lists ks = without_empty (map (filter keep) (map chunk_names (small_chunks (chunks_of ks))))
 
-    pub small_left : (ks : List ChunkValue) → AreFilled ks → Agrees (objects_of_chunks (chunks_of ks)) → map names_of (small_chunks (chunks_of (left ks))) ≡ without_empty (map (filter keep) (map names_of (small_chunks (chunks_of ks))))
+    pub small_left : (ks : List ChunkValue) → AreFilled ks → Agrees (objects_of_chunks (chunks_of ks)) → map chunk_names (small_chunks (chunks_of (left ks))) ≡ without_empty (map (filter keep) (map chunk_names (small_chunks (chunks_of ks))))
     small_left [] F A = refl
     small_left (k ∷ ks) F A = small_left_by_cases (has k) refl (k.size == 1024) refl (small_left ks (λ j i. F j (inr i)) (behind k ks A))
       where
-        small_left_by_cases : (b : Bool) → has k ≡ b → (s : Bool) → (k.size == 1024) ≡ s → map names_of (small_chunks (chunks_of (left ks))) ≡ lists ks
-            → map names_of (small_chunks (chunks_of (map (swept_chunk kept) (cond b (k ∷ filter (stays kept None) ks) (filter (stays kept None) ks)))))
-            ≡ without_empty (map (filter keep) (map names_of (cond (not (not s)) (chunk_of k ∷ small_chunks (chunks_of ks)) (small_chunks (chunks_of ks)))))
+        small_left_by_cases : (b : Bool) → has k ≡ b → (s : Bool) → (k.size == 1024) ≡ s → map chunk_names (small_chunks (chunks_of (left ks))) ≡ lists ks
+            → map chunk_names (small_chunks (chunks_of (map (swept_chunk kept) (cond b (k ∷ filter (stays kept None) ks) (filter (stays kept None) ks)))))
+            ≡ without_empty (map (filter keep) (map chunk_names (cond (not (not s)) (chunk_of k ∷ small_chunks (chunks_of ks)) (small_chunks (chunks_of ks)))))
         small_left_by_cases true e true q go =
-            ap (λ z. map names_of (cond (not (not z)) (chunk_of (swept_chunk kept k) ∷ small_chunks (chunks_of (left ks))) (small_chunks (chunks_of (left ks))))) q
+            ap (λ z. map chunk_names (cond (not (not z)) (chunk_of (swept_chunk kept k) ∷ small_chunks (chunks_of (left ks))) (small_chunks (chunks_of (left ks))))) q
             ∙ (ap₂ (λ n ns. n ∷ ns) (names_are k (first_agrees k ks A)) go
             ∙ ap (λ z. cond z (names k ∷ lists ks) (lists ks)) (sym e ∙ has_names k (F k (inl refl)) (first_agrees k ks A)))
         small_left_by_cases true e false q go =
-            ap (λ z. map names_of (cond (not (not z)) (chunk_of (swept_chunk kept k) ∷ small_chunks (chunks_of (left ks))) (small_chunks (chunks_of (left ks))))) q ∙ go
+            ap (λ z. map chunk_names (cond (not (not z)) (chunk_of (swept_chunk kept k) ∷ small_chunks (chunks_of (left ks))) (small_chunks (chunks_of (left ks))))) q ∙ go
         small_left_by_cases false e true q go = go ∙ ap (λ z. cond z (names k ∷ lists ks) (lists ks)) (sym e ∙ has_names k (F k (inl refl)) (first_agrees k ks A))
         small_left_by_cases false e false q go = go
 
@@ -116,7 +116,7 @@ module _ (kept : List Addr) where
     large_left (k ∷ ks) F A = large_left_by_cases (has k) refl (k.size == 1024) refl (large_left ks (λ j i. F j (inr i)) (behind k ks A))
       where
         both : filter keep (map object_name ((chunk_of k).objects ++ objects_of_chunks (large_chunks (chunks_of ks)))) ≡ names k ++ filter keep (large ks)
-        both = ap (filter keep) (map-append object_name (chunk_of k).objects (objects_of_chunks (large_chunks (chunks_of ks)))) ∙ filter-append keep (names_of (chunk_of k)) (large ks)
+        both = ap (filter keep) (map-append object_name (chunk_of k).objects (objects_of_chunks (large_chunks (chunks_of ks)))) ∙ filter-append keep (chunk_names (chunk_of k)) (large ks)
 
         large_left_by_cases : (b : Bool) → has k ≡ b → (s : Bool) → (k.size == 1024) ≡ s → large (left ks) ≡ filter keep (large ks)
             → map object_name (objects_of_chunks (large_chunks (chunks_of (map (swept_chunk kept) (cond b (k ∷ filter (stays kept None) ks) (filter (stays kept None) ks))))))

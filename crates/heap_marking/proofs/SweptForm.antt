@@ -1,5 +1,5 @@
 -- The heap after a sweep has the form of a heap, and the room that its account says.
-use Rattle.heap_marking.proofs.Common.{◌≡◌, ℕ, ◌-◌, ◌*◌, ◌/◌, ◌≤◌, ◌==◌, arith, Bool, true, false, cond, not, Option, Some, None, List, [], map, refl, ap, sym, subst, ◌∙◌, ne_eqb, false≢true, All-get_or, is_empty, in_from_kept, all_from, in_map, read_in, none_some, Heap, in_snapshot, is_last_empty, swept_heap, holds_name, Addr, chunk_at, no_chunk, place_in, ChunkValue, Located, chunk_there, AreWithin, LeafHeapValue, IsCurrent, IsSettled, IsTidy, room_at, room_of, gone_of, chunk_number_at, place_at, swept, HoldsLarge, In, objects_of_chunks, in_objects, IsLastSmall, chunk_of, chunks_of, HeapForm, Formed, place_there}
+use Rattle.heap_marking.proofs.Common.{◌≡◌, ℕ, ◌-◌, ◌*◌, ◌/◌, ◌≤◌, ◌==◌, arith, Bool, true, false, cond, not, Option, Some, None, List, [], map, refl, ap, sym, subst, ◌∙◌, ne_eqb, false≢true, All-get_or, is_empty, in_from_kept, all_from, in_map, read_in, none_some, Heap, in_snapshot, is_last_empty, swept_heap, holds_name, Addr, chunk_at, no_chunk, place_in, ChunkValue, Located, chunk_there, CellsFitInChunks, LeafHeapValue, IsCurrent, IsSettled, IsTidy, room_at, room_of, gone_of, chunk_number_at, place_at, swept, HoldsLarge, In, objects_of_chunks, in_objects, IsLastSmall, chunk_of, chunks_of, HeapForm, Formed, place_there}
 use Rattle.core_invariant.specs.below.object_layout.{words_in}
 use Rattle.core_invariant.proofs.below.leaf_heap.HeapLemmas as heap
 use Rattle.core_invariant.proofs.below.mark_sweep_gc.Kept as kept_chunks
@@ -42,7 +42,7 @@ module _ (kept : List Addr) (h : LeafHeapValue) (F : HeapForm h) (none : h.reser
   was : (o : Located) → In (objects_of_chunks (chunks_of (left kept h.chunks))) o → In (objects_of_chunks (chunks_of h.chunks)) o
   was o i = (in_from_kept (is_there kept) (objects_of_chunks (chunks_of h.chunks)) o (subst (λ os. In os o) (objects_left kept h.chunks filled) i)).0
 
-  within_left : AreWithin (left kept h.chunks)
+  within_left : CellsFitInChunks (left kept h.chunks)
   within_left = all_from (λ (k : ChunkValue). words_in k.cells ≤ k.size) (left kept h.chunks) (λ k i.
       let x = left_was kept h.chunks k i in
       let w : words_in x.0.cells ≤ x.0.size = read_in (λ (k : ChunkValue). words_in k.cells ≤ k.size) h.chunks x.0 x.1 F.within in

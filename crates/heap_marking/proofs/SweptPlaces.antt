@@ -1,12 +1,12 @@
 -- The positions of the chunks after a sweep: in the same order as before.
-use Rattle.heap_marking.proofs.Common.{◌≡◌, ℕ, zero, suc, ◌+◌, ◌<◌, ◌==◌, arith, Bool, true, false, cond, not, Some, None, List, [], ◌∷◌, filter, length, map, refl, ap, sym, subst, ◌∙◌, eq-eqb, ne_eqb, cond-false, cond-true, eqb-true, false≢true, is_empty, in_from_kept, map_in, Name, is_last_empty, Addr, chunk_at, place_of, ChunkValue, chunk_there, IsFresh, stays, swept_chunk, names_of, small_chunks, In, IsLastSmall, chunk_of, chunks_of, fresh_off, place_there, same_chunk, fresh_by}
+use Rattle.heap_marking.proofs.Common.{◌≡◌, ℕ, zero, suc, ◌+◌, ◌<◌, ◌==◌, arith, Bool, true, false, cond, not, Some, None, List, [], ◌∷◌, filter, length, map, refl, ap, sym, subst, ◌∙◌, eq-eqb, ne_eqb, cond-false, cond-true, eqb-true, false≢true, is_empty, in_from_kept, map_in, Name, is_last_empty, Addr, chunk_at, chunk_position, ChunkValue, chunk_there, IsFresh, stays, swept_chunk, chunk_names, small_chunks, In, IsLastSmall, chunk_of, chunks_of, fresh_off, place_there, same_chunk, fresh_by}
 use Rattle.core_invariant.specs.below.leaf_heap.{HaveDistinctNumbers}
 use Rattle.heap_marking.proofs.SweptChunks.{has, left}
 
 -- the list has a chunk of this number, with such ones after it
 pub record StandsBefore (ls : List ChunkValue) (n : ℕ) (k : ChunkValue) (Q : ChunkValue → Type 0) : Type 0 where
   pub at : ℕ
-  pub place : place_of ls n ≡ at
+  pub place : chunk_position ls n ≡ at
   pub within : at < length ls
   pub is : chunk_at ls at ≡ k
   pub behind : (j : ℕ) → at < j → j < length ls → Q (chunk_at ls j)
@@ -40,7 +40,7 @@ module _ (kept : List Addr) where
         first : StandsBefore (swept_chunk kept k ∷ left kept ks) k.number (swept_chunk kept k) Q
         first = record {
           at = 0;
-          place = cond-true (k.number == k.number) 0 (1 + place_of (left kept ks) k.number) (eq-eqb k.number k.number refl);
+          place = cond-true (k.number == k.number) 0 (1 + chunk_position (left kept ks) k.number) (eq-eqb k.number k.number refl);
           within = omega arith;
           is = refl;
           behind = behind;
@@ -55,7 +55,7 @@ module _ (kept : List Addr) where
         stays_before_by_cases false e S = S
         stays_before_by_cases true e S = record {
           at = suc S.at;
-          place = cond-false (k.number == (chunk_at ks i).number) 0 (1 + place_of (left kept ks) (chunk_at ks i).number) (ne_eqb k.number (chunk_at ks i).number other) ∙ (let p = S.place in omega (arith, p));
+          place = cond-false (k.number == (chunk_at ks i).number) 0 (1 + chunk_position (left kept ks) (chunk_at ks i).number) (ne_eqb k.number (chunk_at ks i).number other) ∙ (let p = S.place in omega (arith, p));
           within = let w = S.within in omega (arith, w);
           is = S.is;
           behind = behind S;
@@ -74,11 +74,11 @@ module _ (kept : List Addr) where
 
 -- THE LAST LIST of names is that of the last small chunk
 abbrev pub small_names_of : List ChunkValue → List (List Name)
-small_names_of ks = map names_of (small_chunks (chunks_of ks))
+small_names_of ks = map chunk_names (small_chunks (chunks_of ks))
 
 -- with a chunk in front of them
 abbrev names_with : Bool → ChunkValue → List ChunkValue → List (List Name)
-names_with b k ks = map names_of (cond (not (not b)) (chunk_of k ∷ small_chunks (chunks_of ks)) (small_chunks (chunks_of ks)))
+names_with b k ks = map chunk_names (cond (not (not b)) (chunk_of k ∷ small_chunks (chunks_of ks)) (small_chunks (chunks_of ks)))
 
 none_small : (ks : List ChunkValue) → ((j : ℕ) → j < length ks → (chunk_at ks j).size ≡ 1024 → ⊥) → small_names_of ks ≡ []
 none_small [] f = refl
@@ -90,21 +90,21 @@ none_small (k ∷ ks) f = none_small_by_cases (k.size == 1024) refl (none_small 
 
 some_small : (ks : List ChunkValue) (i : ℕ) → i < length ks → (chunk_at ks i).size ≡ 1024 → (ns : List Name) × (rest : List (List Name)) × (small_names_of ks ≡ ns ∷ rest)
 some_small [] i l e = absurd (omega (arith, l))
-some_small (k ∷ ks) zero l e = (names_of (chunk_of k), small_names_of ks, ap (λ b. names_with b k ks) (eq-eqb k.size 1024 e))
+some_small (k ∷ ks) zero l e = (chunk_names (chunk_of k), small_names_of ks, ap (λ b. names_with b k ks) (eq-eqb k.size 1024 e))
 some_small (k ∷ ks) (suc i) l e = some_small_by_cases (k.size == 1024) (some_small ks i (omega (arith, l)) e)
   where
     some_small_by_cases : (b : Bool) → (ns : List Name) × (rest : List (List Name)) × (small_names_of ks ≡ ns ∷ rest) → (ns : List Name) × (rest : List (List Name)) × (names_with b k ks ≡ ns ∷ rest)
-    some_small_by_cases true go = (names_of (chunk_of k), small_names_of ks, refl)
+    some_small_by_cases true go = (chunk_names (chunk_of k), small_names_of ks, refl)
     some_small_by_cases false go = go
 
-pub last_empty : (f : List Name → List Name) (ks : List ChunkValue) (i : ℕ) → i < length ks → (chunk_at ks i).size ≡ 1024 → IsLastSmall ks (Some i) → is_last_empty (map f (small_names_of ks)) ≡ is_empty (f (names_of (chunk_of (chunk_at ks i))))
+pub last_empty : (f : List Name → List Name) (ks : List ChunkValue) (i : ℕ) → i < length ks → (chunk_at ks i).size ≡ 1024 → IsLastSmall ks (Some i) → is_last_empty (map f (small_names_of ks)) ≡ is_empty (f (chunk_names (chunk_of (chunk_at ks i))))
 last_empty f [] i l e last = absurd (omega (arith, l))
 last_empty f (k ∷ ks) zero l e last =
-    ap (λ z. is_last_empty (map f z)) (ap (λ b. names_with b k ks) (eq-eqb k.size 1024 e) ∙ ap (λ ns. names_of (chunk_of k) ∷ ns) (none_small ks (λ j b. last (suc j) (omega arith) (omega (arith, b)))))
+    ap (λ z. is_last_empty (map f z)) (ap (λ b. names_with b k ks) (eq-eqb k.size 1024 e) ∙ ap (λ ns. chunk_names (chunk_of k) ∷ ns) (none_small ks (λ j b. last (suc j) (omega arith) (omega (arith, b)))))
 last_empty f (k ∷ ks) (suc i) l e last =
     last_empty_by_cases (k.size == 1024) (some_small ks i (omega (arith, l)) e) (last_empty f ks i (omega (arith, l)) e (λ j b w. last (suc j) (omega (arith, b)) (omega (arith, w))))
   where
-    last_empty_by_cases : (b : Bool) → (ns : List Name) × (rest : List (List Name)) × (small_names_of ks ≡ ns ∷ rest) → is_last_empty (map f (small_names_of ks)) ≡ is_empty (f (names_of (chunk_of (chunk_at ks i))))
-        → is_last_empty (map f (names_with b k ks)) ≡ is_empty (f (names_of (chunk_of (chunk_at ks i))))
+    last_empty_by_cases : (b : Bool) → (ns : List Name) × (rest : List (List Name)) × (small_names_of ks ≡ ns ∷ rest) → is_last_empty (map f (small_names_of ks)) ≡ is_empty (f (chunk_names (chunk_of (chunk_at ks i))))
+        → is_last_empty (map f (names_with b k ks)) ≡ is_empty (f (chunk_names (chunk_of (chunk_at ks i))))
     last_empty_by_cases false some go = go
-    last_empty_by_cases true some go = ap (λ z. is_last_empty (f (names_of (chunk_of k)) ∷ map f z)) some.2 ∙ (sym (ap (λ z. is_last_empty (map f z)) some.2) ∙ go)
+    last_empty_by_cases true some go = ap (λ z. is_last_empty (f (chunk_names (chunk_of k)) ∷ map f z)) some.2 ∙ (sym (ap (λ z. is_last_empty (map f z)) some.2) ∙ go)

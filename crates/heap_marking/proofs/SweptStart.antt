@@ -1,5 +1,5 @@
 -- What is known of a completely marked heap before it is swept.
-use Rattle.heap_marking.proofs.Common.{◌≡◌, ℕ, zero, suc, arith, not, true, Option, Some, None, slice_get, refl, ap, sym, subst, ◌∙◌, contains_from_in, in_from_contains, in_map, same_truth, TaskStatus, Running, Waiting, Ended, Joined, Task, is_running, is_waiting, runs, waits, Heap, Ledger, heap_of, held_in, left_in, holds_name, snapshots_are_held, holds_from_in, in_from_holds, chunks_are_used, room_of, IsDone, has_address, marked_of, has_in, in_has, all_marked_is_done, Rests, AreLaidOut, MarkedBy, kept as kept_of, HasNames, BelongingsStand, Belongings, In, Memory, object_name, objects, objects_of_chunks, StandsFor, Located, marks_are_all, AreReserved, ParkedTask, Work, Calls, Result, chunk_of, chunks_of, SharedValue, accounts, belongings_by, belongings_in, belongings_of, tree_counts_of, value_of, HeapForm, IsSharedValue, counted_from, reserved_none, stands_now, marking_cause, StandsMarked}
+use Rattle.heap_marking.proofs.Common.{◌≡◌, ℕ, zero, suc, arith, not, true, Option, Some, None, slice_get, refl, ap, sym, subst, ◌∙◌, contains_from_in, in_from_contains, in_map, same_truth, TaskStatus, Running, Waiting, Ended, Joined, Task, is_running, is_waiting, runs, waits, Heap, Ledger, heap_of, held_in, left_in, holds_name, snapshots_are_held, holds_from_in, in_from_holds, chunks_are_used, room_of, IsDone, has_address, marked_of, has_in, in_has, all_marked_is_done, Rests, AreLaidOut, MarkedBy, kept as kept_of, ChunksHaveNames, BelongingsStand, Belongings, In, Memory, object_name, objects, objects_of_chunks, StandsFor, Located, marks_are_all, HasReservedUnits, ParkedTask, Work, Calls, Result, chunk_of, chunks_of, SharedValue, accounts, belongings_by, belongings_in, belongings_of, tree_counts_of, value_of, HeapForm, IsSharedValue, counted_from, reserved_none, stands_now, marking_cause, StandsMarked}
 use Rattle.heap_marking.proofs.MarkBegun as begun
 use Rattle.heap_marking.proofs.MarkedHeap.{marked_heap_stands}
 use Rattle.heap_marking.proofs.SweptChunks.{Agrees}
@@ -67,8 +67,8 @@ module _ (w : SharedValue) (I : IsSharedValue w) (on : (accounts w).end ≡ None
   pub laid : AreLaidOut (chunks_of Z.rest.heap.chunks) a.reserved
   laid = subst (λ cs. AreLaidOut cs a.reserved) chunks_here H.laid
 
-  pub names : HasNames (chunks_of Z.rest.heap.chunks) a
-  names = subst (λ cs. HasNames cs a) chunks_here H.names
+  pub names : ChunksHaveNames (chunks_of Z.rest.heap.chunks) a
+  names = subst (λ cs. ChunksHaveNames cs a) chunks_here H.names
 
   pub room : room_of Z.rest.heap ≡ a.room
   room = sym (room_there Z.rest) ∙ (ap (λ (h : Belongings). h.room) (sym own_belongings) ∙ H.room)
@@ -85,7 +85,7 @@ module _ (w : SharedValue) (I : IsSharedValue w) (on : (accounts w).end ≡ None
       nothing_reserved_by_cases (suc n) e = absurd (apart (slice_get l.machine.tasks t) ((chunks_are_used w.program w.settings w.journal.items I.legal).reserved t (omega (arith, e))).runs Z.wait)
 
   pub none : Z.rest.heap.reserved ≡ None
-  none = reserved_none Z.rest.heap form Z.rest.heap.reserved refl (subst (AreReserved Z.rest.heap.chunks Z.rest.heap.reserved) nothing_reserved (counted_from Z.rest.heap a form names room since laid.reserved).reserved)
+  none = reserved_none Z.rest.heap form Z.rest.heap.reserved refl (subst (HasReservedUnits Z.rest.heap.chunks Z.rest.heap.reserved) nothing_reserved (counted_from Z.rest.heap a form names room since laid.reserved).reserved)
 
   pub large : HoldLarge Z.rest.heap.chunks
   large k i q = laid.large (chunk_of k) (in_map chunk_of Z.rest.heap.chunks k i) (ap not q)

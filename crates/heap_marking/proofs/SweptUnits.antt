@@ -1,26 +1,26 @@
 -- How many units a sweep releases with its chunks: as the account says.
-use Rattle.heap_marking.proofs.Common.{◌≡◌, ℕ, zero, suc, ◌+◌, ◌-◌, ◌*◌, ◌^◌, ◌<◌, ◌≤◌, ◌==◌, ◌++◌, arith, Bool, true, false, cond, not, Option, Some, None, List, [], ◌∷◌, filter, length, length-append, map, min, sum_by, slice_get, inl, inr, refl, ap, ap₂, sym, subst, ◌∙◌, unwrap_or, flat_map, same_Some, length-map, map-append, length-take-le, sum_by-append, sum_by-cons, in_append_left, in_append_right, MachineState, Heap, Ledger, begun_in, heap_of, held, held_in, in_use, left_in, marked_in, or_fresh, small_in, sweep_number, swept_heap, units_in, units_sum, without_empty, words_at, words_sum, holds_name, heaps_fit, use_is_bounded, Addr, ChunkValue, Located, counted32, unit_count, IsDone, MarkingValue, marked_of, gone_of, found_few, words, MarkedBy, HasNames, large_chunks, names_of, small_chunks, In, object_name, objects_of_chunks, ParkedTask, chunk_of, chunks_of, SharedValue, accounts, marks_at, rest_at, value_of, IsSharedValue, words_same, objects_counted, marking_cause}
+use Rattle.heap_marking.proofs.Common.{◌≡◌, ℕ, zero, suc, ◌+◌, ◌-◌, ◌*◌, ◌^◌, ◌<◌, ◌≤◌, ◌==◌, ◌++◌, arith, Bool, true, false, cond, not, Option, Some, None, List, [], ◌∷◌, filter, length, length-append, map, min, sum_by, slice_get, inl, inr, refl, ap, ap₂, sym, subst, ◌∙◌, unwrap_or, flat_map, same_Some, length-map, map-append, length-take-le, sum_by-append, sum_by-cons, in_append_left, in_append_right, MachineState, Heap, Ledger, begun_in, heap_of, held, held_in, in_use, left_in, marked_in, or_fresh, small_in, sweep_number, swept_heap, units_in, units_sum, without_empty, words_at, words_sum, holds_name, heaps_fit, use_is_bounded, Addr, ChunkValue, Located, counted32, unit_count, IsDone, MarkingValue, marked_of, gone_of, found_few, words, MarkedBy, ChunksHaveNames, large_chunks, chunk_names, small_chunks, In, object_name, objects_of_chunks, ParkedTask, chunk_of, chunks_of, SharedValue, accounts, marks_at, rest_at, value_of, IsSharedValue, words_same, objects_counted, marking_cause}
 use Rattle.heap_marking.proofs.SweptChunks.{Agrees, AreFilled, Goes, KnowWords, gone, large_left, large_units, left, many, small_left, units_gone}
 use Rattle.heap_marking.proofs.SweptForm.{filled, gone_plain}
 use Rattle.heap_marking.proofs.SweptStart as start
 
 -- THE NUMBER OF A SWEEP, of chunks with these names
-module _ (kept : List Addr) (m : MachineState) (a : Heap) (ks : List ChunkValue) (F : AreFilled ks) (N : HasNames (chunks_of ks) a) (A : Agrees kept (holds_name a.snapshot) (objects_of_chunks (chunks_of ks))) (W : KnowWords kept m (objects_of_chunks (chunks_of ks))) where
+module _ (kept : List Addr) (m : MachineState) (a : Heap) (ks : List ChunkValue) (F : AreFilled ks) (N : ChunksHaveNames (chunks_of ks) a) (A : Agrees kept (holds_name a.snapshot) (objects_of_chunks (chunks_of ks))) (W : KnowWords kept m (objects_of_chunks (chunks_of ks))) where
   G : Goes kept m ks
   G = units_gone kept m ks F W
 
   -- its names after it is swept
-  pub names_left : HasNames (chunks_of (left kept ks)) (swept_heap a)
+  pub names_left : ChunksHaveNames (chunks_of (left kept ks)) (swept_heap a)
   names_left = record {
     small = small_left kept (holds_name a.snapshot) ks F A ∙ ap (λ ls. without_empty (map (filter (holds_name a.snapshot)) ls)) N.small;
     large = large_left kept (holds_name a.snapshot) ks F A ∙ ap (filter (holds_name a.snapshot)) N.large;
   }
 
   lists_before : length a.chunks ≡ many kept ks
-  lists_before = ap length (sym N.small) ∙ length-map (small_chunks (chunks_of ks)) names_of
+  lists_before = ap length (sym N.small) ∙ length-map (small_chunks (chunks_of ks)) chunk_names
 
   lists_after : length (swept_heap a).chunks ≡ many kept (left kept ks)
-  lists_after = ap length (sym names_left.small) ∙ length-map (small_chunks (chunks_of (left kept ks))) names_of
+  lists_after = ap length (sym names_left.small) ∙ length-map (small_chunks (chunks_of (left kept ks))) chunk_names
 
   large_before : units_sum m a.large ≡ large_units kept m ks
   large_before = ap (units_sum m) (sym N.large)
@@ -76,7 +76,7 @@ module _ (m : MachineState) where
       omega (arith, s, w, go)
 
   abbrev small_words : List ChunkValue → ℕ
-  small_words ks = words_sum m (flat_map (λ ns. ns) (map names_of (small_chunks (chunks_of ks))))
+  small_words ks = words_sum m (flat_map (λ ns. ns) (map chunk_names (small_chunks (chunks_of ks))))
 
   abbrev large_words : List ChunkValue → ℕ
   large_words ks = words_sum m (map object_name (objects_of_chunks (large_chunks (chunks_of ks))))
@@ -90,18 +90,18 @@ module _ (m : MachineState) where
       long : length ((chunk_of k).objects ++ objects_of_chunks (chunks_of ks)) ≡ length (chunk_of k).objects + length (objects_of_chunks (chunks_of ks))
       long = length-append (chunk_of k).objects (objects_of_chunks (chunks_of ks))
 
-      chunks_few_by_cases : (b : Bool) → length (chunk_of k).objects ≤ words_sum m (names_of (chunk_of k)) → length (objects_of_chunks (chunks_of ks)) ≤ small_words ks + large_words ks
+      chunks_few_by_cases : (b : Bool) → length (chunk_of k).objects ≤ words_sum m (chunk_names (chunk_of k)) → length (objects_of_chunks (chunks_of ks)) ≤ small_words ks + large_words ks
           → length (objects_of_chunks (chunks_of (k ∷ ks)))
-          ≤ words_sum m (flat_map (λ ns. ns) (map names_of (cond (not (not b)) (chunk_of k ∷ small_chunks (chunks_of ks)) (small_chunks (chunks_of ks)))))
+          ≤ words_sum m (flat_map (λ ns. ns) (map chunk_names (cond (not (not b)) (chunk_of k ∷ small_chunks (chunks_of ks)) (small_chunks (chunks_of ks)))))
           + words_sum m (map object_name (objects_of_chunks (cond (not b) (chunk_of k ∷ large_chunks (chunks_of ks)) (large_chunks (chunks_of ks)))))
       chunks_few_by_cases true own go =
-          let s = sum_by-append (words_at m) (names_of (chunk_of k)) (flat_map (λ ns. ns) (map names_of (small_chunks (chunks_of ks)))) in
+          let s = sum_by-append (words_at m) (chunk_names (chunk_of k)) (flat_map (λ ns. ns) (map chunk_names (small_chunks (chunks_of ks)))) in
           omega (arith, long, own, go, s)
       chunks_few_by_cases false own go =
-          let s = ap (words_sum m) (map-append object_name (chunk_of k).objects (objects_of_chunks (large_chunks (chunks_of ks)))) ∙ sum_by-append (words_at m) (names_of (chunk_of k)) (map object_name (objects_of_chunks (large_chunks (chunks_of ks)))) in
+          let s = ap (words_sum m) (map-append object_name (chunk_of k).objects (objects_of_chunks (large_chunks (chunks_of ks)))) ∙ sum_by-append (words_at m) (chunk_names (chunk_of k)) (map object_name (objects_of_chunks (large_chunks (chunks_of ks)))) in
           omega (arith, long, own, go, s)
 
-  pub held_few : (a : Heap) (ks : List ChunkValue) → HasNames (chunks_of ks) a → Know (objects_of_chunks (chunks_of ks)) → length (objects_of_chunks (chunks_of ks)) ≤ words_sum m (held_in a)
+  pub held_few : (a : Heap) (ks : List ChunkValue) → ChunksHaveNames (chunks_of ks) a → Know (objects_of_chunks (chunks_of ks)) → length (objects_of_chunks (chunks_of ks)) ≤ words_sum m (held_in a)
   held_few a ks N W =
       let both = sum_by-append (words_at m) (small_in a) a.large in
       let small = ap (λ ls. words_sum m (flat_map (λ ns. ns) ls)) N.small in

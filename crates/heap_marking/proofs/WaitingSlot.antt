@@ -1,5 +1,5 @@
 -- What is known of a task that waits and whose heap wasn't swept since its fork.
-use Rattle.heap_marking.proofs.Common.{◌≡◌, ℕ, true, false, Bool, Option, Some, None, is_some, option_map, slice_get, refl, ap, sym, subst, ◌∙◌, Task, is_waiting, waits_is, wait_there, waiting_stops, Ledger, NotWaiting, Swept, refused_unless, legal_idle, HoldsRead, Place, Memory, StandsFor, ParkedTask, SharedValue, accounts, noted_in, rest_at, tree_counts_of, value_of, IsSharedValue, stands_now, HasCalls, has_calls, some_calls, is_state_waiting, waiting_cause}
+use Rattle.heap_marking.proofs.Common.{◌≡◌, ℕ, true, false, Bool, Option, Some, None, is_some, option_map, slice_get, refl, ap, sym, subst, ◌∙◌, Task, is_waiting, waits_is, wait_there, waiting_stops, Ledger, NotWaiting, Swept, refused_unless, legal_idle, HoldsRead, LiesWithOwner, Memory, StandsFor, ParkedTask, SharedValue, accounts, noted_in, rest_at, tree_counts_of, value_of, IsSharedValue, stands_now, HasCalls, has_calls, some_calls, is_state_waiting, waiting_cause}
 use Rattle.heap_marking.proofs.MarkCauses.{waits_told}
 
 -- there is no cause
@@ -38,7 +38,7 @@ module _ (w : SharedValue) (I : IsSharedValue w) (on : (accounts w).end ≡ None
   calls : HasCalls (rest_at w.rests t)
   calls =
       let idle = legal_idle w.program w.settings w.journal.items I.legal on t (waiting_stops (slice_get l.machine.tasks t) wait) in
-      has_calls (Place v l) (rest_at w.rests t) task.0 (subst (HoldsRead (Place v l) (v.belongings t) task.0) (waits_is task.0.status (ap is_waiting (sym task.1) ∙ wait)) (S.belongings.tasks t task.0 idle task.1))
+      has_calls (LiesWithOwner v l) (rest_at w.rests t) task.0 (subst (HoldsRead (LiesWithOwner v l) (v.belongings t) task.0) (waits_is task.0.status (ap is_waiting (sym task.1) ∙ wait)) (S.belongings.tasks t task.0 idle task.1))
 
   pub rest : (r : ParkedTask) × (rest_at w.rests t ≡ Some r)
   rest = some_of (rest_at w.rests t) (some_calls (rest_at w.rests t) calls)

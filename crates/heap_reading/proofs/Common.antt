@@ -21,9 +21,9 @@ pub use Rattle.core_invariant.specs.below.hh_lang.{IsProgram, ProgramText}
 pub use Rattle.core_invariant.specs.below.hh_model.{End, Done, MachineState, asked, can_step, is_running, step, Name, TaskStatus, Running, Waiting, Ended, Joined, runs, Trapped, Entangled, owner_of, Task, is_joined, is_over, joined, parents, TreeOf, joins_in, waiting}
 pub use Rattle.core_invariant.specs.below.leaf_heap.{saturating_words}
 pub use Rattle.core_invariant.specs.below.ledger_step_laws.{own, Rests, rested, LastStepEndsRun, GoesOn, Halts, IdleRest, IsOfKind, LastKind, Private, Reading, Writing, Printing, Forking, Ending, Joining, Finishing, Halting, RunsPrivateSteps}
-pub use Rattle.core_invariant.specs.below.object_layout.{Addr, word_of_ref, Located, held_words, object_count, ChunkValue, Born, Cell, Hole, IsBorn, IsObject, Moved, moved_to, size_of, chunk_at, place_in, place_of, cells_from, Birth, located, located_by, objects_from, object_at, IsPlace, IsRef, cell_at, IsCellAt}
+pub use Rattle.core_invariant.specs.below.object_layout.{Addr, word_of_ref, Located, held_words, object_count, ChunkValue, Born, Cell, Hole, IsBorn, IsObject, Moved, moved_to, size_of, chunk_at, place_in, chunk_position, cells_from, Birth, located, located_by, objects_from, object_at, BeginsInFirstUnit, IsRef, cell_at, IsCellAt}
 pub use Rattle.core_invariant.specs.below.path_laws.{AreOwners, IsWalkOfJoined}
-pub use Rattle.core_invariant.specs.below.refinement.{objects_of_chunks, sources, handed, HasNames, large_chunks, names_of, small_chunks, object_name, by_end, state_by, In, as_node}
+pub use Rattle.core_invariant.specs.below.refinement.{objects_of_chunks, sources, handed, ChunksHaveNames, large_chunks, chunk_names, small_chunks, object_name, by_end, state_by, In, as_node}
 pub use Rattle.core_invariant.specs.below.remembered_set.{RefField, StandOnce, has_source, same_source}
 pub use Rattle.core_invariant.specs.below.run_ledger.{Ledger, Refused, RunEnd, Machine, Pool, in_use, let_go, or_fresh, with_heap, allocated_in, settled, stepped_to, task_step, task_steps, after, chunk_units, refusal, with_chunk, is_legal, ledger_of, Heap, heap_of, held, held_in, small_in, words_at, words_sum, held_not_running, held_not_running_from, SoundLedger}
 pub use Rattle.core_invariant.specs.below.run_trace.{Kind, Took, Ran, Chunk, Begin, PutOff, Mark, More, Sweep, Fuel, EntryValue, SettingsValue}

@@ -1,5 +1,5 @@
 -- What the heaps of tasks that don't run hold, counted by their belongings.
-use Rattle.heap_reading.proofs.Common.{◌≡◌, ℕ, zero, suc, ◌+◌, ◌-◌, ◌*◌, ◌^◌, ◌<◌, ◌≤◌, ◌==◌, ◌++◌, arith, Bool, true, false, cond, not, Option, Some, None, List, [], ◌∷◌, length, length-append, map, min, option_map, slice_get, inl, inr, refl, ap, ap₂, sym, subst, ◌∙◌, flat_map, cases_eq, append-nil, append_assoc, sum_by-append, contains_from_in, Name, MachineState, TaskStatus, Running, Waiting, Ended, Joined, is_running, runs, Done, Trapped, Entangled, Heap, Ledger, RunEnd, Machine as MachineEnd, Pool, heap_of, held, held_in, in_use, let_go, or_fresh, small_in, words_at, words_sum, held_not_running, held_not_running_from, tasks_are_out_once, steps_are_bounded, heaps_fit, use_is_bounded, names_are_held_once, journals_are_counted, stored_most, kept_least, held_words, object_count, ChunkValue, Located, saturating_words, TaskNode, Rests, rested, with_off, rested_view, HasNames, large_chunks, names_of, small_chunks, object_name, objects_of_chunks, by_end, handed, state_by, ParkedTask, chunk_of, chunks_of, SharedValue, accounts, belongings_in, rest_at, value_of, IsSharedValue, words_are, belongings_chunks, objects_counted, goes_by, node_now, tree_long, is_state_running, held_unless_running}
+use Rattle.heap_reading.proofs.Common.{◌≡◌, ℕ, zero, suc, ◌+◌, ◌-◌, ◌*◌, ◌^◌, ◌<◌, ◌≤◌, ◌==◌, ◌++◌, arith, Bool, true, false, cond, not, Option, Some, None, List, [], ◌∷◌, length, length-append, map, min, option_map, slice_get, inl, inr, refl, ap, ap₂, sym, subst, ◌∙◌, flat_map, cases_eq, append-nil, append_assoc, sum_by-append, contains_from_in, Name, MachineState, TaskStatus, Running, Waiting, Ended, Joined, is_running, runs, Done, Trapped, Entangled, Heap, Ledger, RunEnd, Machine as MachineEnd, Pool, heap_of, held, held_in, in_use, let_go, or_fresh, small_in, words_at, words_sum, held_not_running, held_not_running_from, tasks_are_out_once, steps_are_bounded, heaps_fit, use_is_bounded, names_are_held_once, journals_are_counted, stored_most, kept_least, held_words, object_count, ChunkValue, Located, saturating_words, TaskNode, Rests, rested, with_off, rested_view, ChunksHaveNames, large_chunks, chunk_names, small_chunks, object_name, objects_of_chunks, by_end, handed, state_by, ParkedTask, chunk_of, chunks_of, SharedValue, accounts, belongings_in, rest_at, value_of, IsSharedValue, words_are, belongings_chunks, objects_counted, goes_by, node_now, tree_long, is_state_running, held_unless_running}
 use Rattle.core_invariant.specs.below.run_ledger.{Fuel}
 use Rattle.heap_reading.proofs.IdleTasks.{journal_idle}
 
@@ -13,7 +13,7 @@ by_status Joined o = refl
 
 -- HOW MANY names small chunks and large ones have
 small_many : List ChunkValue → ℕ
-small_many ks = length (flat_map (λ ns. ns) (map names_of (small_chunks (chunks_of ks))))
+small_many ks = length (flat_map (λ ns. ns) (map chunk_names (small_chunks (chunks_of ks))))
 
 large_many : List ChunkValue → ℕ
 large_many ks = length (map object_name (objects_of_chunks (large_chunks (chunks_of ks))))
@@ -28,11 +28,11 @@ chunks_many [] = refl
 chunks_many (k ∷ ks) = chunks_many_by_cases (k.size == 1024) (chunks_many ks) ∙ sym (length-append (chunk_of k).objects (objects_of_chunks (chunks_of ks)))
   where
     chunks_many_by_cases : (b : Bool) → small_many ks + large_many ks ≡ length (objects_of_chunks (chunks_of ks))
-        → length (flat_map (λ ns. ns) (map names_of (cond (not (not b)) (chunk_of k ∷ small_chunks (chunks_of ks)) (small_chunks (chunks_of ks)))))
+        → length (flat_map (λ ns. ns) (map chunk_names (cond (not (not b)) (chunk_of k ∷ small_chunks (chunks_of ks)) (small_chunks (chunks_of ks)))))
         + length (map object_name (objects_of_chunks (cond (not b) (chunk_of k ∷ large_chunks (chunks_of ks)) (large_chunks (chunks_of ks))))) ≡ length (chunk_of k).objects + length (objects_of_chunks (chunks_of ks))
     chunks_many_by_cases true go =
         let own = length_names (chunk_of k).objects in
-        let both = length-append (names_of (chunk_of k)) (flat_map (λ ns. ns) (map names_of (small_chunks (chunks_of ks)))) in
+        let both = length-append (chunk_names (chunk_of k)) (flat_map (λ ns. ns) (map chunk_names (small_chunks (chunks_of ks)))) in
         omega (arith, own, both, go)
     chunks_many_by_cases false go =
         let own = length_names ((chunk_of k).objects ++ objects_of_chunks (large_chunks (chunks_of ks))) in
@@ -40,7 +40,7 @@ chunks_many (k ∷ ks) = chunks_many_by_cases (k.size == 1024) (chunks_many ks) 
         let both = length-append (chunk_of k).objects (objects_of_chunks (large_chunks (chunks_of ks))) in
         omega (arith, own, rest, both, go)
 
-held_many : (a : Heap) (ks : List ChunkValue) → HasNames (chunks_of ks) a → length (held_in a) ≡ length (objects_of_chunks (chunks_of ks))
+held_many : (a : Heap) (ks : List ChunkValue) → ChunksHaveNames (chunks_of ks) a → length (held_in a) ≡ length (objects_of_chunks (chunks_of ks))
 unfolding small_many large_many
 held_many a ks N =
     length-append (small_in a) a.large
@@ -82,8 +82,8 @@ module _ (w : SharedValue) (I : IsSharedValue w) (t : ℕ) where
     kept_is : held_unless_running l t ≡ held_in (heap_of l t)
     kept_is = ap (λ b. cond b [] (held_in (heap_of l t))) idle
 
-    names_are : (ks : List ChunkValue) → ((value_of w).belongings t).chunks ≡ chunks_of ks → HasNames (chunks_of ks) (heap_of (handed l) t)
-    names_are ks here = subst (λ cs. HasNames cs (heap_of (handed l) t)) here (I.stands.belongings.belongings t rests).names
+    names_are : (ks : List ChunkValue) → ((value_of w).belongings t).chunks ≡ chunks_of ks → ChunksHaveNames (chunks_of ks) (heap_of (handed l) t)
+    names_are ks here = subst (λ cs. ChunksHaveNames cs (heap_of (handed l) t)) here (I.stands.belongings.belongings t rests).names
 
     many_by : (ks : List ChunkValue) → ((value_of w).belongings t).chunks ≡ chunks_of ks → length (objects_of_chunks (chunks_of ks)) ≡ length (held_unless_running l t)
     many_by ks here = sym (held_many (heap_of (handed l) t) ks (names_are ks here)) ∙ (ap length (handed_held l t) ∙ ap length (sym kept_is))

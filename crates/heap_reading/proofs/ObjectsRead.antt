@@ -1,6 +1,6 @@
 -- The objects of a chunk, read one after another; and which chunk has a number.
 use Rattle.std.proofs.Common.{append_assoc}
-use Rattle.heap_reading.proofs.Common.{◌≡◌, ℕ, zero, suc, ◌+◌, ◌<◌, ◌≤◌, ◌==◌, arith, Bool, true, false, cond, Option, Some, None, List, [], ◌∷◌, ◌++◌, All, length, map, take, slice_get, IfSome, Bor, option_copied, inl, inr, refl, ap, sym, subst, ◌∙◌, ◌⊎◌, option_map, map-append, All-append, All-cons, All-nil, All-tail, same_Some, Born, Cell, Hole, IsBorn, IsObject, Moved, moved_to, size_of, chunk_at, place_in, place_of, ChunkValue, cells_from, Birth, Located, located, located_by, objects_from, none_there, place_found, state_of, In, ParkedTask, chunk_of, chunks_of, SharedValue, belongings_in, rest_at, belongings_chunks, SeenObject as Shown, is_state_running, IsInWords, in_words, objects_numbered, objects_of, objects_owned}
+use Rattle.heap_reading.proofs.Common.{◌≡◌, ℕ, zero, suc, ◌+◌, ◌<◌, ◌≤◌, ◌==◌, arith, Bool, true, false, cond, Option, Some, None, List, [], ◌∷◌, ◌++◌, All, length, map, take, slice_get, IfSome, Bor, option_copied, inl, inr, refl, ap, sym, subst, ◌∙◌, ◌⊎◌, option_map, map-append, All-append, All-cons, All-nil, All-tail, same_Some, Born, Cell, Hole, IsBorn, IsObject, Moved, moved_to, size_of, chunk_at, place_in, chunk_position, ChunkValue, cells_from, Birth, Located, located, located_by, objects_from, none_there, place_found, state_of, In, ParkedTask, chunk_of, chunks_of, SharedValue, belongings_in, rest_at, belongings_chunks, SeenObject as Shown, is_state_running, IsInWords, in_words, objects_numbered, objects_of, objects_owned}
 use Rattle.core_invariant.specs.below.object_layout.{Mark}
 use Rattle.core_invariant.specs.below.chunk_pool.{owner_of}
 
@@ -73,20 +73,20 @@ module _ (number at next : ℕ) (cells : List Cell) (c : Cell) (rest : cells_fro
     words_same all was o i = elim (was o i) [ inl w ↦ inl w | inr j ↦ inr (subst (λ z. In z o) none_here j) ]
 
 -- THE CHUNK OF A NUMBER
-numbered_at : (ks : List ChunkValue) (n : ℕ) → place_of ks n < length ks → objects_numbered n (chunks_of ks) ≡ (chunk_of (chunk_at ks (place_of ks n))).objects
+numbered_at : (ks : List ChunkValue) (n : ℕ) → chunk_position ks n < length ks → objects_numbered n (chunks_of ks) ≡ (chunk_of (chunk_at ks (chunk_position ks n))).objects
 numbered_at [] n lt = absurd (omega arith)
 numbered_at (k ∷ ks) n lt = numbered_at_by_cases (k.number == n) lt (numbered_at ks n)
   where
-    numbered_at_by_cases : (b : Bool) → cond b 0 (1 + place_of ks n) < suc (length ks) → (place_of ks n < length ks → objects_numbered n (chunks_of ks) ≡ (chunk_of (chunk_at ks (place_of ks n))).objects)
-        → cond b (chunk_of k).objects (objects_numbered n (chunks_of ks)) ≡ (chunk_of (chunk_at (k ∷ ks) (cond b 0 (1 + place_of ks n)))).objects
+    numbered_at_by_cases : (b : Bool) → cond b 0 (1 + chunk_position ks n) < suc (length ks) → (chunk_position ks n < length ks → objects_numbered n (chunks_of ks) ≡ (chunk_of (chunk_at ks (chunk_position ks n))).objects)
+        → cond b (chunk_of k).objects (objects_numbered n (chunks_of ks)) ≡ (chunk_of (chunk_at (k ∷ ks) (cond b 0 (1 + chunk_position ks n)))).objects
     numbered_at_by_cases true lt rest = refl
-    numbered_at_by_cases false lt rest = rest (omega arith) ∙ ap (λ z. (chunk_of (chunk_at (k ∷ ks) z)).objects) (let e : suc (place_of ks n) ≡ 1 + place_of ks n = omega arith in e)
+    numbered_at_by_cases false lt rest = rest (omega arith) ∙ ap (λ z. (chunk_of (chunk_at (k ∷ ks) z)).objects) (let e : suc (chunk_position ks n) ≡ 1 + chunk_position ks n = omega arith in e)
 
-numbered_off : (ks : List ChunkValue) (n : ℕ) → length ks ≤ place_of ks n → objects_numbered n (chunks_of ks) ≡ []
+numbered_off : (ks : List ChunkValue) (n : ℕ) → length ks ≤ chunk_position ks n → objects_numbered n (chunks_of ks) ≡ []
 numbered_off [] n le = refl
 numbered_off (k ∷ ks) n le = numbered_off_by_cases (k.number == n) le (numbered_off ks n)
   where
-    numbered_off_by_cases : (b : Bool) → suc (length ks) ≤ cond b 0 (1 + place_of ks n) → (length ks ≤ place_of ks n → objects_numbered n (chunks_of ks) ≡ []) → cond b (chunk_of k).objects (objects_numbered n (chunks_of ks)) ≡ []
+    numbered_off_by_cases : (b : Bool) → suc (length ks) ≤ cond b 0 (1 + chunk_position ks n) → (length ks ≤ chunk_position ks n → objects_numbered n (chunks_of ks) ≡ []) → cond b (chunk_of k).objects (objects_numbered n (chunks_of ks)) ≡ []
     numbered_off_by_cases true le rest = absurd (omega arith)
     numbered_off_by_cases false le rest = rest (omega arith)
 

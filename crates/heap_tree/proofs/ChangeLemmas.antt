@@ -1,5 +1,5 @@
 -- What a change of state and a fork keep, and what they change.
-use Rattle.heap_tree.proofs.Common.{◌≡◌, ◌≢◌, ℕ, ◌+◌, ◌-◌, ◌<◌, ◌≤◌, ◌%◌, arith, List, [], ◌∷◌, ◌++◌, length, set, ◌⊎◌, inl, inr, refl, sym, ap, ◌∙◌, subst, Option, Some, None, slice_get, append_assoc, length-append, length-set, option_map, fun_ext, cases_eq, cases_lt, ne_eqb, got_front, got_other, view_step, got_last, got_none, got_set, TaskState, Waiting, TaskNode, parent_in, parent_of, set_at, state_of, with_state, child_of, forked, ArePaired, sibling, ForkMakes, StatesChange}
+use Rattle.heap_tree.proofs.Common.{◌≡◌, ◌≢◌, ℕ, ◌+◌, ◌-◌, ◌<◌, ◌≤◌, ◌%◌, arith, List, [], ◌∷◌, ◌++◌, length, set, ◌⊎◌, inl, inr, refl, sym, ap, ◌∙◌, subst, Option, Some, None, slice_get, append_assoc, length-append, length-set, option_map, fun_ext, cases_eq, cases_lt, ne_eqb, got_front, got_other, view_step, got_last, got_none, got_set, TaskState, Waiting, TaskNode, parent_in, parent_of, set_at, state_of, with_state, child_of, forked, SiblingsShareParents, sibling, ForkMakes, StatesChange}
 use Rattle.std.proofs.lemmas.Bool.{eq-eqb}
 
 -- ---- a change of state
@@ -95,7 +95,7 @@ sibling_left t e = rw (eq-eqb (t % 2) 1 e) refl
 sibling_right : (t : ℕ) → (t % 2 ≡ 1 → ⊥) → sibling t ≡ t - 1
 sibling_right t e = rw (ne_eqb (t % 2) 1 e) refl
 
-states : (nodes : List TaskNode) (t : ℕ) (s : TaskState) → ArePaired nodes → ArePaired (with_state nodes t s)
+states : (nodes : List TaskNode) (t : ℕ) (s : TaskState) → SiblingsShareParents nodes → SiblingsShareParents (with_state nodes t s)
 states nodes t s pairs = record {
   odd = ap (λ (n : ℕ). n % 2) (state_length nodes t s) ∙ pairs.odd;
   shared = λ u made child.
@@ -103,7 +103,7 @@ states nodes t s pairs = record {
       state_parent nodes t s (sibling u) ∙ (pairs.shared u was child ∙ sym (state_parent nodes t s u));
 }
 
-module _ (nodes : List TaskNode) (t : ℕ) (pairs : ArePaired nodes) where
+module _ (nodes : List TaskNode) (t : ℕ) (pairs : SiblingsShareParents nodes) where
   old_sibling : (u : ℕ) → u < length nodes → (u ≡ 0 → ⊥) → sibling u < length nodes
   old_sibling u made child = elim (cases_eq (u % 2) 1) [
     | inl e ↦
@@ -128,7 +128,7 @@ module _ (nodes : List TaskNode) (t : ℕ) (pairs : ArePaired nodes) where
   shared_by u made child (inl lt) = old_parent nodes t (sibling u) (old_sibling u lt child) ∙ (pairs.shared u lt child ∙ sym (old_parent nodes t u lt))
   shared_by u made child (inr le) = shared_new u (elim (cases_eq u (length nodes)) [ inl e ↦ inl e | inr ne ↦ inr (omega arith) ])
 
-  forks : ArePaired (forked nodes t)
+  forks : SiblingsShareParents (forked nodes t)
   forks = record {
     odd = ap (λ (n : ℕ). n % 2) (all nodes t) ∙ (let o : length nodes % 2 ≡ 1 = pairs.odd in let e : (length nodes + 2) % 2 ≡ 1 = omega arith in e);
     shared = λ u made child. shared_by u (subst (λ (n : ℕ). u < n) (all nodes t) made) child (cases_lt u (length nodes));

@@ -1,9 +1,9 @@
 -- The names of lower crates and of the specifications that these proofs use. Declares nothing.
 pub use Rattle.heap_tree.specs.Laws.{ForkMakes, StatesChange}
 pub use Rattle.heap_tree.specs.Links.{node_of, linked_parent, linked_depth, linked_far, parent_at, depth_at, far_at, IsLinked}
-pub use Rattle.heap_tree.specs.TaskNode.{TaskNode, parent_in, parent_of, set_at, state_of, with_state, child_of, forked, depth_of, is_on_path, IsTree}
+pub use Rattle.heap_tree.specs.TaskNode.{TaskNode, parent_in, parent_of, set_at, state_of, with_state, child_of, forked, depth_of, node_on_path, IsTree}
 pub use Rattle.heap_tree.specs.Paired.{child_entry, entries_of, root_entry, unpaired, with_child}
-pub use Rattle.heap_tree.specs.Pairs.{ArePaired, sibling}
+pub use Rattle.heap_tree.specs.Pairs.{SiblingsShareParents, sibling}
 pub use Rattle.heap_tree.specs.Walk.{ancestor, IsUpFrom, depth_in, path_in, through, depth_by, path_by}
 pub use Rattle.heap_tree.specs.declared.entries.Pair.{Pair}
 pub use Rattle.heap_tree.specs.declared.links.Linked.{Linked}

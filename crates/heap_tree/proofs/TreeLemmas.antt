@@ -1,5 +1,5 @@
 -- What callers see of the tree, from the links that it keeps.
-use Rattle.heap_tree.proofs.Common.{◌≡◌, ◌==◌, ℕ, zero, suc, ◌+◌, ◌-◌, ◌<◌, ◌≤◌, ◌^◌, Bool, true, false, IsTrue, Option, Some, None, List, [], ◌∷◌, ◌++◌, length, map, set, slice_get, slice_set, option_map, IfSome, inl, inr, refl, sym, ap, subst, ◌∙◌, arith, append_assoc, eqb-true, eq-eqb, length-append, length-map, map-set, map-append, slice_get-map, slice_get_within, same_Some, cases_lt, false≢true, next_far, AreLinked, IsNewLink, walk_depth, linked_more, depth_limit, got_front, view_step, same_truth, got_last, got_some, TaskState, Ready, Waiting, Linked, ancestor, IsUpFrom, depth_in, path_in, TaskNode, parent_in, parent_of, state_of, depth_of, is_on_path, set_at, with_state, child_of, forked, IsTree, node_of, linked_parent, linked_depth, linked_far, parent_at, depth_at, far_at, IsLinked}
+use Rattle.heap_tree.proofs.Common.{◌≡◌, ◌==◌, ℕ, zero, suc, ◌+◌, ◌-◌, ◌<◌, ◌≤◌, ◌^◌, Bool, true, false, IsTrue, Option, Some, None, List, [], ◌∷◌, ◌++◌, length, map, set, slice_get, slice_set, option_map, IfSome, inl, inr, refl, sym, ap, subst, ◌∙◌, arith, append_assoc, eqb-true, eq-eqb, length-append, length-map, map-set, map-append, slice_get-map, slice_get_within, same_Some, cases_lt, false≢true, next_far, AreLinked, IsNewLink, walk_depth, linked_more, depth_limit, got_front, view_step, same_truth, got_last, got_some, TaskState, Ready, Waiting, Linked, ancestor, IsUpFrom, depth_in, path_in, TaskNode, parent_in, parent_of, state_of, depth_of, node_on_path, set_at, with_state, child_of, forked, IsTree, node_of, linked_parent, linked_depth, linked_far, parent_at, depth_at, far_at, IsLinked}
 use Rattle.std.proofs.lemmas.List.{length-set}
 use Rattle.heap_tree.proofs.WalkLemmas.{depth_in_is, walk_from_path, path_from_walk}
 
@@ -63,14 +63,14 @@ module _ (es : List Linked) (linked : IsLinked es) where
       (λ no. absurd (false≢true no))
 
   -- the owner is on the path if and only if the task at its depth on the path is the owner
-  pub on_path_here : (t a r : ℕ) → ancestor (parent_at es) (depth_at es t - depth_at es a) t ≡ Some r → (r == a) ≡ is_on_path (map node_of es) a t
+  pub on_path_here : (t a r : ℕ) → ancestor (parent_at es) (depth_at es t - depth_at es a) t ≡ Some r → (r == a) ≡ node_on_path (map node_of es) a t
   on_path_here t a r up = rw (parents_seen es) (kept_here t a r up)
 
-  pub on_path_deeper : (t a : ℕ) → depth_at es t < depth_at es a → is_on_path (map node_of es) a t ≡ false
+  pub on_path_deeper : (t a : ℕ) → depth_at es t < depth_at es a → node_on_path (map node_of es) a t ≡ false
   on_path_deeper t a lt = rw (parents_seen es) (kept_deeper t a lt)
 
   -- the test of a path agrees with walks
-  pub on_path_walks : (t a : ℕ) → (IsTrue (is_on_path (map node_of es) a t) → IsUpFrom (parent_of (map node_of es)) t a) × (IsUpFrom (parent_of (map node_of es)) t a → IsTrue (is_on_path (map node_of es) a t))
+  pub on_path_walks : (t a : ℕ) → (IsTrue (node_on_path (map node_of es) a t) → IsUpFrom (parent_of (map node_of es)) t a) × (IsUpFrom (parent_of (map node_of es)) t a → IsTrue (node_on_path (map node_of es) a t))
   on_path_walks t a = rw (parents_seen es) (walks_path a t, path_walks a t)
 
 -- ---- another state
@@ -208,21 +208,21 @@ module _ (v : List TaskNode) (es : List Linked) (view_is : map node_of es ≡ v)
   pub path_there : (r d : ℕ) → r < length es → depth_at es r ≡ d → depth_of v r ≡ d
   path_there r d made there = ap (λ (w : List TaskNode). depth_of w r) (sym view_is) ∙ (depth_seen es r linked made ∙ there)
 
-  pub on_path_answer : (t a r d : ℕ) (x : Linked) → slice_get es a ≡ Some x → x.depth ≡ d → ancestor (parent_at es) (depth_at es t - d) t ≡ Some r → (r == a) ≡ is_on_path v a t
+  pub on_path_answer : (t a r d : ℕ) (x : Linked) → slice_get es a ≡ Some x → x.depth ≡ d → ancestor (parent_at es) (depth_at es t - d) t ≡ Some r → (r == a) ≡ node_on_path v a t
   on_path_answer t a r d x got is up =
       let same : d ≡ depth_at es a = sym (ap linked_depth got ∙ is) in
       on_path_here es linked t a r (subst (λ (m : ℕ). ancestor (parent_at es) (depth_at es t - m) t ≡ Some r) same up)
-      ∙ ap (λ (w : List TaskNode). is_on_path w a t) view_is
+      ∙ ap (λ (w : List TaskNode). node_on_path w a t) view_is
 
-  pub off_path_answer : (t a : ℕ) (x y : Linked) → slice_get es a ≡ Some x → slice_get es t ≡ Some y → y.depth < x.depth → is_on_path v a t ≡ false
+  pub off_path_answer : (t a : ℕ) (x y : Linked) → slice_get es a ≡ Some x → slice_get es t ≡ Some y → y.depth < x.depth → node_on_path v a t ≡ false
   off_path_answer t a x y got_a got_t lt =
       let da : depth_at es a ≡ x.depth = ap linked_depth got_a in
       let dt : depth_at es t ≡ y.depth = ap linked_depth got_t in
-      ap (λ (w : List TaskNode). is_on_path w a t) (sym view_is) ∙ on_path_deeper es linked t a (omega arith)
+      ap (λ (w : List TaskNode). node_on_path w a t) (sym view_is) ∙ on_path_deeper es linked t a (omega arith)
 
-  pub walk_answer : (t a : ℕ) (b : Bool) → b ≡ is_on_path v a t → (IsTrue b → IsUpFrom (parent_of v) t a) × (IsUpFrom (parent_of v) t a → IsTrue b)
+  pub walk_answer : (t a : ℕ) (b : Bool) → b ≡ node_on_path v a t → (IsTrue b → IsUpFrom (parent_of v) t a) × (IsUpFrom (parent_of v) t a → IsTrue b)
   walk_answer t a b is =
-      let both = subst (λ (w : List TaskNode). (IsTrue (is_on_path w a t) → IsUpFrom (parent_of w) t a) × (IsUpFrom (parent_of w) t a → IsTrue (is_on_path w a t))) view_is (on_path_walks es linked t a) in
+      let both = subst (λ (w : List TaskNode). (IsTrue (node_on_path w a t) → IsUpFrom (parent_of w) t a) × (IsUpFrom (parent_of w) t a → IsTrue (node_on_path w a t))) view_is (on_path_walks es linked t a) in
       rw is both
 
   pub fork_shallow : (t : ℕ) (e : Linked) → t < length v → slice_get es t ≡ Some e → depth_of v t < depth_limit → e.depth < depth_limit

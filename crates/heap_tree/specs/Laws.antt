@@ -3,7 +3,7 @@ use Rattle.std.specs.Prelude.{◌≡◌, ◌≢◌, ℕ, ◌+◌, ◌<◌, Optio
 use Rattle.heap_tree.specs.declared.state.TaskState.{TaskState}
 use Rattle.heap_tree.specs.declared.state.TaskState.TheVariants.{Ready, Waiting}
 use Rattle.heap_tree.specs.TaskNode.{TaskNode, forked, parent_of, root_node, state_of, with_state}
-use Rattle.heap_tree.specs.Pairs.{ArePaired}
+use Rattle.heap_tree.specs.Pairs.{SiblingsShareParents}
 
 -- a change of state keeps the number of tasks, the parents, and the states of other tasks
 pub record StateChanges (nodes : List TaskNode) (t : ℕ) (s : TaskState) : Type 0 where
@@ -29,6 +29,6 @@ pub record ForkMakes (nodes : List TaskNode) (t : ℕ) : Type 0 where
 
 -- a tree of the root alone is paired, and forks and changes of state keep that
 pub record PairsStay : Type 0 where
-  pub first : ArePaired (root_node ∷ [])
-  pub forks : (nodes : List TaskNode) (t : ℕ) → ArePaired nodes → ArePaired (forked nodes t)
-  pub states : (nodes : List TaskNode) (t : ℕ) (s : TaskState) → ArePaired nodes → ArePaired (with_state nodes t s)
+  pub first : SiblingsShareParents (root_node ∷ [])
+  pub forks : (nodes : List TaskNode) (t : ℕ) → SiblingsShareParents nodes → SiblingsShareParents (forked nodes t)
+  pub states : (nodes : List TaskNode) (t : ℕ) (s : TaskState) → SiblingsShareParents nodes → SiblingsShareParents (with_state nodes t s)

@@ -28,8 +28,8 @@ abbrev pub depth_of : List TaskNode → ℕ → ℕ
 depth_of nodes t = depth_in (parent_of nodes) t
 
 -- whether a is the task or an ancestor
-abbrev pub is_on_path : List TaskNode → ℕ → ℕ → Bool
-is_on_path nodes a t = path_in (parent_of nodes) a t
+abbrev pub node_on_path : List TaskNode → ℕ → ℕ → Bool
+node_on_path nodes a t = path_in (parent_of nodes) a t
 
 abbrev pub set_at : List TaskNode → ℕ → TaskState → Option TaskNode → List TaskNode
 set_at nodes t state None = nodes

@@ -3,7 +3,7 @@
 ghost use Rattle.std.specs.Prelude.{◌≡◌, ◌+◌, ◌-◌, ◌*◌, ◌^◌, ℕ, ◌<◌, ◌≤◌, ◌↔◌, ◌∷◌, [], ◌++◌, length, slice_get, slice_set, IfSome, IfOk, OnOk, OnErr, IsTrue, Some};
 ghost use Rattle.hh_model.specs.Step.{depth_limit};
 ghost use Rattle.heap_tree.specs.Walk.{ancestor, IsUpFrom};
-ghost use Rattle.heap_tree.specs.TaskNode.{root_node, parent_of, state_of, depth_of, is_on_path, with_state, forked, IsTree};
+ghost use Rattle.heap_tree.specs.TaskNode.{root_node, parent_of, state_of, depth_of, node_on_path, with_state, forked, IsTree};
 
 use crate::entries::Entries;
 use crate::links::{Linked, entry_at};
@@ -147,7 +147,7 @@ impl Tree {
     pub fn on_path(&self, reader: u32, owner: u32) -> bool
         requires reader { reader < length self.now }
         requires owner { owner < length self.now }
-        ensures value { result ≡ is_on_path self.now owner reader }
+        ensures value { result ≡ node_on_path self.now owner reader }
         ensures walk { IsTrue result ↔ IsUpFrom (parent_of self.now) reader owner }
     {
         let depth = entry_at(&self.entries, owner as usize).depth;
@@ -164,7 +164,7 @@ impl Tree {
     ) -> bool
         requires reader { reader < length self.now }
         requires owner { owner < length self.now }
-        ensures value { result ≡ is_on_path self.now owner reader }
+        ensures value { result ≡ node_on_path self.now owner reader }
         ensures walk { IsTrue result ↔ IsUpFrom (parent_of self.now) reader owner }
         ensures counted { links.old ≤ links.new }
         ensures cost { (log : ℕ) → depth_of self.now reader + 1 < 2 ^ (log + 1) → links.new ≤ links.old + 3 * log }

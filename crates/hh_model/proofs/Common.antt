@@ -5,14 +5,14 @@ pub use Rattle.hh_lang.specs.declared.instr.Instr.TheVariants.{Set, Mov, Movr, N
 pub use Rattle.hh_lang.specs.declared.program.Fun.{Fun}
 pub use Rattle.hh_lang.specs.declared.program.Line.{Line}
 pub use Rattle.hh_model.specs.Calculations.{Leads, Calculates, advanced_by, calculates, calculates_by, calculates_line, calculates_next, is_calculation}
-pub use Rattle.hh_model.specs.Counts.{RunsAreCounted, StepsCount, IsWide, HasFewFields, SizesAreBounded, LimitStays}
+pub use Rattle.hh_model.specs.Counts.{RunsAreCounted, StepsCount, HasAllRegisters, HasFewFields, SizesAreBounded, LimitStays}
 pub use Rattle.hh_model.specs.Effect.{Effect, effect, Goes, calculated, int_in, onward, or_trap, with_int, Prints, Calls, Forks, Returns, Traps, Stops, StepContext, object_at, put_object, row_of, with_object, made, read_effect, ref_in, with_ref, same_name, counts_in, place_in, int_eq, flag}
 pub use Rattle.hh_model.specs.Ends.{EndsDone, IsEnded, unended}
 pub use Rattle.hh_model.specs.Machine.{IsOfRun, MachineValue, advanced, IsSoundState}
 pub use Rattle.hh_model.specs.Names.{names_of_references, refs_of, refs_at, words_asked, words_for, registers, names_from, task_names}
 pub use Rattle.hh_model.specs.NextLaw.{HasNext, AlwaysNext, PacksAreFew}
 pub use Rattle.hh_model.specs.PathLaw.{PathIsPrecedence, PathIsPrecedenceIn}
-pub use Rattle.hh_model.specs.Precedence.{precedes, Precedes, same_strand, IsWalk, holds_strand, with_target, found_from}
+pub use Rattle.hh_model.specs.Precedence.{precedes, Precedes, same_strand, IsEdgeWalk, holds_strand, with_target, found_from}
 pub use Rattle.hh_model.specs.Step.{follow, setting, can_step, fetched, goes_on, is_running, step, through, owner_by, path_by, waits, is_waiting, is_joined, parent_of, joined_task, resumed, child, asked, asked_by, asked_line, root, ended_task, result_of, start, run, run_from, sibling, is_over, parents, joined, owner_of, is_on_path, path_in, owner_in, strand, strand_of, is_left, forked, child_ended_by, last_return, returned_to, join_of, result_at, or_same, last_of, front_of, back_in, ended_by, depth_limit, frame_limit, stepped, entry_frame, edge, runs, result_in}
 pub use Rattle.hh_model.specs.Store.{IsWriteTo, TasksStay, MakesChildren}
 pub use Rattle.hh_model.specs.Tree.{IsForkJoinState, HasOneRoot, RunsHaveOneRoot, waiting, joins_in}

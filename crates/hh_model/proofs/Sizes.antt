@@ -1,5 +1,5 @@
 -- Each frame of each task has 16 registers of each kind, and each object a bounded number of fields.
-use Rattle.hh_model.proofs.Common.{◌≡◌, ℕ, ℤ, zero, suc, pos, ◌+◌, ◌-◌, ◌≤◌, ◌==◌, Bool, true, false, cond, Option, Some, None, List, [], ◌∷◌, ◌++◌, length, slice_get, slice_set, nat_lt, inl, inr, refl, ap, sym, subst, ◌∙◌, length-set, ◌⊎◌, arith, max, option_flatten, In, in_append_cases, in_from_contains, got_cases, Instr, Set, Mov, Movr, Nil as NilOf, Calc, Same, Jmp, Jz, Newm, Pack, Getr, Geti, Putr, Puti, Cntr, Cnti, Freeze, Cas, Line, ProgramText, Name, Object, Frame, Task, Waiting, Trap, Range, Frozen, Div as DivTrap, Size, MachineState, Effect, Goes, Prints, Calls, Forks, Returns, Traps, Stops, StepContext, effect, object_at, put_object, or_trap, with_object, read_effect, int_in, ref_in, int_eq, onward, same_name, calculated, counts_in, place_in, flag, precedes, fetched, step, start, run_from, run, root, stepped, follow, setting, can_step, forked, child, entry_frame, frame_limit, depth_limit, returned_to, last_return, child_ended_by, ended_task, joined_task, resumed, join_of, result_of, back_in, last_of, front_of, is_left, sibling, result_at, or_same, IsForkJoinState, IsWide, HasFewFields, SizesAreBounded, LimitStays}
+use Rattle.hh_model.proofs.Common.{◌≡◌, ℕ, ℤ, zero, suc, pos, ◌+◌, ◌-◌, ◌≤◌, ◌==◌, Bool, true, false, cond, Option, Some, None, List, [], ◌∷◌, ◌++◌, length, slice_get, slice_set, nat_lt, inl, inr, refl, ap, sym, subst, ◌∙◌, length-set, ◌⊎◌, arith, max, option_flatten, In, in_append_cases, in_from_contains, got_cases, Instr, Set, Mov, Movr, Nil as NilOf, Calc, Same, Jmp, Jz, Newm, Pack, Getr, Geti, Putr, Puti, Cntr, Cnti, Freeze, Cas, Line, ProgramText, Name, Object, Frame, Task, Waiting, Trap, Range, Frozen, Div as DivTrap, Size, MachineState, Effect, Goes, Prints, Calls, Forks, Returns, Traps, Stops, StepContext, effect, object_at, put_object, or_trap, with_object, read_effect, int_in, ref_in, int_eq, onward, same_name, calculated, counts_in, place_in, flag, precedes, fetched, step, start, run_from, run, root, stepped, follow, setting, can_step, forked, child, entry_frame, frame_limit, depth_limit, returned_to, last_return, child_ended_by, ended_task, joined_task, resumed, join_of, result_of, back_in, last_of, front_of, is_left, sibling, result_at, or_same, IsForkJoinState, HasAllRegisters, HasFewFields, SizesAreBounded, LimitStays}
 use Rattle.hh_model.specs.declared.data.Trap.TheVariants.{Nil}
 use Rattle.hh_model.proofs.Closed.{grown_cases, three_cases}
 use Rattle.hh_model.proofs.Steps.{Alters, last_in, step_cases}
@@ -60,11 +60,11 @@ module _ (s : StepContext) (f : Frame) (store : List (List Object)) where
 
 -- STEPS
 
-widened : (f g : Frame) → IsWide f → length g.ints ≡ length f.ints → length g.refs ≡ length f.refs → IsWide g
+widened : (f g : Frame) → HasAllRegisters f → length g.ints ≡ length f.ints → length g.refs ≡ length f.refs → HasAllRegisters g
 widened f g w a b = record { ints = a ∙ w.ints; refs = b ∙ w.refs }
 
 abbrev pub WideTask : Task → Type 0
-WideTask x = (f : Frame) → In (x.top ∷ x.below) f → IsWide f
+WideTask x = (f : Frame) → In (x.top ∷ x.below) f → HasAllRegisters f
 
 abbrev pub AllWide : List Task → Type 0
 AllWide tasks = (t : ℕ) (x : Task) → slice_get tasks t ≡ Some x → WideTask x
@@ -82,18 +82,18 @@ module _ (p : ProgramText) (m : MachineState) (t : ℕ) (A : AllWide m.tasks) wh
     | inr old ↦ A u z old
   ]
 
-  topped : (f : Frame) (fs : List Frame) → IsWide f → ((g : Frame) → In fs g → IsWide g) → (g : Frame) → In (f ∷ fs) g → IsWide g
-  topped f fs top rest g (inl e) = subst (IsWide) e top
+  topped : (f : Frame) (fs : List Frame) → HasAllRegisters f → ((g : Frame) → In fs g → HasAllRegisters g) → (g : Frame) → In (f ∷ fs) g → HasAllRegisters g
+  topped f fs top rest g (inl e) = subst (HasAllRegisters) e top
   topped f fs top rest g (inr h) = rest g h
 
   module _ (x : Task) (ix : slice_get m.tasks t ≡ Some x) where
     mine : WideTask x
     mine = A t x ix
 
-    onto : (g : Frame) → length g.ints ≡ length x.top.ints → length g.refs ≡ length x.top.refs → IsWide g
+    onto : (g : Frame) → length g.ints ≡ length x.top.ints → length g.refs ≡ length x.top.refs → HasAllRegisters g
     onto g a b = widened x.top g (mine x.top (inl refl)) a b
 
-    below : (g : Frame) → In x.below g → IsWide g
+    below : (g : Frame) → In x.below g → HasAllRegisters g
     below g h = mine g (inr h)
 
     either_wide : (b : Bool) (m1 m2 : MachineState) → AllWide m1.tasks → AllWide m2.tasks → AllWide (cond b m1 m2).tasks
@@ -181,8 +181,8 @@ run_wide p m (t ∷ ts) A = run_wide p (step p m t) ts (step_wide p m t A)
 start_wide : (p : ProgramText) (limit : ℕ) → AllWide (start p limit).tasks
 start_wide p limit zero x e = let same : root p ≡ x = cc in subst WideTask same (λ f h. only f h)
   where
-    only : (f : Frame) → In ((root p).top ∷ []) f → IsWide f
-    only f (inl e) = subst IsWide e (record { ints = refl; refs = refl })
+    only : (f : Frame) → In ((root p).top ∷ []) f → HasAllRegisters f
+    only f (inl e) = subst HasAllRegisters e (record { ints = refl; refs = refl })
     only f (inr none) = absurd none
 start_wide p limit (suc t) x e = absurd cc
 
@@ -198,7 +198,7 @@ Bounded limit o = HasFewFields (max limit 16) o × (length o.refs + length o.int
 abbrev FewIn : ℕ → List (List Object) → Type 0
 FewIn limit store = (n : Name) (o : Object) → object_at store n ≡ Some o → Bounded limit o
 
-sized : (limit : ℕ) (f : Frame) (o : Object) → IsWide f → IsSized limit f o → Bounded limit o
+sized : (limit : ℕ) (f : Frame) (o : Object) → HasAllRegisters f → IsSized limit f o → Bounded limit o
 sized limit f o w (inl s) = (record { refs = omega (arith, s); ints = omega (arith, s) }, omega (arith, s))
 sized limit f o w (inr s) = let a = s.0 in let b = s.1 in let c = w.refs in let d = w.ints in (record { refs = omega (arith, a, c); ints = omega (arith, b, d) }, omega (arith, a, b, c, d))
 

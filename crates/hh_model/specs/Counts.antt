@@ -29,7 +29,7 @@ StepsCount = (p : ProgramText) (m : MachineState) (t k : ℕ) → IsForkJoinStat
 -- REGISTERS AND FIELDS
 
 -- a frame has 16 registers of each kind
-pub record IsWide (f : Frame) : Type 0 where
+pub record HasAllRegisters (f : Frame) : Type 0 where
   pub ints : length f.ints ≡ 16
   pub refs : length f.refs ≡ 16
 
@@ -40,7 +40,7 @@ pub record HasFewFields (most : ℕ) (o : Object) : Type 0 where
 
 -- a `newm` makes at most as many fields as the limit says, of both kinds together, and a `pack` at most 16 of each kind
 pub record SizesIn (m : MachineState) : Type 0 where
-  pub frames : (t : ℕ) (x : Task) (f : Frame) → slice_get m.tasks t ≡ Some x → Contains (x.top ∷ x.below) f → IsWide f
+  pub frames : (t : ℕ) (x : Task) (f : Frame) → slice_get m.tasks t ≡ Some x → Contains (x.top ∷ x.below) f → HasAllRegisters f
   pub objects : (n : Name) (o : Object) → object_at m.store n ≡ Some o → HasFewFields (max m.field_limit 16) o
   pub together : (n : Name) (o : Object) → object_at m.store n ≡ Some o → length o.refs + length o.ints ≤ max m.field_limit 32
 

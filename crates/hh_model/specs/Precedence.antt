@@ -4,13 +4,13 @@ use Rattle.hh_model.specs.declared.data.Strand.{Strand}
 use Rattle.hh_model.specs.declared.data.Edge.{Edge}
 
 -- these edges, each one of the graph, lead from u to v
-abbrev pub IsWalk : List Edge → Strand → List Edge → Strand → Type 0
-IsWalk edges u [] v = u ≡ v
-IsWalk edges u (e ∷ es) v = (e.source ≡ u) × Contains edges e × IsWalk edges e.target es v
+abbrev pub IsEdgeWalk : List Edge → Strand → List Edge → Strand → Type 0
+IsEdgeWalk edges u [] v = u ≡ v
+IsEdgeWalk edges u (e ∷ es) v = (e.source ≡ u) × Contains edges e × IsEdgeWalk edges e.target es v
 
 -- u happens before v, or is v: edges, perhaps none, lead from u to v
 abbrev pub Precedes : List Edge → Strand → Strand → Type 0
-Precedes edges u v = (es : List Edge) × IsWalk edges u es v
+Precedes edges u v = (es : List Edge) × IsEdgeWalk edges u es v
 
 abbrev pub same_strand : Strand → Strand → Bool
 same_strand u v = (u.task == v.task) && (u.joins == v.joins)

@@ -4,11 +4,11 @@ pub use Rattle.hh_lang.specs.Number.{is_numeral}
 pub use Rattle.image_check.specs.ImageFault.{has_wrong_place, is_misplaced, fault_from_line, after_lines, onto_count, object_count, lacks_parent, cause_on, is_astray, crosses, forgets, or_later_line, lines_fault, objects_in, Verifies, relation_to, is_apart, is_below, is_forgotten, owner_runs, is_end, breaks_form, cause_by, image_fault, image_too_long, is_crowded, object_cause_in, references_cause}
 pub use Rattle.image_check.specs.ImageTable.{with_entry, found, has, with_new}
 pub use Rattle.image_check.specs.Line.{line_meaning, number_below, references_in, with_front}
-pub use Rattle.image_check.specs.Links.{StandsAt, IsParentAt, AreLinksOf}
+pub use Rattle.image_check.specs.Links.{TaskStandsAt, IsParentAt, AreLinksOf}
 pub use Rattle.image_check.specs.Read.{rises, after_line, nothing_read, whole_of, most, with_line, with_lines, nothing_had, position_of, last_after}
 pub use Rattle.image_check.specs.Sets.{is_among, with_item, same_field, same_birth}
-pub use Rattle.image_check.specs.Sound.{ObjectsAreCounted, IsObjectAt, IsRemembered, AreClear, TasksAreRelated, LineSays, ReferenceIs, IsInRunning, LeadsSomewhere, KeepsToPath, IsSoundObject, all_read, HasSoundObjects, HasDistinctBirths, FaultlessIsSound}
-pub use Rattle.image_check.specs.Tasks.{Tasks, image_parent, is_ancestor_of, LinksLead, IsAncestor, there_or_on, meets, IsRelated, Chunks, owner_in, owner_at, is_running, chunk_at, HasParent, parent_of_row}
+pub use Rattle.image_check.specs.Sound.{ObjectsAreCounted, IsImageObjectAt, IsRemembered, AreClear, TasksAreRelated, LineSays, ReferenceIs, IsInRunning, LeadsSomewhere, KeepsToPath, IsSoundObject, all_read, HasSoundObjects, HasDistinctBirths, FaultlessIsSound}
+pub use Rattle.image_check.specs.ImageTasks.{ImageTasks, image_parent, is_ancestor_of, LinksLead, IsProperAncestor, there_or_on, meets, IsRelated, Chunks, owner_in, owner_at, is_running, chunk_at, HasParent, parent_of_row}
 pub use Rattle.image_check.specs.declared.cause.ImageCause.{ImageCause}
 pub use Rattle.image_check.specs.declared.cause.ImageCause.TheVariants.{NoTask, Ref, Cross, Down, Line, Twice, Place, Running}
 pub use Rattle.image_check.specs.declared.cause.ImageFault.{ImageFault}

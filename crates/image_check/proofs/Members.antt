@@ -1,5 +1,5 @@
 -- What the whole text has comes from its lines.
-use Rattle.image_check.proofs.Common.{◌≡◌, ◌++◌, ℕ, suc, Bool, true, false, List, [], ◌∷◌, cond, length, refl, ap, sym, ◌∙◌, inl, inr, ◌⊎◌, ◌==◌, ◌&&◌, ◌||◌, nat_eq, is_some, list_any, eqb-true, or_cases, or_left, or_right, and_parts, ImageObject, ImageRemembered, ImageLine, Nothing, Wrong, Title, OfTask, OfChunk, OfObject, OfRemembered, OfEnd, Whole, line_meaning, is_among, with_item, same_field, found, has, most, with_line, with_lines, IsObjectAt, IsRemembered}
+use Rattle.image_check.proofs.Common.{◌≡◌, ◌++◌, ℕ, suc, Bool, true, false, List, [], ◌∷◌, cond, length, refl, ap, sym, ◌∙◌, inl, inr, ◌⊎◌, ◌==◌, ◌&&◌, ◌||◌, nat_eq, is_some, list_any, eqb-true, or_cases, or_left, or_right, and_parts, ImageObject, ImageRemembered, ImageLine, Nothing, Wrong, Title, OfTask, OfChunk, OfObject, OfRemembered, OfEnd, Whole, line_meaning, is_among, with_item, same_field, found, has, most, with_line, with_lines, IsImageObjectAt, IsRemembered}
 use Rattle.image_check.proofs.Entries.{found_beside}
 
 -- ITEMS
@@ -108,14 +108,14 @@ object_line w (OfObject o) v e = object_line_by_cases (nat_eq v o.address) refl
     object_line_by_cases true is = inr (o, refl, sym (eqb-true v o.address is))
     object_line_by_cases false is = inl (sym (ap is_some (found_beside w.objects o.address v (most (found w.objects o.address) (length o.references)) is)) ∙ e)
 
-pub object_from : (w : Whole) (ls : List (List ℕ)) (v : ℕ) → has (with_lines w ls).objects v ≡ true → (has w.objects v ≡ true) ⊎ IsObjectAt ls v
+pub object_from : (w : Whole) (ls : List (List ℕ)) (v : ℕ) → has (with_lines w ls).objects v ≡ true → (has w.objects v ≡ true) ⊎ IsImageObjectAt ls v
 object_from w [] v e = inl e
 object_from w (l ∷ ls) v e = object_from_by_cases (object_from (with_line w (line_meaning l)) ls v e)
   where
-    object_from_at : ((has w.objects v ≡ true) ⊎ ((o : ImageObject) × (line_meaning l ≡ OfObject o) × (o.address ≡ v))) → (has w.objects v ≡ true) ⊎ IsObjectAt (l ∷ ls) v
+    object_from_at : ((has w.objects v ≡ true) ⊎ ((o : ImageObject) × (line_meaning l ≡ OfObject o) × (o.address ≡ v))) → (has w.objects v ≡ true) ⊎ IsImageObjectAt (l ∷ ls) v
     object_from_at (inl h) = inl h
     object_from_at (inr h) = inr (0, h.0, h.1, h.2)
 
-    object_from_by_cases : ((has (with_line w (line_meaning l)).objects v ≡ true) ⊎ IsObjectAt ls v) → (has w.objects v ≡ true) ⊎ IsObjectAt (l ∷ ls) v
+    object_from_by_cases : ((has (with_line w (line_meaning l)).objects v ≡ true) ⊎ IsImageObjectAt ls v) → (has w.objects v ≡ true) ⊎ IsImageObjectAt (l ∷ ls) v
     object_from_by_cases (inl h) = object_from_at (object_line w (line_meaning l) v h)
     object_from_by_cases (inr h) = inr (suc h.0, h.1, h.2, h.3)

@@ -1,29 +1,29 @@
 -- Ancestors among tasks that each stand after their parents.
-use Rattle.image_check.proofs.Common.{◌≡◌, ◌<◌, ◌≤◌, ◌+◌, ℕ, zero, suc, Bool, true, false, cond, [], ◌∷◌, ◌++◌, length, refl, ap, sym, ◌∙◌, arith, inl, inr, ◌⊎◌, subst, length-append, Option, Some, None, ◌==◌, slice_get, nat_eq, is_some, eqb-true, or_cases, or_left, or_right, same_Some, got_front, got_back, got_within, below_next, ImageTask, Own, Above, Below, Apart, found, has, Tasks, image_parent, there_or_on, meets, is_ancestor_of, LinksLead, IsAncestor, IsRelated, StandsAt, parent_of_row}
+use Rattle.image_check.proofs.Common.{◌≡◌, ◌<◌, ◌≤◌, ◌+◌, ℕ, zero, suc, Bool, true, false, cond, [], ◌∷◌, ◌++◌, length, refl, ap, sym, ◌∙◌, arith, inl, inr, ◌⊎◌, subst, length-append, Option, Some, None, ◌==◌, slice_get, nat_eq, is_some, eqb-true, or_cases, or_left, or_right, same_Some, got_front, got_back, got_within, below_next, ImageTask, Own, Above, Below, Apart, found, has, ImageTasks, image_parent, there_or_on, meets, is_ancestor_of, LinksLead, IsProperAncestor, IsRelated, TaskStandsAt, parent_of_row}
 use Rattle.image_check.proofs.Entries.{itself}
 
 abbrev pub Entry : Type 0
 Entry = ℕ × ImageTask
 
 -- no number occurs twice
-abbrev pub AreApart : Tasks → Type 0
+abbrev pub AreApart : ImageTasks → Type 0
 AreApart es = (i j : ℕ) (e f : Entry) → slice_get es i ≡ Some e → slice_get es j ≡ Some f → e.0 ≡ f.0 → i ≡ j
 
 -- each task stands once, after its parent
-pub record AreOrdered (es : Tasks) : Type 0 where
+pub record AreOrdered (es : ImageTasks) : Type 0 where
   pub apart : AreApart es
-  pub behind : (i : ℕ) (e : Entry) (p : ℕ) → slice_get es i ≡ Some e → e.1.parent ≡ Some p → (j : ℕ) × (j < i) × StandsAt es j p
+  pub behind : (i : ℕ) (e : Entry) (p : ℕ) → slice_get es i ≡ Some e → e.1.parent ≡ Some p → (j : ℕ) × (j < i) × TaskStandsAt es j p
 
 -- LOOKING UP
 
-pub record IsPlaced (es : Tasks) (t : ℕ) (x : ImageTask) : Type 0 where
+pub record IsPlaced (es : ImageTasks) (t : ℕ) (x : ImageTask) : Type 0 where
   pub place : ℕ
   pub entry : Entry
   pub got : slice_get es place ≡ Some entry
   pub number : entry.0 ≡ t
   pub task : entry.1 ≡ x
 
-pub placed : (es : Tasks) (t : ℕ) (x : ImageTask) → found es t ≡ Some x → IsPlaced es t x
+pub placed : (es : ImageTasks) (t : ℕ) (x : ImageTask) → found es t ≡ Some x → IsPlaced es t x
 placed [] t x h = absurd cc
 placed (e ∷ es) t x h = placed_by_cases (nat_eq t e.0) refl h (placed es t x)
   where
@@ -31,7 +31,7 @@ placed (e ∷ es) t x h = placed_by_cases (nat_eq t e.0) refl h (placed es t x)
     placed_by_cases true is g again = record { place = 0; entry = e; got = refl; number = sym (eqb-true t e.0 is); task = same_Some e.1 x (rw is at g) }
     placed_by_cases false is g again = let p = again (rw is at g) in record { place = suc p.place; entry = p.entry; got = p.got; number = p.number; task = p.task }
 
-pub task_is_found : (es : Tasks) (i : ℕ) (e : Entry) → slice_get es i ≡ Some e → (x : ImageTask) × (found es e.0 ≡ Some x)
+pub task_is_found : (es : ImageTasks) (i : ℕ) (e : Entry) → slice_get es i ≡ Some e → (x : ImageTask) × (found es e.0 ≡ Some x)
 task_is_found [] i e h = absurd cc
 task_is_found (f ∷ es) zero e h = let s : f ≡ e = same_Some f e h in task_is_found_by_cases (nat_eq e.0 f.0) refl
   where
@@ -44,7 +44,7 @@ task_is_found (f ∷ es) (suc i) e h = task_is_found_by_cases (nat_eq e.0 f.0) r
     task_is_found_by_cases true is r = (f.1, rw is refl)
     task_is_found_by_cases false is r = (r.0, rw is r.1)
 
-module _ (es : Tasks) (o : AreOrdered es) where
+module _ (es : ImageTasks) (o : AreOrdered es) where
   -- the task at a place is the one that a lookup finds
   pub found_at : (i : ℕ) (e : Entry) → slice_get es i ≡ Some e → found es e.0 ≡ Some e.1
   found_at i e h =
@@ -54,22 +54,22 @@ module _ (es : Tasks) (o : AreOrdered es) where
       let entry : p.entry ≡ e = same_Some p.entry e (sym p.got ∙ ap (slice_get es) same ∙ h) in
       x.1 ∙ ap Some (sym p.task ∙ ap (λ (f : Entry). f.1) entry)
 
-  parent_at : (i : ℕ) (t a : ℕ) → StandsAt es i t → image_parent es t ≡ Some a → (j : ℕ) × (j < i) × StandsAt es j a
+  parent_at : (i : ℕ) (t a : ℕ) → TaskStandsAt es i t → image_parent es t ≡ Some a → (j : ℕ) × (j < i) × TaskStandsAt es j a
   parent_at i t a s h = o.behind i s.0 a s.1 (sym (ap parent_of_row (ap (found es) (sym s.2) ∙ found_at i s.0 s.1)) ∙ h)
 
   -- links lead to earlier places
-  pub lead_up : (n t a i : ℕ) → StandsAt es i t → LinksLead n es t a → (j : ℕ) × (suc n + j ≤ i) × StandsAt es j a
+  pub lead_up : (n t a i : ℕ) → TaskStandsAt es i t → LinksLead n es t a → (j : ℕ) × (suc n + j ≤ i) × TaskStandsAt es j a
   lead_up zero t a i s h = let p = parent_at i t a s h in (p.0, (let l : p.0 < i = p.1 in omega (arith, l)), p.2)
   lead_up (suc n) t a i s h =
       let p = parent_at i t h.0 s h.1 in
       let r = lead_up n h.0 a p.0 p.2 h.2 in
       (r.0, (let l : p.0 < i = p.1 in let m : suc n + r.0 ≤ p.0 = r.1 in omega (arith, l, m)), r.2)
 
-  child_stands : (t a : ℕ) (m : Option ImageTask) → found es t ≡ m → parent_of_row m ≡ Some a → (i : ℕ) × StandsAt es i t
+  child_stands : (t a : ℕ) (m : Option ImageTask) → found es t ≡ m → parent_of_row m ≡ Some a → (i : ℕ) × TaskStandsAt es i t
   child_stands t a None e h = absurd cc
   child_stands t a (Some x) e h = let p = placed es t x e in (p.place, (p.entry, p.got, p.number))
 
-  pub first_link : (n t a : ℕ) → LinksLead n es t a → (i : ℕ) × StandsAt es i t
+  pub first_link : (n t a : ℕ) → LinksLead n es t a → (i : ℕ) × TaskStandsAt es i t
   first_link zero t a h = child_stands t a (found es t) refl h
   first_link (suc n) t a h = child_stands t h.0 (found es t) refl h.1
 
@@ -87,23 +87,23 @@ module _ (es : Tasks) (o : AreOrdered es) where
   met (suc m) (suc n) t a lt h = ap (there_or_on a (meets m es a)) h.1 ∙ or_right (h.0 == a) (meets m es a h.0) (met m n h.0 a (omega (arith, lt)) h.2)
 
   -- an ancestor is met
-  pub met_ancestor : (a t : ℕ) → IsAncestor es a t → is_ancestor_of es a t ≡ true
+  pub met_ancestor : (a t : ℕ) → IsProperAncestor es a t → is_ancestor_of es a t ≡ true
   met_ancestor a t h = met (length es) h.0 t a (within h.0 t a h.1) h.1
 
   -- no ancestor of a task is its descendant
-  never : (fuel i t a : ℕ) → i < fuel → StandsAt es i t → IsAncestor es a t → IsAncestor es t a → ⊥
+  never : (fuel i t a : ℕ) → i < fuel → TaskStandsAt es i t → IsProperAncestor es a t → IsProperAncestor es t a → ⊥
   never zero i t a lt s up down = omega (arith, lt)
   never (suc fuel) i t a lt s up down =
       let r = lead_up up.0 t a i s up.1 in
       never fuel r.0 a t (let l : suc up.0 + r.0 ≤ i = r.1 in omega (arith, l, lt)) r.2 down up
 
-  pub never_both : (a t : ℕ) → IsAncestor es a t → IsAncestor es t a → ⊥
+  pub never_both : (a t : ℕ) → IsProperAncestor es a t → IsProperAncestor es t a → ⊥
   never_both a t up down = let i = first_link up.0 t a up.1 in never (suc i.0) i.0 t a (omega arith) i.1 up down
 
 -- ONE MORE TASK
 
-module _ (es : Tasks) (n : ℕ) (t : ImageTask) where
-  abbrev pub task_more : Tasks
+module _ (es : ImageTasks) (n : ℕ) (t : ImageTask) where
+  abbrev pub task_more : ImageTasks
   task_more = es ++ (n, t) ∷ []
 
   pub same_entry : (i : ℕ) → i < length es → slice_get task_more i ≡ slice_get es i
@@ -136,14 +136,14 @@ module _ (es : Tasks) (n : ℕ) (t : ImageTask) where
   pub apart_more : AreApart es → has es n ≡ false → AreApart task_more
   apart_more apart new i j e f g h = apart_by apart new i j e f (where_is i e g) (where_is j f h)
 
-  pub still_stands : (j p : ℕ) → StandsAt es j p → StandsAt task_more j p
+  pub still_stands : (j p : ℕ) → TaskStandsAt es j p → TaskStandsAt task_more j p
   still_stands j p s = (s.0, same_entry j (got_within es j s.0 s.1) ∙ s.1, s.2)
 
-  behind_by : AreOrdered es → (i : ℕ) (e : Entry) (p : ℕ) → Where i e → e.1.parent ≡ Some p → ((q : ℕ) → t.parent ≡ Some q → has es q ≡ true) → (j : ℕ) × (j < i) × StandsAt task_more j p
+  behind_by : AreOrdered es → (i : ℕ) (e : Entry) (p : ℕ) → Where i e → e.1.parent ≡ Some p → ((q : ℕ) → t.parent ≡ Some q → has es q ≡ true) → (j : ℕ) × (j < i) × TaskStandsAt task_more j p
   behind_by o i e p (front lt g) h parent = let r = o.behind i e p g h in (r.0, r.1, still_stands r.0 p r.2)
   behind_by o i e p (last at_end g) h parent = behind_by_cases (found es p) refl
     where
-      behind_by_cases : (m : Option ImageTask) → found es p ≡ m → (j : ℕ) × (j < i) × StandsAt task_more j p
+      behind_by_cases : (m : Option ImageTask) → found es p ≡ m → (j : ℕ) × (j < i) × TaskStandsAt task_more j p
       behind_by_cases None none = absurd (let f = parent p (ap (λ (x : Entry). x.1.parent) g ∙ h) in let q : has es p ≡ false = ap is_some none in cc)
       behind_by_cases (Some x) some =
           let r = placed es p x some in
@@ -155,37 +155,37 @@ module _ (es : Tasks) (n : ℕ) (t : ImageTask) where
 
 -- WHAT IS MET IS AN ANCESTOR
 
-one_more : (n : ℕ) (tasks : Tasks) (a t : ℕ) (m : Option ℕ) → image_parent tasks t ≡ m → ((p : ℕ) → meets n tasks a p ≡ true → IsAncestor tasks a p) → there_or_on a (meets n tasks a) m ≡ true → IsAncestor tasks a t
+one_more : (n : ℕ) (tasks : ImageTasks) (a t : ℕ) (m : Option ℕ) → image_parent tasks t ≡ m → ((p : ℕ) → meets n tasks a p ≡ true → IsProperAncestor tasks a p) → there_or_on a (meets n tasks a) m ≡ true → IsProperAncestor tasks a t
 one_more n tasks a t None e again h = absurd (cc)
 one_more n tasks a t (Some p) e again h = one_more_by_cases (or_cases (p == a) (meets n tasks a p) h)
   where
-    one_more_by_cases : (((p == a) ≡ true) ⊎ (meets n tasks a p ≡ true)) → IsAncestor tasks a t
+    one_more_by_cases : (((p == a) ≡ true) ⊎ (meets n tasks a p ≡ true)) → IsProperAncestor tasks a t
     one_more_by_cases (inl g) = (0, e ∙ ap Some (eqb-true p a g))
     one_more_by_cases (inr g) = let up = again p g in (suc up.0, (p, e, up.1))
 
-met_above : (n : ℕ) (tasks : Tasks) (a t : ℕ) → meets n tasks a t ≡ true → IsAncestor tasks a t
+met_above : (n : ℕ) (tasks : ImageTasks) (a t : ℕ) → meets n tasks a t ≡ true → IsProperAncestor tasks a t
 met_above zero tasks a t h = absurd (cc)
 met_above (suc n) tasks a t h = one_more n tasks a t (image_parent tasks t) refl (λ p g. met_above n tasks a p g) h
 
-pub above : (tasks : Tasks) (a t : ℕ) → is_ancestor_of tasks a t ≡ true → IsAncestor tasks a t
+pub above : (tasks : ImageTasks) (a t : ℕ) → is_ancestor_of tasks a t ≡ true → IsProperAncestor tasks a t
 above tasks a t h = met_above (length tasks) tasks a t h
 
 -- HOW TASKS STAND TO EACH OTHER
 
-module _ (es : Tasks) (o : AreOrdered es) (t u : ℕ) where
+module _ (es : ImageTasks) (o : AreOrdered es) (t u : ℕ) where
   own_by : (same up down : Bool) → (u == t) ≡ same → (cond same Own (cond up Above (cond down Below Apart)) ≡ Own) → u ≡ t
   own_by true up down e h = eqb-true u t e
   own_by false true down e h = absurd cc
   own_by false false true e h = absurd cc
   own_by false false false e h = absurd cc
 
-  above_by : (same up down : Bool) → is_ancestor_of es u t ≡ up → (cond same Own (cond up Above (cond down Below Apart)) ≡ Above) → IsAncestor es u t
+  above_by : (same up down : Bool) → is_ancestor_of es u t ≡ up → (cond same Own (cond up Above (cond down Below Apart)) ≡ Above) → IsProperAncestor es u t
   above_by true up down e h = absurd cc
   above_by false true down e h = above es u t e
   above_by false false true e h = absurd cc
   above_by false false false e h = absurd cc
 
-  below_by : (same up down : Bool) → is_ancestor_of es t u ≡ down → (cond same Own (cond up Above (cond down Below Apart)) ≡ Below) → IsAncestor es t u
+  below_by : (same up down : Bool) → is_ancestor_of es t u ≡ down → (cond same Own (cond up Above (cond down Below Apart)) ≡ Below) → IsProperAncestor es t u
   below_by true up down e h = absurd cc
   below_by false true down e h = absurd cc
   below_by false false true e h = above es t u e
@@ -195,12 +195,12 @@ module _ (es : Tasks) (o : AreOrdered es) (t u : ℕ) where
   not_own true e ne = absurd (ne (eqb-true u t e))
   not_own false e ne = e
 
-  not_met : (b : Bool) → is_ancestor_of es u t ≡ b → (IsAncestor es u t → ⊥) → is_ancestor_of es u t ≡ false
+  not_met : (b : Bool) → is_ancestor_of es u t ≡ b → (IsProperAncestor es u t → ⊥) → is_ancestor_of es u t ≡ false
   not_met true e never = absurd (never (above es u t e))
   not_met false e never = e
 
-  no_loop : (a b : ℕ) → IsAncestor es a b → a ≡ b → ⊥
-  no_loop a b h e = never_both es o a b h (subst (λ x. IsAncestor es b x) (sym e) (subst (λ x. IsAncestor es x b) e h))
+  no_loop : (a b : ℕ) → IsProperAncestor es a b → a ≡ b → ⊥
+  no_loop a b h e = never_both es o a b h (subst (λ x. IsProperAncestor es b x) (sym e) (subst (λ x. IsProperAncestor es x b) e h))
 
   pub related : IsRelated es t u
   related = record {

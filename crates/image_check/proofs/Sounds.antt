@@ -1,5 +1,5 @@
 -- A text without a fault is sound.
-use Rattle.image_check.proofs.Common.{◌≡◌, ◌+◌, ℕ, zero, suc, Bool, true, false, cond, List, [], ◌∷◌, refl, ap, sym, ◌∙◌, arith, inl, inr, ◌⊎◌, subst, Option, Some, None, ◌==◌, ◌&&◌, ◌||◌, not, list_any, eqb-true, not-false, or_cases, or_parts, both_ways, is_last, lines_of, ImageBirth, ImageObject, ImageLine, Nothing, Wrong, Title, OfTask, OfChunk, OfObject, OfRemembered, OfEnd, Read, Whole, line_meaning, is_among, same_birth, same_field, has, nothing_read, nothing_had, after_line, with_lines, whole_of, Own, Above, Below, Apart, Tasks, Chunks, is_ancestor_of, owner_in, owner_at, cause_on, fault_from_line, lines_fault, is_astray, relation_to, is_apart, is_below, crosses, forgets, is_forgotten, owner_runs, LineSays, ReferenceIs, IsObjectAt, IsRemembered, IsInRunning, LeadsSomewhere, KeepsToPath, IsSoundObject, all_read, HasSoundObjects, HasDistinctBirths, FaultlessIsSound}
+use Rattle.image_check.proofs.Common.{◌≡◌, ◌+◌, ℕ, zero, suc, Bool, true, false, cond, List, [], ◌∷◌, refl, ap, sym, ◌∙◌, arith, inl, inr, ◌⊎◌, subst, Option, Some, None, ◌==◌, ◌&&◌, ◌||◌, not, list_any, eqb-true, not-false, or_cases, or_parts, both_ways, is_last, lines_of, ImageBirth, ImageObject, ImageLine, Nothing, Wrong, Title, OfTask, OfChunk, OfObject, OfRemembered, OfEnd, Read, Whole, line_meaning, is_among, same_birth, same_field, has, nothing_read, nothing_had, after_line, with_lines, whole_of, Own, Above, Below, Apart, ImageTasks, Chunks, is_ancestor_of, owner_in, owner_at, cause_on, fault_from_line, lines_fault, is_astray, relation_to, is_apart, is_below, crosses, forgets, is_forgotten, owner_runs, LineSays, ReferenceIs, IsImageObjectAt, IsRemembered, IsInRunning, LeadsSomewhere, KeepsToPath, IsSoundObject, all_read, HasSoundObjects, HasDistinctBirths, FaultlessIsSound}
 use Rattle.image_check.proofs.Paths.{above}
 use Rattle.image_check.proofs.Steps.{clear, faultless, IsWell, well, met}
 use Rattle.image_check.proofs.Members.{item_kept, item_added, field_from, object_from}
@@ -72,7 +72,7 @@ module _ (ls : List (List ℕ)) (r : Read) where
   abbrev w : Whole
   w = with_lines nothing_had ls
 
-  at_object : (v : ℕ) → ((has nothing_had.objects v ≡ true) ⊎ IsObjectAt ls v) → IsObjectAt ls v
+  at_object : (v : ℕ) → ((has nothing_had.objects v ≡ true) ⊎ IsImageObjectAt ls v) → IsImageObjectAt ls v
   at_object v (inl e) = absurd (cc)
   at_object v (inr h) = h
 
@@ -115,7 +115,7 @@ module _ (ls : List (List ℕ)) (r : Read) where
   }
 
 -- soundness depends only on the tasks and the chunks
-abbrev with_tables : Tasks → Chunks → Read
+abbrev with_tables : ImageTasks → Chunks → Read
 with_tables tasks chunks = record nothing_read { tasks = tasks; chunks = chunks }
 
 same_tables : (ls : List (List ℕ)) (o : ImageObject) (r s : Read) → s.tasks ≡ r.tasks → s.chunks ≡ r.chunks → IsSoundObject ls r o → IsSoundObject ls s o

@@ -23,7 +23,7 @@ use Rattle.image_check.specs.Place.{chunk_number, offset}
 use Rattle.image_check.specs.Read.{position_of, comes_next, object_end, last_after, nothing_read, after_line, whole_of}
 use Rattle.image_check.specs.declared.tasks.Relation.{Relation}
 use Rattle.image_check.specs.declared.tasks.Relation.TheVariants.{Below, Apart}
-use Rattle.image_check.specs.Tasks.{Tasks, is_ancestor_of, relation_of, HasParent, is_running, chunk_at, owner_at}
+use Rattle.image_check.specs.ImageTasks.{ImageTasks, is_ancestor_of, relation_of, HasParent, is_running, chunk_at, owner_at}
 
 -- LINE
 
@@ -70,7 +70,7 @@ abbrev pub is_astray : Whole → Read → ℕ → Bool
 is_astray w r v = not ((v == 0) || (has w.objects v || owner_runs r (owner_at r.chunks v)))
 
 -- how the owner of a reference's target is related to t, if it has one
-abbrev pub relation_to : Tasks → ℕ → Option ℕ → Option Relation
+abbrev pub relation_to : ImageTasks → ℕ → Option ℕ → Option Relation
 relation_to tasks t None = None
 relation_to tasks t (Some u) = Some (relation_of tasks t u)
 
@@ -156,10 +156,10 @@ abbrev pub cause_on : Whole → Read → Bool → ImageLine → Option ImageCaus
 cause_on w r is_last s = if breaks_form r is_last s then Some Line else cause_by w r s
 
 -- what a line without a fault must have: a known parent, or a nonzero address
-abbrev pub CanFollow : Read → ImageLine → Type 0
-CanFollow r (OfTask t) = HasParent r.tasks t.parent
-CanFollow r (OfObject o) = 0 < o.address
-CanFollow r _ = Unit {0}
+abbrev pub HasParentOrAddress : Read → ImageLine → Type 0
+HasParentOrAddress r (OfTask t) = HasParent r.tasks t.parent
+HasParentOrAddress r (OfObject o) = 0 < o.address
+HasParentOrAddress r _ = Unit {0}
 
 -- THE FIRST LINE WITH A FAULT
 

@@ -4,7 +4,7 @@ pub mod ImageTable
 pub mod Line
 pub mod Place
 pub mod Read
-pub mod Tasks
+pub mod ImageTasks
 pub mod Links
 pub mod ImageFault
 pub mod Sound

@@ -8,7 +8,7 @@ use Rattle.image_check.specs.declared.read.Read.{Read}
 use Rattle.image_check.specs.Line.{line_meaning}
 use Rattle.image_check.specs.declared.whole.Whole.{Whole}
 use Rattle.image_check.specs.Read.{nothing_read, after_line}
-use Rattle.image_check.specs.Tasks.{IsAncestor, IsRelated, is_running, owner_at}
+use Rattle.image_check.specs.ImageTasks.{IsProperAncestor, IsRelated, is_running, owner_at}
 use Rattle.image_check.specs.ImageFault.{cause_on, image_fault, after_lines, objects_in, object_count}
 
 -- the line at this place says this
@@ -24,8 +24,8 @@ ReferenceIs (x ∷ xs) zero v = x ≡ v
 ReferenceIs (x ∷ xs) (suc k) v = ReferenceIs xs k v
 
 -- some line says an object with this address
-abbrev pub IsObjectAt : List (List ℕ) → ℕ → Type 0
-IsObjectAt lines a = (i : ℕ) × (o : ImageObject) × LineSays lines i (OfObject o) × (o.address ≡ a)
+abbrev pub IsImageObjectAt : List (List ℕ) → ℕ → Type 0
+IsImageObjectAt lines a = (i : ℕ) × (o : ImageObject) × LineSays lines i (OfObject o) × (o.address ≡ a)
 
 -- some line says that task u remembers field k of the object at a
 abbrev pub IsRemembered : List (List ℕ) → ℕ → ℕ → ℕ → Type 0
@@ -37,11 +37,11 @@ IsInRunning r v = (u : ℕ) × (owner_at r.chunks v ≡ Some u) × (is_running r
 
 -- nil, an object's address, or in a running task's chunk
 abbrev pub LeadsSomewhere : List (List ℕ) → Read → ℕ → Type 0
-LeadsSomewhere lines r v = (v ≡ 0) ⊎ (IsObjectAt lines v ⊎ IsInRunning r v)
+LeadsSomewhere lines r v = (v ≡ 0) ⊎ (IsImageObjectAt lines v ⊎ IsInRunning r v)
 
 -- a reference from heap t to heap u stays inside, goes up, or is remembered
 abbrev pub KeepsToPath : List (List ℕ) → Read → ℕ → ℕ → ℕ → ℕ → Type 0
-KeepsToPath lines r a k t u = (u ≡ t) ⊎ (IsAncestor r.tasks u t ⊎ (IsAncestor r.tasks t u × IsRemembered lines u a k))
+KeepsToPath lines r a k t u = (u ≡ t) ⊎ (IsProperAncestor r.tasks u t ⊎ (IsProperAncestor r.tasks t u × IsRemembered lines u a k))
 
 -- each object is in a heap, and each of its references is allowed
 pub record IsSoundObject (lines : List (List ℕ)) (r : Read) (o : ImageObject) : Type 0 where

@@ -2,8 +2,8 @@
 
 ghost use Rattle.std.specs.Prelude.{◌≡◌, ◌≤◌, ◌<◌, ◌+◌, ◌&&◌, length, not, Some, IfNone};
 ghost use Rattle.image_check.specs.Read.{IsSized};
-ghost use Rattle.image_check.specs.Tasks.{owner_at};
-ghost use Rattle.image_check.specs.ImageFault.{is_misplaced, breaks_form, lacks_parent, overlaps, is_crowded, is_astray, relation_to, is_apart, is_below, is_noted, is_no_field, references_cause, object_cause, object_cause_in, remembered_cause, cause_by, cause_on, CanFollow};
+ghost use Rattle.image_check.specs.ImageTasks.{owner_at};
+ghost use Rattle.image_check.specs.ImageFault.{is_misplaced, breaks_form, lacks_parent, overlaps, is_crowded, is_astray, relation_to, is_apart, is_below, is_noted, is_no_field, references_cause, object_cause, object_cause_in, remembered_cause, cause_by, cause_on, HasParentOrAddress};
 ghost use Rattle.image_check.specs.Line.{most_fields};
 
 use crate::cause::ImageCause;
@@ -254,7 +254,7 @@ pub(crate) fn first_cause(
 ) -> Option<ImageCause>
     requires sized { IsSized said.now }
     ensures cause { result ≡ cause_on whole.now read.now is_last said.now }
-    ensures follows { IfNone result (CanFollow read.now said.now) }
+    ensures follows { IfNone result (HasParentOrAddress read.now said.now) }
 {
     if is_unformed(read, is_last, said) {
         return Some(ImageCause::Line);

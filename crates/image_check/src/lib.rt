@@ -32,4 +32,4 @@ pub use number::read_short;
 pub use owners::{chunk_of_address, owner_of};
 pub use read::Read;
 pub use table::ImageTable;
-pub use tasks::{Relation, Tasks};
+pub use tasks::{ImageTasks, Relation};

@@ -1,7 +1,7 @@
 // Chunks and their owners.
 
 ghost use Rattle.std.specs.Prelude.{◌≡◌};
-ghost use Rattle.image_check.specs.Tasks.{chunk_at, owner_at};
+ghost use Rattle.image_check.specs.ImageTasks.{chunk_at, owner_at};
 
 use crate::line::ImageChunk;
 use crate::read::chunk_of;

@@ -8,7 +8,7 @@ ghost use Rattle.image_check.specs.Line.{most_fields};
 use crate::line::{ImageChunk, ImageLine, ImageObject};
 use crate::sets::Births;
 use crate::table::ImageTable;
-use crate::tasks::Tasks;
+use crate::tasks::ImageTasks;
 use chunk_sizes::CHUNK_WORDS;
 use std::alloc::{AllocError, Global};
 
@@ -33,7 +33,7 @@ pub struct ImageExtent {
 pub struct Read {
     /// The position of the last line.
     pub last: Option<ImagePosition>,
-    pub tasks: Tasks,
+    pub tasks: ImageTasks,
     pub chunks: ImageTable<ImageChunk>,
     /// The number of references of each object, by address.
     pub objects: ImageTable<u64>,
@@ -112,7 +112,7 @@ pub(crate) fn extent_in(object: &ImageObject) -> ImageExtent
 impl Read {
     ghost use Rattle.std.specs.Prelude.{◌≡◌, ◌<◌, ◌≤◌, ◌+◌, OnOk, length};
     ghost use Rattle.image_check.specs.Read.{nothing_read, after_line, IsSized};
-    ghost use Rattle.image_check.specs.ImageFault.{CanFollow};
+    ghost use Rattle.image_check.specs.ImageFault.{HasParentOrAddress};
 
     /// Before the first line.
     pub(crate) fn new(alloc: Global) -> Read
@@ -120,7 +120,7 @@ impl Read {
     {
         Read {
             last: None,
-            tasks: Tasks::new(alloc),
+            tasks: ImageTasks::new(alloc),
             chunks: ImageTable::new(alloc),
             objects: ImageTable::new(alloc),
             births: Births::new(alloc),
@@ -144,7 +144,7 @@ impl Read {
     /// Adds a line without a fault.
     pub(crate) fn add(&mut self, said: &ImageLine) -> Result<(), AllocError>
         requires sized { IsSized said.now }
-        requires follows { CanFollow self.old said.now }
+        requires follows { HasParentOrAddress self.old said.now }
         ensures { OnOk result (self.new ≡ after_line self.old said.now) }
     {
         match said {

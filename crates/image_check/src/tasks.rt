@@ -2,8 +2,8 @@
 
 ghost use Rattle.std.specs.Prelude.{◌≡◌, [], None, OnOk, MatchOption};
 ghost use Rattle.image_check.specs.ImageTable.{has, found, with_new};
-ghost use Rattle.image_check.specs.Tasks.{is_running, is_ancestor_of, relation_of, HasParent};
-ghost use Rattle.image_check.specs.Links.{StandsAt};
+ghost use Rattle.image_check.specs.ImageTasks.{is_running, is_ancestor_of, relation_of, HasParent};
+ghost use Rattle.image_check.specs.Links.{TaskStandsAt};
 
 use crate::line::{ImageState, ImageTask};
 use indexmap::IndexMap;
@@ -26,13 +26,13 @@ pub enum Relation {
 
 /// Tasks by number, each after its parent.
 #[derive(Drop)]
-pub struct Tasks {
+pub struct ImageTasks {
     table: IndexMap<u64, ImageTask>,
     links: Vec<Link>,
 }
 
-impl Model for Tasks {
-    ghost use Rattle.image_check.specs.Tasks.{Tasks as Listed};
+impl Model for ImageTasks {
+    ghost use Rattle.image_check.specs.ImageTasks.{ImageTasks as Listed};
     ghost use Rattle.image_check.specs.Links.{AreLinksOf};
 
     ghost Value = { Listed };
@@ -42,16 +42,16 @@ impl Model for Tasks {
     ghost invariant = { λ t. AreLinksOf t.table.entries t.links.items };
 }
 
-impl Tasks {
+impl ImageTasks {
     ghost use Rattle.std.specs.Prelude.{◌≡◌, [], None, OnOk, MatchOption, length};
     ghost use Rattle.image_check.specs.ImageTable.{has, found, with_new};
-    ghost use Rattle.image_check.specs.Tasks.{is_running, is_ancestor_of, image_parent, relation_of, HasParent};
-    ghost use Rattle.image_check.specs.Links.{StandsAt, IsParentAt};
+    ghost use Rattle.image_check.specs.ImageTasks.{is_running, is_ancestor_of, image_parent, relation_of, HasParent};
+    ghost use Rattle.image_check.specs.Links.{TaskStandsAt, IsParentAt};
 
-    pub(crate) fn new(alloc: Global) -> Tasks
+    pub(crate) fn new(alloc: Global) -> ImageTasks
         ensures { result ≡ [] }
     {
-        Tasks {
+        ImageTasks {
             table: IndexMap::new(alloc),
             links: Vec::new(alloc),
         }
@@ -93,7 +93,7 @@ impl Tasks {
 
     // The place of a task.
     fn place(&self, number: u64) -> Option<usize>
-        ensures { MatchOption result (found self.now number ≡ None) (λ i. StandsAt self.now i number) }
+        ensures { MatchOption result (found self.now number ≡ None) (λ i. TaskStandsAt self.now i number) }
     {
         self.table.get_index_of(&number)
     }

@@ -27,7 +27,7 @@ pub use Rattle.hh_model.specs.declared.data.TaskStatus.{TaskStatus}
 pub use Rattle.hh_model.specs.declared.data.TaskStatus.TheVariants.{Waiting, Running, Ended, Joined}
 pub use Rattle.journal_laws.specs.Accepted.{Allows, AcceptedIsAllowed, IsOutAt, WorkerHoldsTask, IsUnswept}
 pub use Rattle.journal_laws.specs.Frozen.{BeganWith, ForkedWith, HasNone, SnapshotsAreHeld, SnapshotsAreWithin, SurvivorsAreWithin, begins, is_of_steps}
-pub use Rattle.journal_laws.specs.PaceLaw.{GoesOnMarking, IsLastBy, IsNewest, IsPaceOf, IsPrevious, IsToMark, IsUnderWay, KeepsRules, KeepsThePace, NoneBy, PacedKeepsThePace, WaitsOn, fork_by, fork_marked, marked_forks, marked_task}
+pub use Rattle.journal_laws.specs.PaceLaw.{GoesOnMarking, IsLastBy, IsNewest, IsPaceOf, IsPrevious, IsToMark, IsUnderWay, KeepsRules, KeepsThePace, NoEntryBy, PacedKeepsThePace, WaitsOn, fork_by, fork_marked, marked_forks, marked_task}
 pub use Rattle.path_laws.proofs.Leaves.{fork_owner, rows_same, wait_task, waits_alone}
 pub use Rattle.path_laws.specs.Leaves.{WaitsAlone}
 pub use Rattle.plain_vec.proofs.Members.{In, in_from_contains, contains_from_in, got_same, got_other, got_within, in_append_cases, in_from_kept, got_front, in_append_right, flat_in, got_in}
@@ -47,7 +47,7 @@ pub use Rattle.run_ledger.proofs.Machine.{machine_is_run, stepped_machine, heap_
 pub use Rattle.run_ledger.proofs.Members.{same_from_is_name, in_from_holds, holds_from_in}
 pub use Rattle.run_ledger.proofs.Moves.{moves_each}
 pub use Rattle.run_ledger.proofs.Reached.{once_by}
-pub use Rattle.run_ledger.proofs.Sound.{Keeps, InHeaps, names_of, SoundLedger, held_keeps, in_held, collecting}
+pub use Rattle.run_ledger.proofs.Sound.{SomeHeapHas, InHeaps, heap_names, SoundLedger, held_keeps, in_held, collecting}
 pub use Rattle.run_ledger.proofs.Steps.{worker_at, SoundAt, heap_of_task, can_tells, task_step_sound, step_keeps, step_leaves, steps_keep, task_steps_sound, StepLeaves}
 pub use Rattle.run_ledger.proofs.Stocks.{copies, copies_keeps, keeps_copies, hit, hit_itself, StockedLedger, with_heap_any, allocated_total, G, same_copies, task_step_stocked, kind_stocked, legal_stocked, opening_stocked, distinct, L}
 pub use Rattle.run_ledger.proofs.Weights.{weight, total_set, kept_weight, total, Additive, moves_total, sum_flat, collected_weight, swept_weight, chunk_weight, weight_additive}
@@ -55,7 +55,7 @@ pub use Rattle.run_ledger.specs.Cuts.{FewerStepsAreLegal, CanBeGiven, OwedCanBeG
 pub use Rattle.run_ledger.specs.Entries.{unless_wrong_number, out_from, is_fuel, is_out, is_pool_enough, is_ready, kind_refusal, long_at, on_due, on_running, on_waiting, refused_holding, refused_if, refused_unless, after_kind, after, chunk_units, refusal, with_chunk, on_marking}
 pub use Rattle.run_ledger.specs.Heaps.{end_numbers, heap_of, in_use, left_in, take_of, words_in, held_in, held, heap_at, or_fresh, with_heap, with_heap_at, is_small_size, collected, swept_heap, frames_of, is_proper_ancestor, within, chunk_words, forked_heap, fresh, roots_of, object_words_of, words_at, words_sum, sweep_number, with_allocation}
 pub use Rattle.run_ledger.specs.Journals.{opening, after_all, ledger_of, tasks_in, tasks_of, is_legal_from, is_legal}
-pub use Rattle.run_ledger.specs.Laws.{Drops, IsDropped, HeldIsUndropped, WaitersAreFree, IsAtWork}
+pub use Rattle.run_ledger.specs.Laws.{Drops, IsDropped, HeldIsUndropped, WaitersAreFree, RunsOrWaits}
 pub use Rattle.run_ledger.specs.Pace.{waits_since, waits_on, is_unmarked, is_to_mark, is_under_way, more_of, owed_to_marks, owed_after, idle, pace_of, pace_opening, fork_of, pace_noted, pace_after, pace_after_all, pace_at_end, gives, is_mark_of, is_more_of, is_sweep_of, marked_at_once, or_idle, owed, previous_by, is_paced_from}
 pub use Rattle.run_ledger.specs.Reachable.{is_name, holds_name, reached, reached_by}
 pub use Rattle.run_ledger.specs.Report.{held_not_running_from, tally, lost, freed_by_end, freed_by_sweep}

@@ -1,13 +1,13 @@
 -- A name is held if and only if it was allocated and not dropped.
-use Rattle.journal_laws.proofs.Common.{◌≡◌, ℕ, zero, suc, ◌+◌, ◌≤◌, Bool, true, false, cond, Option, Some, None, List, [], ◌∷◌, slice_get, slice_set, nat_lt, Contains, ◌⊎◌, inl, inr, refl, sym, subst, ◌∙◌, arith, is_some, is_none, false≢true, both_ways, cases_eq, and_parts, In, in_from_contains, contains_from_in, got_same, got_other, Kind, Took, Ran, Chunk, Begin, End as EndOf, PutOff, Mark, More, Sweep, Fuel, EntryValue, SettingsValue, field_limit, ProgramText, Name, Object, MachineState, object_at, step, start, can_step, asked, owner_of, IsStored, next_name, Heap, Ledger, Pool, is_name, holds_name, held_in, held, heap_at, heap_of, or_fresh, with_heap, with_heap_at, is_small_size, in_use, collected, swept_heap, allocated_by, allocated_in, stepped_to, task_step, task_steps, on_asked, refusal, kind_refusal, after_kind, after, chunk_units, with_chunk, opening, after_all, ledger_of, is_legal_from, Drops, IsDropped, HeldIsUndropped, same_from_is_name, in_from_holds, holds_from_in, stepped_machine, collected_down, collected_up, swept_down, swept_up, Keeps, InHeaps, names_of, SoundLedger, held_keeps, in_held, SoundAt, heap_of_task, can_tells, task_step_sound, Grown, next_unstored, weight, total_set, copies, copies_keeps, keeps_copies, hit, hit_itself, StockedLedger, with_heap_any, allocated_total, G, same_copies, task_step_stocked, kind_stocked, legal_stocked, opening_stocked, out_tells, entry_tells, entry_sound, opening_sound}
+use Rattle.journal_laws.proofs.Common.{◌≡◌, ℕ, zero, suc, ◌+◌, ◌≤◌, Bool, true, false, cond, Option, Some, None, List, [], ◌∷◌, slice_get, slice_set, nat_lt, Contains, ◌⊎◌, inl, inr, refl, sym, subst, ◌∙◌, arith, is_some, is_none, false≢true, both_ways, cases_eq, and_parts, In, in_from_contains, contains_from_in, got_same, got_other, Kind, Took, Ran, Chunk, Begin, End as EndOf, PutOff, Mark, More, Sweep, Fuel, EntryValue, SettingsValue, field_limit, ProgramText, Name, Object, MachineState, object_at, step, start, can_step, asked, owner_of, IsStored, next_name, Heap, Ledger, Pool, is_name, holds_name, held_in, held, heap_at, heap_of, or_fresh, with_heap, with_heap_at, is_small_size, in_use, collected, swept_heap, allocated_by, allocated_in, stepped_to, task_step, task_steps, on_asked, refusal, kind_refusal, after_kind, after, chunk_units, with_chunk, opening, after_all, ledger_of, is_legal_from, Drops, IsDropped, HeldIsUndropped, same_from_is_name, in_from_holds, holds_from_in, stepped_machine, collected_down, collected_up, swept_down, swept_up, SomeHeapHas, InHeaps, heap_names, SoundLedger, held_keeps, in_held, SoundAt, heap_of_task, can_tells, task_step_sound, Grown, next_unstored, weight, total_set, copies, copies_keeps, keeps_copies, hit, hit_itself, StockedLedger, with_heap_any, allocated_total, G, same_copies, task_step_stocked, kind_stocked, legal_stocked, opening_stocked, out_tells, entry_tells, entry_sound, opening_sound}
 use Rattle.journal_laws.proofs.Words.{chunk_even}
 
 -- from one state and its heaps to the next: of what was held, all but the dropped is still held; all that is new is
 -- held; and nothing else is
 pub record Flows (D : Name → Type 0) (l l' : Ledger) : Type 0 where
-  pub keeps : (n : Name) → Keeps l.heaps n → (D n → ⊥) → Keeps l'.heaps n
-  pub only : (n : Name) → Keeps l'.heaps n → (Keeps l.heaps n ⊎ (IsStored l.machine n → ⊥)) × (D n → ⊥)
-  pub new : (n : Name) → IsStored l'.machine n → IsStored l.machine n ⊎ Keeps l'.heaps n
+  pub keeps : (n : Name) → SomeHeapHas l.heaps n → (D n → ⊥) → SomeHeapHas l'.heaps n
+  pub only : (n : Name) → SomeHeapHas l'.heaps n → (SomeHeapHas l.heaps n ⊎ (IsStored l.machine n → ⊥)) × (D n → ⊥)
+  pub new : (n : Name) → IsStored l'.machine n → IsStored l.machine n ⊎ SomeHeapHas l'.heaps n
   pub up : (n : Name) → IsStored l.machine n → IsStored l'.machine n
 
 abbrev pub Nothing : Name → Type 0
@@ -50,18 +50,18 @@ module _ (p : ProgramText) (l : Ledger) (t : ℕ) (S : SoundAt t l) (I : Stocked
       let b = hit_itself (next_name t l.machine.store) in
       omega arith
 
-  old_or_new : (o : Option ℕ) (n : Name) → 1 ≤ copies n (allocated_by l t o).heaps → Keeps l.heaps n ⊎ (next_name t l.machine.store ≡ n)
+  old_or_new : (o : Option ℕ) (n : Name) → 1 ≤ copies n (allocated_by l t o).heaps → SomeHeapHas l.heaps n ⊎ (next_name t l.machine.store ≡ n)
   old_or_new None n h = inl (copies_keeps n l.heaps h)
   old_or_new (Some w) n h = old_or_new_by_cases (is_name (next_name t l.machine.store) n) refl (subst (λ c. 1 ≤ c) (allocated_total (hit n) l t heap.0 heap.1 w) h)
     where
-      old_or_new_by_cases : (b : Bool) → is_name (next_name t l.machine.store) n ≡ b → 1 ≤ copies n l.heaps + cond b 1 0 → Keeps l.heaps n ⊎ (next_name t l.machine.store ≡ n)
+      old_or_new_by_cases : (b : Bool) → is_name (next_name t l.machine.store) n ≡ b → 1 ≤ copies n l.heaps + cond b 1 0 → SomeHeapHas l.heaps n ⊎ (next_name t l.machine.store ≡ n)
       old_or_new_by_cases true e le = inr (same_from_is_name (next_name t l.machine.store) n e)
       old_or_new_by_cases false e le = inl (copies_keeps n l.heaps (omega arith))
 
-  to_k : (n : Name) → 1 ≤ copies n (allocated_in p l t).heaps → Keeps k.heaps n
+  to_k : (n : Name) → 1 ≤ copies n (allocated_in p l t).heaps → SomeHeapHas k.heaps n
   to_k n le = copies_keeps n k.heaps (subst (λ c. 1 ≤ c) (sym (same_copies p l t S I can n)) le)
 
-  from_k : (n : Name) → Keeps k.heaps n → 1 ≤ copies n (allocated_in p l t).heaps
+  from_k : (n : Name) → SomeHeapHas k.heaps n → 1 ≤ copies n (allocated_in p l t).heaps
   from_k n q = subst (λ c. 1 ≤ c) (same_copies p l t S I can n) (keeps_copies n k.heaps q)
 
   step_flows : Flows Nothing l k
@@ -73,7 +73,7 @@ module _ (p : ProgramText) (l : Ledger) (t : ℕ) (S : SoundAt t l) (I : Stocked
     );
     new = λ n s. elim (grown.down n (subst (λ (m : MachineState). IsStored m n) machine_is s)) [
       | inl old ↦ inl old
-      | inr e ↦ inr (subst (Keeps k.heaps) (sym e.0) (to_k (next_name t l.machine.store) (new_here (asked p l.machine t) e.1)))
+      | inr e ↦ inr (subst (SomeHeapHas k.heaps) (sym e.0) (to_k (next_name t l.machine.store) (new_here (asked p l.machine t) e.1)))
     ];
     up = λ n s. subst (λ (m : MachineState). IsStored m n) (sym machine_is) (grown.up n s);
   }
@@ -113,29 +113,29 @@ cut_flows : (l : Ledger) (t : ℕ) (h h' : Heap) (ns : List Name) → SoundLedge
     → Flows (Lost l t ns) l (record l { heaps = slice_set l.heaps t h' })
 cut_flows l t h h' ns S I is dn up = record { keeps = keeps; only = only; new = λ n s. inl s; up = λ n s. s }
   where
-    cut_flows_here : (n : Name) → In (held_in h') n → Keeps (slice_set l.heaps t h') n
-    cut_flows_here n i = (t, subst (λ o. In (names_of o) n) (sym (got_same l.heaps t h h' is)) i)
+    cut_flows_here : (n : Name) → In (held_in h') n → SomeHeapHas (slice_set l.heaps t h') n
+    cut_flows_here n i = (t, subst (λ o. In (heap_names o) n) (sym (got_same l.heaps t h h' is)) i)
 
-    keep_by : (n : Name) → Keeps l.heaps n → In (held_in h) n → (b : Bool) → holds_name ns n ≡ b → (Lost l t ns n → ⊥) → (owner_of l.machine.tasks n.task ≡ t) → Keeps (slice_set l.heaps t h') n
+    keep_by : (n : Name) → SomeHeapHas l.heaps n → In (held_in h) n → (b : Bool) → holds_name ns n ≡ b → (Lost l t ns n → ⊥) → (owner_of l.machine.tasks n.task ≡ t) → SomeHeapHas (slice_set l.heaps t h') n
     keep_by n k i true e un o = cut_flows_here n (up n i (in_from_holds ns n e))
     keep_by n k i false e un o = absurd (un (I.stored n k, o, λ c. both_ways (holds_name ns n) e (holds_from_in ns n (in_from_contains ns n c))))
 
-    keeps : (n : Name) → Keeps l.heaps n → (Lost l t ns n → ⊥) → Keeps (slice_set l.heaps t h') n
+    keeps : (n : Name) → SomeHeapHas l.heaps n → (Lost l t ns n → ⊥) → SomeHeapHas (slice_set l.heaps t h') n
     keeps n k un = elim (cases_eq k.0 t) [
       | inl e ↦
           let i : InHeaps l.heaps t n = subst (λ u. InHeaps l.heaps u n) e k.1 in
-          keep_by n k (subst (λ o. In (names_of o) n) is i) (holds_name ns n) refl un ((S.owners k.0 n k.1).1 ∙ e)
-      | inr ne ↦ (k.0, subst (λ o. In (names_of o) n) (sym (got_other l.heaps t k.0 h' ne)) k.1)
+          keep_by n k (subst (λ o. In (heap_names o) n) is i) (holds_name ns n) refl un ((S.owners k.0 n k.1).1 ∙ e)
+      | inr ne ↦ (k.0, subst (λ o. In (heap_names o) n) (sym (got_other l.heaps t k.0 h' ne)) k.1)
     ]
 
-    only : (n : Name) → Keeps (slice_set l.heaps t h') n → (Keeps l.heaps n ⊎ (IsStored l.machine n → ⊥)) × (Lost l t ns n → ⊥)
+    only : (n : Name) → SomeHeapHas (slice_set l.heaps t h') n → (SomeHeapHas l.heaps n ⊎ (IsStored l.machine n → ⊥)) × (Lost l t ns n → ⊥)
     only n k = elim (cases_eq k.0 t) [
       | inl e ↦
-          let i : In (held_in h') n = subst (λ o. In (names_of o) n) (got_same l.heaps t h h' is) (subst (λ u. InHeaps (slice_set l.heaps t h') u n) e k.1) in
+          let i : In (held_in h') n = subst (λ o. In (heap_names o) n) (got_same l.heaps t h h' is) (subst (λ u. InHeaps (slice_set l.heaps t h') u n) e k.1) in
           let r = dn n i in
-          (inl (t, subst (λ o. In (names_of o) n) (sym is) r.0), λ d. d.2 (contains_from_in ns n r.1))
+          (inl (t, subst (λ o. In (heap_names o) n) (sym is) r.0), λ d. d.2 (contains_from_in ns n r.1))
       | inr ne ↦
-          let i : InHeaps l.heaps k.0 n = subst (λ o. In (names_of o) n) (got_other l.heaps t k.0 h' ne) k.1 in
+          let i : InHeaps l.heaps k.0 n = subst (λ o. In (heap_names o) n) (got_other l.heaps t k.0 h' ne) k.1 in
           (inl (k.0, i), λ d. ne (sym (S.owners k.0 n i).1 ∙ d.1))
     ]
 
@@ -147,7 +147,7 @@ none_lost l t ns S e = record {
     inl k,
     λ d.
         let same : k.0 ≡ t = sym (S.owners k.0 n k.1).1 ∙ d.1 in
-        elim (subst (λ o. In (names_of o) n) e (subst (λ u. InHeaps l.heaps u n) same k.1)) [ ],
+        elim (subst (λ o. In (heap_names o) n) e (subst (λ u. InHeaps l.heaps u n) same k.1)) [ ],
   );
   new = λ n s. inl s;
   up = λ n s. s;
@@ -196,8 +196,8 @@ drop_stored l Fuel n d = absurd d
 
 module _ (p : ProgramText) (s : SettingsValue) where
   -- what is held at the end wasn't dropped
-  held_undropped : (es : List EntryValue) (l : Ledger) → SoundLedger l → StockedLedger l → is_legal_from p s l es ≡ true → (n : Name) → Keeps (after_all p s l es).heaps n
-      → (Keeps l.heaps n ⊎ (IsStored l.machine n → ⊥)) × (IsDropped p s l es n → ⊥)
+  held_undropped : (es : List EntryValue) (l : Ledger) → SoundLedger l → StockedLedger l → is_legal_from p s l es ≡ true → (n : Name) → SomeHeapHas (after_all p s l es).heaps n
+      → (SomeHeapHas l.heaps n ⊎ (IsStored l.machine n → ⊥)) × (IsDropped p s l es n → ⊥)
   held_undropped [] l S I h n k = (inl k, λ d. d)
   held_undropped (e ∷ es) l S I h n k =
       let both = and_parts (is_none (refusal p s l e)) (is_legal_from p s (after p s l e) es) h in
@@ -220,8 +220,8 @@ module _ (p : ProgramText) (s : SettingsValue) where
       stored_or_by_cases (Some x) e = inl (x, e)
 
   -- what exists at the end and wasn't dropped is held
-  undropped_held : (es : List EntryValue) (l : Ledger) → SoundLedger l → StockedLedger l → is_legal_from p s l es ≡ true → (n : Name) → Keeps l.heaps n ⊎ (IsStored l.machine n → ⊥)
-      → IsStored (after_all p s l es).machine n → (IsDropped p s l es n → ⊥) → Keeps (after_all p s l es).heaps n
+  undropped_held : (es : List EntryValue) (l : Ledger) → SoundLedger l → StockedLedger l → is_legal_from p s l es ≡ true → (n : Name) → SomeHeapHas l.heaps n ⊎ (IsStored l.machine n → ⊥)
+      → IsStored (after_all p s l es).machine n → (IsDropped p s l es n → ⊥) → SomeHeapHas (after_all p s l es).heaps n
   undropped_held [] l S I h n (inl k) st un = k
   undropped_held [] l S I h n (inr none) st un = absurd (none st)
   undropped_held (e ∷ es) l S I h n was st un =

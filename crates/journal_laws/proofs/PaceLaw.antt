@@ -1,5 +1,5 @@
 -- What the pace records of each worker follows from the entries, and paced journals keep the three rules.
-use Rattle.journal_laws.proofs.Common.{◌≡◌, ℕ, zero, suc, ◌<◌, ◌≤◌, ◌==◌, ◌&&◌, not, Bool, true, false, cond, Option, Some, None, List, [], ◌∷◌, ◌++◌, length, slice_get, slice_set, replicate, is_none, is_some, nat_lt, nat_le, ◌⊎◌, inl, inr, refl, ap, sym, subst, ◌∙◌, arith, append_assoc, append-nil, eqb-true, eq-eqb, false≢true, both_ways, cases_eq, and_parts, and_from, ltb-true, leb-true, le-leb, not-true, length-set, same_Some, In, got_other, in_append_right, none_is, Kind, Took, Ran, Chunk, Begin, End as EndOf, PutOff, Mark, More, Sweep, Fuel, EntryValue, SettingsValue, ProgramText, Strand, Task, MachineState, waits, strand_of, Ledger, Previous, Other, Forked, WorkerPace, NoWorker, Over, Spent, heap_of, left_in, words_in, after, after_kind, is_fuel, kind_refusal, refusal, refused_if, refused_unless, after_all, is_legal, is_legal_from, ledger_of, opening, fork_of, gives, idle, is_mark_of, is_more_of, is_sweep_of, is_to_mark, is_under_way, is_unmarked, marked_at_once, more_of, pace_noted, or_idle, owed, owed_after, owed_to_marks, pace_after, pace_after_all, pace_at_end, pace_of, pace_opening, previous_by, waits_on, waits_since, Paced, cut_legal, none_unless, none_where, heap_machine, GoesOnMarking, IsLastBy, IsNewest, IsPaceOf, IsPrevious, IsToMark, IsUnderWay, KeepsRules, KeepsThePace, NoneBy, PacedKeepsThePace, WaitsOn, fork_by, fork_marked, marked_forks, marked_task}
+use Rattle.journal_laws.proofs.Common.{◌≡◌, ℕ, zero, suc, ◌<◌, ◌≤◌, ◌==◌, ◌&&◌, not, Bool, true, false, cond, Option, Some, None, List, [], ◌∷◌, ◌++◌, length, slice_get, slice_set, replicate, is_none, is_some, nat_lt, nat_le, ◌⊎◌, inl, inr, refl, ap, sym, subst, ◌∙◌, arith, append_assoc, append-nil, eqb-true, eq-eqb, false≢true, both_ways, cases_eq, and_parts, and_from, ltb-true, leb-true, le-leb, not-true, length-set, same_Some, In, got_other, in_append_right, none_is, Kind, Took, Ran, Chunk, Begin, End as EndOf, PutOff, Mark, More, Sweep, Fuel, EntryValue, SettingsValue, ProgramText, Strand, Task, MachineState, waits, strand_of, Ledger, Previous, Other, Forked, WorkerPace, NoWorker, Over, Spent, heap_of, left_in, words_in, after, after_kind, is_fuel, kind_refusal, refusal, refused_if, refused_unless, after_all, is_legal, is_legal_from, ledger_of, opening, fork_of, gives, idle, is_mark_of, is_more_of, is_sweep_of, is_to_mark, is_under_way, is_unmarked, marked_at_once, more_of, pace_noted, or_idle, owed, owed_after, owed_to_marks, pace_after, pace_after_all, pace_at_end, pace_of, pace_opening, previous_by, waits_on, waits_since, Paced, cut_legal, none_unless, none_where, heap_machine, GoesOnMarking, IsLastBy, IsNewest, IsPaceOf, IsPrevious, IsToMark, IsUnderWay, KeepsRules, KeepsThePace, NoEntryBy, PacedKeepsThePace, WaitsOn, fork_by, fork_marked, marked_forks, marked_task}
 use Rattle.run_ledger.specs.declared.data.Previous.TheVariants.{Ran as RanBefore}
 use Rattle.run_ledger.specs.declared.data.Owed.TheVariants.{Mark as OwesMark, More as OwesMore, Sweep as OwesSweep}
 use Rattle.journal_laws.proofs.Paced.{paced_is_meant}
@@ -178,8 +178,8 @@ module _ (p : ProgramText) (s : SettingsValue) where
   -- these entries are by others, or one is the worker's last
   abbrev Last : List EntryValue → Ledger → List WorkerPace → ℕ → Previous → Type 0
   Last es l pace w prev =
-      (NoneBy w es × (prev ≡ (pace_of pace w).previous))
-      ⊎ ((before : List EntryValue) × (e : EntryValue) × (rest : List EntryValue) × (es ≡ before ++ e ∷ rest) × (e.worker ≡ w) × NoneBy w rest × (prev ≡ came (after_all p s l (before ++ e ∷ [])) e.kind))
+      (NoEntryBy w es × (prev ≡ (pace_of pace w).previous))
+      ⊎ ((before : List EntryValue) × (e : EntryValue) × (rest : List EntryValue) × (es ≡ before ++ e ∷ rest) × (e.worker ≡ w) × NoEntryBy w rest × (prev ≡ came (after_all p s l (before ++ e ∷ [])) e.kind))
 
   last_is : (es : List EntryValue) (l : Ledger) (pace : List WorkerPace) (w : ℕ) → length pace ≡ s.workers → is_legal_from p s l es ≡ true → Last es l pace w (pace_of (pace_after_all p s l pace es) w).previous
   last_is [] l pace w len legal = inl (λ e i q. i, refl)
@@ -195,7 +195,7 @@ module _ (p : ProgramText) (s : SettingsValue) where
         ]
       ]
     where
-      none_now : (w : ℕ) (e : EntryValue) (es : List EntryValue) → (e.worker ≡ w → ⊥) → NoneBy w es → NoneBy w (e ∷ es)
+      none_now : (w : ℕ) (e : EntryValue) (es : List EntryValue) → (e.worker ≡ w → ⊥) → NoEntryBy w es → NoEntryBy w (e ∷ es)
       none_now w e es ne n f (inl same) q = ne (ap (λ (z : EntryValue). z.worker) same ∙ q)
       none_now w e es ne n f (inr i) q = n f i q
 
@@ -250,7 +250,7 @@ abbrev tail : List EntryValue → List EntryValue
 tail [] = []
 tail (x ∷ xs) = xs
 
-last_same : (w : ℕ) (a b : List EntryValue) (e f : EntryValue) (r q : List EntryValue) → a ++ e ∷ r ≡ b ++ f ∷ q → e.worker ≡ w → f.worker ≡ w → NoneBy w r → NoneBy w q → (a ≡ b) × (e ≡ f)
+last_same : (w : ℕ) (a b : List EntryValue) (e f : EntryValue) (r q : List EntryValue) → a ++ e ∷ r ≡ b ++ f ∷ q → e.worker ≡ w → f.worker ≡ w → NoEntryBy w r → NoEntryBy w q → (a ≡ b) × (e ≡ f)
 last_same w [] [] e f r q h we wf nr nq = (refl, ap (head_or e) h)
 last_same w [] (y ∷ b) e f r q h we wf nr nq = absurd (nr f (subst (λ z. In z f) (sym (ap tail h)) (in_append_right b (f ∷ q) f (inl refl))) wf)
 last_same w (x ∷ a) [] e f r q h we wf nr nq = absurd (nq e (subst (λ z. In z e) (ap tail h) (in_append_right a (e ∷ r) e (inl refl))) we)

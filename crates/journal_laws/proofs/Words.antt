@@ -1,5 +1,5 @@
 -- Each word that was allocated is held or was dropped.
-use Rattle.journal_laws.proofs.Common.{◌≡◌, ℕ, zero, suc, ◌+◌, ◌-◌, ◌≤◌, Bool, true, false, cond, Option, Some, None, List, [], ◌∷◌, ◌++◌, slice_get, nat_lt, refl, sym, subst, arith, is_none, and_parts, In, Kind, Took, Ran, Chunk, Begin, End as EndOf, PutOff, Mark, More, Sweep, Fuel, EntryValue, SettingsValue, ProgramText, Name, MachineState, step, can_step, asked, Heap, Ledger, Pool, held_in, heap_at, or_fresh, with_heap, with_heap_at, words_at, words_in, in_use, is_small_size, chunk_words, collected, swept_heap, fresh, allocated_by, allocated_in, stepped_to, task_step, task_steps, on_asked, refusal, kind_refusal, after_kind, after, with_chunk, chunk_units, opening, after_all, ledger_of, is_legal_from, tally, lost, freed_by_end, freed_by_sweep, store_words, WordsAreAccounted, stepped_machine, SoundLedger, names_of, SoundAt, heap_of_task, can_tells, task_step_sound, Grown, weight, total, total_set, sum_flat, collected_weight, swept_weight, chunk_weight, moves_total, weight_additive, sum_same, StockedLedger, G, L, allocated_total, with_heap_any, task_step_stocked, kind_stocked, opening_stocked, total_same, out_tells, entry_tells, entry_sound, opening_sound}
+use Rattle.journal_laws.proofs.Common.{◌≡◌, ℕ, zero, suc, ◌+◌, ◌-◌, ◌≤◌, Bool, true, false, cond, Option, Some, None, List, [], ◌∷◌, ◌++◌, slice_get, nat_lt, refl, sym, subst, arith, is_none, and_parts, In, Kind, Took, Ran, Chunk, Begin, End as EndOf, PutOff, Mark, More, Sweep, Fuel, EntryValue, SettingsValue, ProgramText, Name, MachineState, step, can_step, asked, Heap, Ledger, Pool, held_in, heap_at, or_fresh, with_heap, with_heap_at, words_at, words_in, in_use, is_small_size, chunk_words, collected, swept_heap, fresh, allocated_by, allocated_in, stepped_to, task_step, task_steps, on_asked, refusal, kind_refusal, after_kind, after, with_chunk, chunk_units, opening, after_all, ledger_of, is_legal_from, tally, lost, freed_by_end, freed_by_sweep, store_words, WordsAreAccounted, stepped_machine, SoundLedger, heap_names, SoundAt, heap_of_task, can_tells, task_step_sound, Grown, weight, total, total_set, sum_flat, collected_weight, swept_weight, chunk_weight, moves_total, weight_additive, sum_same, StockedLedger, G, L, allocated_total, with_heap_any, task_step_stocked, kind_stocked, opening_stocked, total_same, out_tells, entry_tells, entry_sound, opening_sound}
 
 -- the words that all heaps hold
 abbrev held_words : Ledger → ℕ
@@ -35,7 +35,7 @@ module _ (p : ProgramText) (l : Ledger) (t : ℕ) (S : SoundAt t l) (I : Stocked
 
   same_words : total (words_in m') l.heaps ≡ total (words_in l.machine) l.heaps
   same_words = total_same (words_in m') (words_in l.machine) l.heaps (λ u h e.
-      sum_same (words_at m') (words_at l.machine) (held_in h) (λ n i. grown.words n (I.stored n (u, subst (λ o. In (names_of o) n) (sym e) i))))
+      sum_same (words_at m') (words_at l.machine) (held_in h) (λ n i. grown.words n (I.stored n (u, subst (λ o. In (heap_names o) n) (sym e) i))))
 
   balance_by : (o : Option ℕ) → asked p l.machine t ≡ o → total (words_in m') (allocated_by l t o).heaps + store_words l.machine.store ≡ held_words l + store_words m'.store
   balance_by None e = let a = same_words in let c = grown.none e in omega arith

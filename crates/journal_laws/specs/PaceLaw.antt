@@ -7,8 +7,8 @@ use Rattle.run_ledger.specs.declared.data.Previous.TheVariants.{Ran as RanBefore
 -- A WORKER'S PREVIOUS ENTRY
 
 -- none of these entries is by the worker
-abbrev pub NoneBy : ℕ → List EntryValue → Type 0
-NoneBy w es = (e : EntryValue) → In es e → e.worker ≡ w → ⊥
+abbrev pub NoEntryBy : ℕ → List EntryValue → Type 0
+NoEntryBy w es = (e : EntryValue) → In es e → e.worker ≡ w → ⊥
 
 -- the worker's last entry in the journal is of this kind; up to this entry, inclusive, the journal is `upto`
 pub record IsLastBy (w : ℕ) (journal upto : List EntryValue) (kind : Kind) : Type 0 where
@@ -19,7 +19,7 @@ pub record IsLastBy (w : ℕ) (journal upto : List EntryValue) (kind : Kind) : T
   pub is : journal ≡ upto ++ rest
   pub its : entry.worker ≡ w
   pub says : entry.kind ≡ kind
-  pub last : NoneBy w rest
+  pub last : NoEntryBy w rest
 
 -- by these accounts a task waits on this fork
 abbrev pub WaitsOn : Ledger → Strand → Type 0
@@ -28,7 +28,7 @@ WaitsOn l fork = (x : Task) × (slice_get l.machine.tasks fork.task ≡ Some x) 
 -- the record of a worker's previous entry: none or no steps; steps of a task that waits on no fork after them; or steps
 -- of a task that waits on this fork after them
 abbrev pub IsPrevious : ProgramText → SettingsValue → ℕ → List EntryValue → Previous → Type 0
-IsPrevious p s w journal Other = NoneBy w journal ⊎ ((upto : List EntryValue) × (kind : Kind) × IsLastBy w journal upto kind × ((t k : ℕ) → kind ≡ Ran t k → ⊥))
+IsPrevious p s w journal Other = NoEntryBy w journal ⊎ ((upto : List EntryValue) × (kind : Kind) × IsLastBy w journal upto kind × ((t k : ℕ) → kind ≡ Ran t k → ⊥))
 IsPrevious p s w journal RanBefore =
     (upto : List EntryValue) × (t : ℕ) × (k : ℕ) × IsLastBy w journal upto (Ran t k) × ((fork : Strand) → fork.task ≡ t → WaitsOn (ledger_of p s upto) fork → ⊥)
 IsPrevious p s w journal (Forked fork) = (upto : List EntryValue) × (k : ℕ) × IsLastBy w journal upto (Ran fork.task k) × WaitsOn (ledger_of p s upto) fork

@@ -1,5 +1,5 @@
 -- How an entry changes all holdings, from how it changes its worker's.
-use Rattle.journal_replay.proofs.Common.{◌≡◌, ℕ, true, false, Some, Result, Ok, Err, List, [], ◌∷◌, ◌++◌, length, slice_get, slice_set, refl, ap, sym, subst, ◌∙◌, false≢true, EntryValue, Kind, Took, Ran, Chunk, Begin, End, PutOff, Mark, More, Sweep, Fuel, Refused, is_fuel, kind_refusal, content_at, NotEntered, NoMemory, Refuses, first_cause, or_else, refused, AllFit, IsSharedValue, SharedValue, accounts, rest_at, refused_is, IsSameRest, SameButPlaces, OutPart, AnswersAll, AnswersApart, AnswersFor, RefusesAll, SameButReserved, SameButRoomier, WantsAll, is_own, AllHold, WorkerHolds}
+use Rattle.journal_replay.proofs.Common.{◌≡◌, ℕ, true, false, Some, Result, Ok, Err, List, [], ◌∷◌, ◌++◌, length, slice_get, slice_set, refl, ap, sym, subst, ◌∙◌, false≢true, EntryValue, Kind, Took, Ran, Chunk, Begin, End, PutOff, Mark, More, Sweep, Fuel, Refused, is_fuel, kind_refusal, content_at, NotEntered, NoMemory, Refuses, first_cause, or_else, refused, EachPartStillFits, IsSharedValue, SharedValue, accounts, rest_at, refused_is, IsSameRest, SameButPlaces, OutPart, AnswersAll, AnswersApart, AnswersFor, RefusesAll, SameButReserved, SameButRoomier, WantsAll, is_own, AllHold, WorkerHolds}
 use Rattle.journal_replay.proofs.Holding.{all_stop, all_with, carried, copy_of, each_holds, others_hold, places_same, stops, wants}
 
 -- ---- BEFORE THE CAUSES OF ITS KIND
@@ -74,14 +74,14 @@ apart_all w after e holdings (Err NoMemory) I own H R = record { same = reserved
 
 -- ---- WITH CAPACITY FOR AN ENTRY
 
-module _ (w mid : SharedValue) (roomier : SameButRoomier w mid) (fit : AllFit w mid) where
+module _ (w mid : SharedValue) (roomier : SameButRoomier w mid) (fit : EachPartStillFits w mid) where
   same_accounts : accounts mid ≡ accounts w
   same_accounts = ap (λ (z : SharedValue). accounts z) roomier
 
   pub all_mid : (holdings : List OutPart) → AllHold w false holdings → AllHold mid false holdings
-  all_mid holdings H = subst (λ z. AllHold z false holdings) (sym roomier) (all_mid_by_cases mid.journal.room (subst (AllFit w) roomier fit))
+  all_mid holdings H = subst (λ z. AllHold z false holdings) (sym roomier) (all_mid_by_cases mid.journal.room (subst (EachPartStillFits w) roomier fit))
     where
-      all_mid_by_cases : (room : ℕ) → AllFit w (record w { journal = record { items = w.journal.items; room = room } }) → AllHold (record w { journal = record { items = w.journal.items; room = room } }) false holdings
+      all_mid_by_cases : (room : ℕ) → EachPartStillFits w (record w { journal = record { items = w.journal.items; room = room } }) → AllHold (record w { journal = record { items = w.journal.items; room = room } }) false holdings
       all_mid_by_cases room A k h at = carried w (record w { journal = record { items = w.journal.items; room = room } }) false false k (λ q. q)
           (λ p K. record { fits = A k p K.fits; idle = K.idle; entered = K.entered })
           (λ p moved K. copy_of w (record w { journal = record { items = w.journal.items; room = room } }) k p moved K (A k K.before K.fits))

@@ -1,7 +1,7 @@
 -- A part whose leaf collection has begun can be copied, and then holds as a copy.
-use Rattle.journal_replay.proofs.Common.{◌≡◌, ℕ, All, Some, None, List, map, refl, ap, sym, subst, ◌∙◌, Begin, Ledger, take_of, within, heap_end, Addr, ChunkValue, number_of, LeafHeapValue, FramesValue, Moved, ToChunks, CanTake, IsCollected, IsSoundReference, as_reference, aside, Begun, Private, Enters, Fits, HasBegun, IsSharedValue, SharedValue, accounts, value_of, status, entered_accounts, CanCopy, IsCopying, begun_is_copying, begun, begun_can_copy, HoldsCopy}
+use Rattle.journal_replay.proofs.Common.{◌≡◌, ℕ, All, Some, None, List, map, refl, ap, sym, subst, ◌∙◌, Begin, Ledger, take_of, within, heap_end, Addr, ChunkValue, number_of, LeafHeapValue, FramesValue, Moved, ToChunks, CanTake, IsCollected, IsSoundReference, as_reference, aside, Begun, Private, Enters, WorkerPartFits, CopyingHasBegun, IsSharedValue, SharedValue, accounts, value_of, status, entered_accounts, CanCopy, IsCopying, begun_is_copying, begun, begun_can_copy, HoldsCopy}
 
-module _ (w : SharedValue) (k : ℕ) (before p : Private) (roots : List Addr) (to : ToChunks) (H : HasBegun before p roots to) (I : IsSharedValue w) (F : Fits w k p) (fresh : p.fresh ≡ 0) (on : (accounts w).end ≡ None) where
+module _ (w : SharedValue) (k : ℕ) (before p : Private) (roots : List Addr) (to : ToChunks) (H : CopyingHasBegun before p roots to) (I : IsSharedValue w) (F : WorkerPartFits w k p) (fresh : p.fresh ≡ 0) (on : (accounts w).end ≡ None) where
   abbrev news : List ChunkValue
   news = to.chunks.items
 

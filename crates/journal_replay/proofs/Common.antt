@@ -8,7 +8,7 @@ pub use Rattle.copied_part_laws.specs.Copied.{CanCopy}
 pub use Rattle.copied_part_laws.specs.Handed.{IsCopying}
 pub use Rattle.copied_part_laws.specs.below.leaf_collections.{FitsCopied}
 pub use Rattle.journal_replay.specs.Applied.{AnswersAll, AnswersApart, AnswersFor, RefusesAll, SameButReserved, SameButRoomier, WantsAll, is_own, copied_cause, idle_cause, EntersFor, MakesFor, RefusesFor, holding_of, Applies, WantedMemory, IsStoppedBy, AppliesTo}
-pub use Rattle.journal_replay.specs.Next.{IsNext, standing_by}
+pub use Rattle.journal_replay.specs.Next.{PausesNext, standing_by}
 pub use Rattle.journal_replay.specs.Replay.{HasCome}
 pub use Rattle.journal_replay.specs.Together.{AreParts, HoldsOneOf, IsPartIn, PartsStand, StandsTogether, with_parts}
 pub use Rattle.journal_replay.specs.WorldValue.{AllHold, WorkerHolds, HoldsCopy, HoldsPart, WorldValue, IsWhole}
@@ -30,16 +30,16 @@ pub use Rattle.run_statistics.proofs.below.shared_tree.{fit_by, for_memory, befo
 pub use Rattle.run_statistics.proofs.below.step_commit.{apart_cause, unless_false, alone_free, few_more, fits_on, next_on}
 pub use Rattle.run_statistics.proofs.below.task_machine.{lacks_same}
 pub use Rattle.run_statistics.specs.below.copying_gc.{Moved, ToChunks, CanTake, IsCollected, IsSoundReference, as_reference}
-pub use Rattle.run_statistics.specs.below.core_invariant.{NotEntered, NoMemory, Refuses, first_cause, or_else, refused, AllFit, IsSharedValue, SharedValue, accounts, rest_at, Enters, Fits, HasBegun, value_of, beyond, FitsFirst, OthersFit, task_asked, EntersOrRefuses, IsCaused, IsSamePart, next_line, part_of, refusal_of_result}
+pub use Rattle.run_statistics.specs.below.core_invariant.{NotEntered, NoMemory, Refuses, first_cause, or_else, refused, EachPartStillFits, IsSharedValue, SharedValue, accounts, rest_at, Enters, WorkerPartFits, CopyingHasBegun, value_of, beyond, FitsFirst, OthersFit, task_asked, EntersOrRefuses, IsCaused, IsSamePart, next_line, part_of, refusal_of_result}
 pub use Rattle.run_statistics.specs.below.entry_calls.{Done, Ended, Forked, Over, RanTo, end_cause, LeavesBy, LeavesPart, LentTo}
 pub use Rattle.run_statistics.specs.below.fork_join_commit.{IsSameRest, SameButPlaces, HoldsNone, IsUnchanged}
 pub use Rattle.run_statistics.specs.below.hh_lang.{ProgramText}
 pub use Rattle.run_statistics.specs.below.hh_model.{Name, MachineState, row_of, is_running, asked, Entangled, Trapped, TaskStatus, Running, Waiting, Joined, Task, can_step, is_left, step}
 pub use Rattle.run_statistics.specs.below.leaf_heap.{LeafHeapValue}
-pub use Rattle.run_statistics.specs.below.ledger_step_laws.{Knows, aside, ArePrivate, Rests}
+pub use Rattle.run_statistics.specs.below.ledger_step_laws.{LedgerIsKnown, aside, ArePrivate, Rests}
 pub use Rattle.run_statistics.specs.below.object_layout.{Addr, ChunkValue, number_of}
 pub use Rattle.run_statistics.specs.below.plain_vec.{option_is}
-pub use Rattle.run_statistics.specs.below.refinement.{Part, BelongingsStand, IsSource, Place, Stands, Memory, WorkerFits, handed, ahead, NotOf, all_ahead, In, WorkersFit, by_end}
+pub use Rattle.run_statistics.specs.below.refinement.{Part, BelongingsStand, IsSource, LiesWithOwner, MemoryStands, Memory, WorkerFits, handed, ahead, NotOf, all_ahead, In, WorkersFit, by_end}
 pub use Rattle.run_statistics.specs.below.remembered_set.{RefField}
 pub use Rattle.run_statistics.specs.below.run_ledger.{Refused, is_fuel, kind_refusal, Ledger, take_of, within, after, heap_of, TasksAreOut, Collecting, Count, Due, NotCollecting, NotNeeded, NotOut, PoolEnough, PoolShort, ends_as, is_out, is_pool_enough, long_at, on_due, on_running, refused_if, refused_unless, end_numbers, in_use, is_due, is_in_need, most_steps, standing, refusal, first_refused, first_refused_from, is_legal, ledger_of, opening, refused_or, Long, lacks_room, is_private, on_asked, task_step, task_steps, let_go, RunEnd, Machine, Pool, Heap, after_kind, chunk_units, with_chunk, chunk_words, collected, emptied, forked_heap, fresh, is_small_size, merged, or_fresh, with_allocation, put_last, swept_heap, with_heap, allocated_by, allocated_in, at_fork, join_heaps, moved_on, moved_to, settled, stepped_to}
 pub use Rattle.run_statistics.specs.below.run_trace.{EntryValue, Kind, Took, Ran, Chunk, Begin, End, PutOff, Mark, More, Sweep, Fuel, SettingsValue, private_limit}

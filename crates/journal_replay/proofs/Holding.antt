@@ -1,12 +1,12 @@
 -- What workers hold stays so: what others hold at an entry, and what each holds when the world stops.
-use Rattle.journal_replay.proofs.Common.{◌≡◌, ◌≢◌, ℕ, Bool, true, false, Some, None, List, slice_get, slice_set, inl, inr, ap, sym, subst, ◌∙◌, cases_eq, false≢true, same_Some, got_other, got_same, EntryValue, Ledger, after, heap_of, Moved, handed, handed_on, Private, Enters, refused, AllFit, Fits, OthersFit, SharedValue, accounts, entry_on, worker_by_end, entered_accounts, HoldsNone, SameButPlaces, same_world, OutPart, Nothing, Copied, is_own, AllHold, WorkerHolds, HoldsCopy, HoldsPart}
+use Rattle.journal_replay.proofs.Common.{◌≡◌, ◌≢◌, ℕ, Bool, true, false, Some, None, List, slice_get, slice_set, inl, inr, ap, sym, subst, ◌∙◌, cases_eq, false≢true, same_Some, got_other, got_same, EntryValue, Ledger, after, heap_of, Moved, handed, handed_on, Private, Enters, refused, EachPartStillFits, WorkerPartFits, OthersFit, SharedValue, accounts, entry_on, worker_by_end, entered_accounts, HoldsNone, SameButPlaces, same_world, OutPart, Nothing, Copied, is_own, AllHold, WorkerHolds, HoldsCopy, HoldsPart}
 use Rattle.journal_replay.specs.declared.out_part.OutPart.TheVariants.{Part}
 use Rattle.journal_replay.proofs.WasHeld.{apart_held, kind_held}
 
 -- ---- A HAND, with the part that it holds fitting another value
 
 -- a copy of a part that fits another value
-pub copy_of : (w w' : SharedValue) (k : ℕ) (p : Private) (moved : Moved) → (H : HoldsCopy w k p moved) → Fits w' k H.before → HoldsCopy w' k p moved
+pub copy_of : (w w' : SharedValue) (k : ℕ) (p : Private) (moved : Moved) → (H : HoldsCopy w k p moved) → WorkerPartFits w' k H.before → HoldsCopy w' k p moved
 copy_of w w' k p moved H F = record { before = H.before; begun = H.begun; news = H.news; fits = F; fresh = H.fresh; amid = H.amid; new = H.new; numbers = H.numbers; copy = H.copy; part = H.part }
 
 -- if each part of the worker fits, and it still holds nothing if it did
@@ -34,7 +34,7 @@ module _ (w w' : SharedValue) (e : EntryValue) (E : Enters w w' e) where
         (λ H t h. H t (held t k (kind_held w.program w.settings (accounts w) e.worker e.kind t k ne (holder t k h))))
 
     -- WHAT EACH HOLDS, at one for a task that no worker holds
-    pub each_holds : is_own e.kind ≡ false → AllFit w w' → (k : ℕ) (h : OutPart) → WorkerHolds w false k h → WorkerHolds w' false k h
+    pub each_holds : is_own e.kind ≡ false → EachPartStillFits w w' → (k : ℕ) (h : OutPart) → WorkerHolds w false k h → WorkerHolds w' false k h
     each_holds apart A k =
         carried w w' false false k (λ q. q)
         (λ p H. record { fits = A k p H.fits; idle = H.idle; entered = H.entered })
@@ -57,7 +57,7 @@ pub all_stop : (w : SharedValue) (holdings : List OutPart) → AllHold w false h
 all_stop w holdings H k h e = stops w k h (H k h e)
 
 -- out of memory: the accounts are unchanged
-pub wants : (w w' : SharedValue) → accounts w' ≡ accounts w → AllFit w w' → (k : ℕ) (h : OutPart) → WorkerHolds w false k h → WorkerHolds w' true k h
+pub wants : (w w' : SharedValue) → accounts w' ≡ accounts w → EachPartStillFits w w' → (k : ℕ) (h : OutPart) → WorkerHolds w false k h → WorkerHolds w' true k h
 wants w w' same A k =
     carried w w' false true k (λ q. absurd (false≢true (sym q)))
     (λ p H. record { fits = A k p H.fits; idle = H.idle; entered = λ q. absurd (false≢true (sym q)) })

@@ -1,5 +1,5 @@
 -- Why an entry of a worker is refused because of what the worker holds.
-use Rattle.journal_replay.proofs.Common.{◌≡◌, ◌≢◌, ℕ, ◌==◌, Bool, true, false, cond, min, Option, Some, None, slice_get, is_some, refl, ap, sym, subst, ◌∙◌, eq-eqb, and_from, eqb-true, false≢true, is_running, Kind, Begin, Chunk, End, PutOff, Ran, TasksAreOut, Ledger, Refused, Collecting, Count, Due, NotCollecting, NotNeeded, NotOut, PoolEnough, PoolShort, ends_as, is_fuel, is_out, is_pool_enough, kind_refusal, long_at, on_due, on_running, refused_if, refused_unless, end_numbers, heap_of, in_use, is_due, is_in_need, most_steps, standing, option_is, tasks_are_out_once, Moved, handed_on, Begun, Private, first_cause, or_else, task_asked, refused, Fits, IsSharedValue, SharedValue, accounts, at_part, begun_is, on_is, refused_is, apart_cause, unless_false, HoldsNone, FitsCopied, unless_true, IsCopying, copied_fits, OutPart, Nothing, Copied, copied_cause, idle_cause, WorkerHolds, HoldsCopy, HoldsPart}
+use Rattle.journal_replay.proofs.Common.{◌≡◌, ◌≢◌, ℕ, ◌==◌, Bool, true, false, cond, min, Option, Some, None, slice_get, is_some, refl, ap, sym, subst, ◌∙◌, eq-eqb, and_from, eqb-true, false≢true, is_running, Kind, Begin, Chunk, End, PutOff, Ran, TasksAreOut, Ledger, Refused, Collecting, Count, Due, NotCollecting, NotNeeded, NotOut, PoolEnough, PoolShort, ends_as, is_fuel, is_out, is_pool_enough, kind_refusal, long_at, on_due, on_running, refused_if, refused_unless, end_numbers, heap_of, in_use, is_due, is_in_need, most_steps, standing, option_is, tasks_are_out_once, Moved, handed_on, Begun, Private, first_cause, or_else, task_asked, refused, WorkerPartFits, IsSharedValue, SharedValue, accounts, at_part, begun_is, on_is, refused_is, apart_cause, unless_false, HoldsNone, FitsCopied, unless_true, IsCopying, copied_fits, OutPart, Nothing, Copied, copied_cause, idle_cause, WorkerHolds, HoldsCopy, HoldsPart}
 use Rattle.journal_replay.specs.declared.out_part.OutPart.TheVariants.{Part}
 
 -- ---- A COPY fits for the end of its collection
@@ -49,7 +49,7 @@ module _ (w : SharedValue) (k : ℕ) (I : IsSharedValue w) (first : first_cause 
       and_from (is_running (slice_get l.machine.tasks t)) (option_is (heap_of l t).worker k) (holders.runs on t k held) (ap (λ o. option_is o k) held ∙ eq-eqb k k refl)
 
   -- a part that has begun a collection
-  amid : (p : Private) (b : Begun) (rest : Option Refused) → Fits w k p → p.begun ≡ Some b → on_running l k p.task rest ≡ Some Collecting
+  amid : (p : Private) (b : Begun) (rest : Option Refused) → WorkerPartFits w k p → p.begun ≡ Some b → on_running l k p.task rest ≡ Some Collecting
   amid p b rest F begun = at_part w k p F on rest ∙ ap (λ o. refused_if (is_some o) Collecting rest) begun
 
   -- AN ENTRY FOR A TASK WHOSE COLLECTION HASN'T BEGUN
@@ -58,7 +58,7 @@ module _ (w : SharedValue) (k : ℕ) (I : IsSharedValue w) (first : first_cause 
     by_part p true e at is = absurd cc
     by_part p false e at is = apart t kind cause held is (other t p.task at e)
 
-    by_copy : (p q : Private) (b : Begun) (same : Bool) → (p.task == t) ≡ same → p.task ≡ q.task → Fits w k q → q.begun ≡ Some b → cond same (Some Collecting) (Some NotOut) ≡ Some cause → refused w (record { worker = k; kind = kind }) ≡ Some cause
+    by_copy : (p q : Private) (b : Begun) (same : Bool) → (p.task == t) ≡ same → p.task ≡ q.task → WorkerPartFits w k q → q.begun ≡ Some b → cond same (Some Collecting) (Some NotOut) ≡ Some cause → refused w (record { worker = k; kind = kind }) ≡ Some cause
     by_copy p q b true e task F begun is =
         let at : t ≡ q.task = sym (eqb-true p.task t e) ∙ task in
         behind kind not_fuel ∙ (runs ∙ (ap (λ u. on_running l k u rest) at ∙ (amid q b rest F begun ∙ is)))
@@ -87,7 +87,7 @@ module _ (w : SharedValue) (k : ℕ) (I : IsSharedValue w) (first : first_cause 
         ∙ (unless_false (is_some (heap_of l p.task).begun) NotCollecting (rest_of p.task) (begun_is w k p H.fits on ∙ ap is_some H.idle) ∙ is)))
     by_other p false cause e H is = apart t (End t a g n) cause refl is (other t p.task H.fits.out e)
 
-    by_same : (p q : Private) (b : Bool) (cause : Refused) → (p.task == t) ≡ b → p.task ≡ q.task → Fits w k q → cond b None (Some NotOut) ≡ Some cause → refused w (record { worker = k; kind = End t a g n }) ≡ Some cause
+    by_same : (p q : Private) (b : Bool) (cause : Refused) → (p.task == t) ≡ b → p.task ≡ q.task → WorkerPartFits w k q → cond b None (Some NotOut) ≡ Some cause → refused w (record { worker = k; kind = End t a g n }) ≡ Some cause
     by_same p q true cause e task F is = absurd cc
     by_same p q false cause e task F is = apart t (End t a g n) cause refl is (other t q.task F.out (ap (λ u. u == t) (sym task) ∙ e))
 

@@ -1,5 +1,5 @@
 -- The result of an entry of a worker, from the result of a call of the shared value.
-use Rattle.journal_replay.proofs.Common.{◌≡◌, ℕ, true, false, Some, None, Result, Ok, Err, refl, ap, sym, subst, ◌∙◌, OnErr, OnOk, false≢true, none_some, EntryValue, End, Refused, ends_as, Moved, Private, NotEntered, NoMemory, Refuses, first_cause, EntersOrRefuses, Enters, IsCaused, IsSamePart, refused, AllFit, Fits, OthersFit, IsSharedValue, SharedValue, GoesAlone, HaltsAlone, alone_entry, IsUnchanged, Done, Ended, Forked, Over, RanTo, fit_by, OutPart, Copied, Made, AnswersFor, EntersFor, MakesFor, RefusesFor, holding_of, WorkerHolds, HoldsCopy, HoldsPart}
+use Rattle.journal_replay.proofs.Common.{◌≡◌, ℕ, true, false, Some, None, Result, Ok, Err, refl, ap, sym, subst, ◌∙◌, OnErr, OnOk, false≢true, none_some, EntryValue, End, Refused, ends_as, Moved, Private, NotEntered, NoMemory, Refuses, first_cause, EntersOrRefuses, Enters, IsCaused, IsSamePart, refused, EachPartStillFits, WorkerPartFits, OthersFit, IsSharedValue, SharedValue, GoesAlone, HaltsAlone, alone_entry, IsUnchanged, Done, Ended, Forked, Over, RanTo, fit_by, OutPart, Copied, Made, AnswersFor, EntersFor, MakesFor, RefusesFor, holding_of, WorkerHolds, HoldsCopy, HoldsPart}
 use Rattle.run_statistics.specs.below.entry_calls.{Ran}
 use Rattle.journal_replay.specs.declared.out_part.OutPart.TheVariants.{Part}
 use Rattle.journal_replay.proofs.HoldingCauses.{copy_fits, said}
@@ -23,7 +23,7 @@ answers_part w after k e q (Ok x) why same enters others H = record { free = why
 answers_part w after k e q (Err (Refuses cause)) why same enters others H = record { cause_is = why; same = same; holds = part_stops after k q H }
 answers_part w after k e q (Err NoMemory) why same enters others H = record { same = places_same w after same; still = fit_by w after same; holds = part_stops after k q H }
 
-pub holds_heap : (after w : SharedValue) (k : ℕ) (p q : Private) → q ≡ record p { heap = q.heap } → HoldsPart w false k p → Fits after k q → HoldsPart after false k q
+pub holds_heap : (after w : SharedValue) (k : ℕ) (p q : Private) → q ≡ record p { heap = q.heap } → HoldsPart w false k p → WorkerPartFits after k q → HoldsPart after false k q
 holds_heap after w k p q is H F = record {
   fits = F;
   idle = ap (λ (z : Private). z.begun) is ∙ H.idle;
@@ -31,7 +31,7 @@ holds_heap after w k p q is H F = record {
 }
 
 -- a collection doesn't begin
-pub begin_fails : (w after : SharedValue) (k : ℕ) (e : EntryValue) (p q : Private) (cause : NotEntered) → IsCaused cause (refused w e) → after ≡ w → IsSamePart p q → HoldsPart w false k p → Fits after k q → AnswersFor w after k e (Part q) (Err cause)
+pub begin_fails : (w after : SharedValue) (k : ℕ) (e : EntryValue) (p q : Private) (cause : NotEntered) → IsCaused cause (refused w e) → after ≡ w → IsSamePart p q → HoldsPart w false k p → WorkerPartFits after k q → AnswersFor w after k e (Part q) (Err cause)
 begin_fails w after k e p q cause why same back H F =
     answers_part w after k e q (Err cause) why same tt tt (record { fits = F; idle = ap (λ (z : Private). z.begun) back ∙ H.idle; entered = λ h. ap (λ (z : Private). z.fresh) back ∙ H.entered refl })
 
@@ -63,16 +63,16 @@ ran_made w after k p (Over q) idle free R = halts_made w after k p q idle free R
 ran_made w after k p Done idle free R = record { free = free; enters = R.enters; others = R.others; holds = λ t held. none_some (sym (R.rest t) ∙ held) }
 
 -- an allocation for it fails
-pub ran_fails : (w after : SharedValue) (k : ℕ) (e : EntryValue) (p q : Private) (cause : NotEntered) → refused w e ≡ None → IsCaused cause (refused w e) → IsUnchanged cause w after → AllFit w after → q ≡ p → p.begun ≡ None → Fits w k p → AnswersFor w after k e (Part q) (Err cause)
+pub ran_fails : (w after : SharedValue) (k : ℕ) (e : EntryValue) (p q : Private) (cause : NotEntered) → refused w e ≡ None → IsCaused cause (refused w e) → IsUnchanged cause w after → EachPartStillFits w after → q ≡ p → p.begun ≡ None → WorkerPartFits w k p → AnswersFor w after k e (Part q) (Err cause)
 ran_fails w after k e p q (Refuses cause) free why same still back idle F = none_some (sym free ∙ why)
 ran_fails w after k e p q NoMemory free why same still back idle F = record {
   same = same;
   still = still;
-  holds = record { fits = subst (Fits after k) (sym back) (still k p F); idle = ap (λ (z : Private). z.begun) back ∙ idle; entered = λ h. absurd (false≢true (sym h)) };
+  holds = record { fits = subst (WorkerPartFits after k) (sym back) (still k p F); idle = ap (λ (z : Private). z.begun) back ∙ idle; entered = λ h. absurd (false≢true (sym h)) };
 }
 
 -- a part whose steps aren't committed, after the world stops
-pub stopped_part : (w : SharedValue) (k : ℕ) (p : Private) → Fits w k p → p.begun ≡ None → HoldsPart w true k p
+pub stopped_part : (w : SharedValue) (k : ℕ) (p : Private) → WorkerPartFits w k p → p.begun ≡ None → HoldsPart w true k p
 stopped_part w k p F idle = record { fits = F; idle = idle; entered = λ h. absurd (false≢true (sym h)) }
 
 -- ---- A COLLECTION ENDS

@@ -1,5 +1,5 @@
 -- How many of a part's next steps fit in one entry: its private steps, and one more that isn't private.
-use Rattle.journal_replay.proofs.Common.{◌≡◌, ◌≢◌, ℕ, zero, suc, ◌+◌, ◌-◌, ◌<◌, ◌≤◌, ◌||◌, true, false, cond, min, nat_le, Option, Some, None, is_some, inl, inr, refl, ap, ap₂, sym, ◌∙◌, arith, cases_lt, cond-false, cond-true, false≢true, or_left, or_right, ProgramText, MachineState, asked, Ran, SettingsValue, private_limit, Ledger, Collecting, Long, long_at, refused_if, heap_of, lacks_room, is_due, is_in_need, is_private, most_steps, on_asked, standing, task_step, task_steps, ArePrivate, Paused, Shared, NeedChunk, Spent, Private, is_part_due, is_part_in_need, lacks_place, lacks_same, first_cause, refused, Fits, next_line, IsSharedValue, SharedValue, accounts, asks_is, asks_two, counted_is, since_is, at_part, fits_now, IsShared, machine_after, IsNext, standing_by}
+use Rattle.journal_replay.proofs.Common.{◌≡◌, ◌≢◌, ℕ, zero, suc, ◌+◌, ◌-◌, ◌<◌, ◌≤◌, ◌||◌, true, false, cond, min, nat_le, Option, Some, None, is_some, inl, inr, refl, ap, ap₂, sym, ◌∙◌, arith, cases_lt, cond-false, cond-true, false≢true, or_left, or_right, ProgramText, MachineState, asked, Ran, SettingsValue, private_limit, Ledger, Collecting, Long, long_at, refused_if, heap_of, lacks_room, is_due, is_in_need, is_private, most_steps, on_asked, standing, task_step, task_steps, ArePrivate, Paused, Shared, NeedChunk, Spent, Private, is_part_due, is_part_in_need, lacks_place, lacks_same, first_cause, refused, WorkerPartFits, next_line, IsSharedValue, SharedValue, accounts, asks_is, asks_two, counted_is, since_is, at_part, fits_now, IsShared, machine_after, PausesNext, standing_by}
 use Rattle.run_statistics.specs.below.task_machine.{Due}
 use Rattle.run_statistics.proofs.below.step_commit.LastSteps as last
 use Rattle.journal_replay.proofs.HoldingCauses.{behind, on}
@@ -28,7 +28,7 @@ one_stands p s t m l due need shared =
 
 -- ---- A PART, before the run's end
 
-module _ (w : SharedValue) (k : ℕ) (p : Private) (I : IsSharedValue w) (F : Fits w k p) (going : (accounts w).end ≡ None) where
+module _ (w : SharedValue) (k : ℕ) (p : Private) (I : IsSharedValue w) (F : WorkerPartFits w k p) (going : (accounts w).end ≡ None) where
   abbrev t : ℕ
   t = p.task
 
@@ -54,10 +54,10 @@ module _ (w : SharedValue) (k : ℕ) (p : Private) (I : IsSharedValue w) (F : Fi
           ∙ (sym (ap (λ z. on_asked z (lacks_place p.heap)) e) ∙ q))
 
   -- how many of further steps fit
-  stands : (why : Paused) → IsNext w p why → why ≢ Spent → (m : ℕ) → p.fresh ≤ private_limit → standing w.settings w.program l t (p.fresh + suc m) ≡ standing_by p why
+  stands : (why : Paused) → PausesNext w p why → why ≢ Spent → (m : ℕ) → p.fresh ≤ private_limit → standing w.settings w.program l t (p.fresh + suc m) ≡ standing_by p why
   stands why next more m few = standing_then w.program w.settings t p.fresh (p.fresh + suc m) (suc m) l refl (fits_now w k p F going).private ∙ stands_by_cases why next more
     where
-      stands_by_cases : (why : Paused) → IsNext w p why → why ≢ Spent → p.fresh + standing w.settings w.program M t (suc m) ≡ standing_by p why
+      stands_by_cases : (why : Paused) → PausesNext w p why → why ≢ Spent → p.fresh + standing w.settings w.program M t (suc m) ≡ standing_by p why
       stands_by_cases Shared next more =
           let S : IsShared w p = record { last = next; few = few } in
           ap (λ n. p.fresh + n) (one_stands w.program w.settings t m M (last.not_due w k p I F S going) (last.not_in_need w k p I F S going) (last.shared_now w k p I F S going))
@@ -83,7 +83,7 @@ less_by : (a b : ℕ) → a ≤ b → a ≢ b → a < b
 less_by a b le ne = elim (cases_lt a b) [ inl lt ↦ lt | inr ge ↦ absurd (ne (omega (arith, le, ge))) ]
 
 -- IF FEWER STEPS FIT, the entry is too long
-pub too_long : (w : SharedValue) (k : ℕ) (p : Private) (why : Paused) (n : ℕ) → IsSharedValue w → Fits w k p → p.begun ≡ None → first_cause w.end w.steps w.settings k false ≡ None → IsNext w p why → (why ≡ Spent → p.fresh ≡ n) → p.fresh ≤ n → p.fresh ≢ n → standing_by p why ≢ n → n ≤ 257
+pub too_long : (w : SharedValue) (k : ℕ) (p : Private) (why : Paused) (n : ℕ) → IsSharedValue w → WorkerPartFits w k p → p.begun ≡ None → first_cause w.end w.steps w.settings k false ≡ None → PausesNext w p why → (why ≡ Spent → p.fresh ≡ n) → p.fresh ≤ n → p.fresh ≢ n → standing_by p why ≢ n → n ≤ 257
     → refused w (record { worker = k; kind = Ran p.task n }) ≡ Some (Long (standing_by p why))
 too_long w k p why n I F idle first next spent within off not_all few =
     let l : Ledger = accounts w in

@@ -1,5 +1,5 @@
 -- The parts that workers hold stand together in the shared value.
-use Rattle.journal_replay.proofs.Common.{◌≡◌, ℕ, zero, suc, Bool, Option, Some, None, List, [], ◌∷◌, slice_get, inl, inr, refl, ap, sym, subst, ◌∙◌, arith, false≢true, same_Some, got_within, got_some, none_some, ProgramText, is_running, Entangled, Trapped, heap_of, let_go, TasksAreOut, task_steps, Ledger, RunEnd, Machine, Pool, tasks_are_out_once, Knows, Rests, aside, legal_knows, rested_knows, rested_worker, Part as PartOf, ahead, NotOf, all_ahead, In, WorkerFits, WorkersFit, by_end, handed, all_fit_together, part_of, IsSharedValue, SharedValue, accounts, value_of, worker_by_end, some_flat, done_idles, OutPart, Nothing, Copied, AreParts, HoldsOneOf, IsPartIn, PartsStand, StandsTogether, with_parts, WorkerHolds, IsWhole, WorldValue}
+use Rattle.journal_replay.proofs.Common.{◌≡◌, ℕ, zero, suc, Bool, Option, Some, None, List, [], ◌∷◌, slice_get, inl, inr, refl, ap, sym, subst, ◌∙◌, arith, false≢true, same_Some, got_within, got_some, none_some, ProgramText, is_running, Entangled, Trapped, heap_of, let_go, TasksAreOut, task_steps, Ledger, RunEnd, Machine, Pool, tasks_are_out_once, LedgerIsKnown, Rests, aside, legal_knows, rested_knows, rested_worker, Part as PartOf, ahead, NotOf, all_ahead, In, WorkerFits, WorkersFit, by_end, handed, all_fit_together, part_of, IsSharedValue, SharedValue, accounts, value_of, worker_by_end, some_flat, done_idles, OutPart, Nothing, Copied, AreParts, HoldsOneOf, IsPartIn, PartsStand, StandsTogether, with_parts, WorkerHolds, IsWhole, WorldValue}
 use Rattle.run_statistics.specs.below.hh_model.{Done}
 use Rattle.run_statistics.specs.below.run_ledger.{Fuel}
 use Rattle.journal_replay.specs.declared.out_part.OutPart.TheVariants.{Part}
@@ -121,7 +121,7 @@ module _ (x : WorldValue) (I : IsSharedValue x.shared) (W : IsWhole x) where
   abbrev L : Ledger
   L = aside (handed l)
 
-  handed_knows : (o : Option RunEnd) → Knows l → Knows (by_end l o)
+  handed_knows : (o : Option RunEnd) → LedgerIsKnown l → LedgerIsKnown (by_end l o)
   handed_knows None K = K
   handed_knows (Some (Fuel n)) K = K
   handed_knows (Some (Pool n)) K = K
@@ -129,7 +129,7 @@ module _ (x : WorldValue) (I : IsSharedValue x.shared) (W : IsWhole x) where
   handed_knows (Some (Machine (Trapped kind t line))) K = K
   handed_knows (Some (Machine (Entangled t u))) K = K
 
-  knows : Knows L
+  knows : LedgerIsKnown L
   knows = knows_aside (handed l) (handed_knows l.end (legal_knows w.program w.settings w.journal.items I.legal))
 
   -- a part still fits: after the run is done there is none

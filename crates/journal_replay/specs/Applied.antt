@@ -2,7 +2,7 @@
 use Rattle.std.specs.Prelude.{◌≡◌, ℕ, ◌==◌, Bool, true, false, Option, Some, None, List, Result, Ok, Err, if◌then◌else◌}
 use Rattle.run_statistics.specs.below.run_trace.{Kind, Fuel, Mark, More, Sweep, EntryValue}
 use Rattle.run_statistics.specs.below.run_ledger.{Refused, Collecting, NotCollecting, NotOut}
-use Rattle.run_statistics.specs.below.core_invariant.{NotEntered, NoMemory, Refuses, Enters, refused, AllFit, OthersFit, SharedValue}
+use Rattle.run_statistics.specs.below.core_invariant.{NotEntered, NoMemory, Refuses, Enters, refused, EachPartStillFits, OthersFit, SharedValue}
 use Rattle.run_statistics.specs.below.fork_join_commit.{SameButPlaces}
 use Rattle.run_statistics.specs.below.entry_calls.{Ran, Done, Ended, Forked, Over}
 use Rattle.journal_replay.specs.declared.out_part.OutPart.{OutPart}
@@ -65,7 +65,7 @@ pub record RefusesFor (w after : SharedValue) (k : ℕ) (e : EntryValue) (cause 
 
 pub record WantsFor (w after : SharedValue) (k : ℕ) (holding : OutPart) : Type 0 where
   pub same : SameButPlaces w after
-  pub still : AllFit w after
+  pub still : EachPartStillFits w after
   pub holds : WorkerHolds after true k holding
 
 abbrev pub AnswersFor : SharedValue → SharedValue → ℕ → EntryValue → OutPart → Result (Unit {0}) NotEntered → Type 0
@@ -81,7 +81,7 @@ MakesFor w after k e made = AnswersFor w after k e made.holding made.answer
 pub record EntersApart (w after : SharedValue) (e : EntryValue) : Type 0 where
   pub free : refused w e ≡ None
   pub enters : Enters w after e
-  pub fit : AllFit w after
+  pub fit : EachPartStillFits w after
 
 abbrev pub AnswersApart : SharedValue → SharedValue → EntryValue → Result (Unit {0}) NotEntered → Type 0
 AnswersApart w after e (Ok x) = EntersApart w after e

@@ -5,8 +5,8 @@ use Rattle.run_statistics.specs.below.core_invariant.{SharedValue}
 use Rattle.run_statistics.specs.below.step_commit.{machine_after}
 
 -- what comes next of the part's task, by the machine after its fresh steps
-abbrev pub IsNext : SharedValue → Private → Paused → Type 0
-IsNext w p why = Pauses w.program p (machine_after w p) why
+abbrev pub PausesNext : SharedValue → Private → Paused → Type 0
+PausesNext w p why = Pauses w.program p (machine_after w p) why
 
 -- how many steps fit in one entry: the private ones, and one more that isn't private
 abbrev pub standing_by : Private → Paused → ℕ

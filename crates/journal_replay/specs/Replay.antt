@@ -23,11 +23,11 @@ pub record HasReplayed (p : ProgramText) (s : SettingsValue) (entries : List Ent
   pub none : first_refused p s entries ≡ None
 
 -- the first refused entry stops it, with its cause; or a failed allocation, after some entries
-abbrev pub IsStop : ProgramText → SettingsValue → List EntryValue → ReplayStop → Type 0
-IsStop p s entries (RefusedAt r) = first_refused p s entries ≡ Some r
-IsStop p s entries (NoMemory world) = HasCome p s entries world
+abbrev pub IsReplayStop : ProgramText → SettingsValue → List EntryValue → ReplayStop → Type 0
+IsReplayStop p s entries (RefusedAt r) = first_refused p s entries ≡ Some r
+IsReplayStop p s entries (NoMemory world) = HasCome p s entries world
 
 -- the result of a replay of these entries
 abbrev pub ReplayGives : ProgramText → SettingsValue → List EntryValue → Result WorldValue ReplayStop → Type 0
 ReplayGives p s entries (Ok x) = HasReplayed p s entries x
-ReplayGives p s entries (Err stop) = IsStop p s entries stop
+ReplayGives p s entries (Err stop) = IsReplayStop p s entries stop

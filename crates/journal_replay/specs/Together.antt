@@ -4,7 +4,7 @@ use Rattle.std.specs.Prelude.{◌≡◌, ℕ, Some, List, slice_get}
 use Rattle.run_statistics.specs.below.run_ledger.{Ledger}
 use Rattle.run_statistics.specs.below.copying_gc.{Moved}
 use Rattle.run_statistics.specs.below.ledger_step_laws.{Rests, aside}
-use Rattle.run_statistics.specs.below.refinement.{Part as PartOf, all_ahead, with_all_belongings, Stands, In, handed}
+use Rattle.run_statistics.specs.below.refinement.{Part as PartOf, all_ahead, with_all_belongings, MemoryStands, In, handed}
 use Rattle.run_statistics.specs.below.task_machine.{Private}
 use Rattle.run_statistics.specs.below.core_invariant.{part_of, SharedValue, accounts, value_of}
 use Rattle.copied_part_laws.specs.below.leaf_collections.{FitsCopied}
@@ -43,7 +43,7 @@ pub record PartsStand (x : WorldValue) : Type 0 where
   pub parts : List PartOf
   pub are : AreParts x parts
   -- with all their belongings
-  pub stands : Stands (with_all_belongings (value_of x.shared) parts) (with_parts x.shared parts)
+  pub stands : MemoryStands (with_all_belongings (value_of x.shared) parts) (with_parts x.shared parts)
   -- then no heap and no frame is missing
   pub rest : (t : ℕ) → Rests (with_parts x.shared parts) t
 

@@ -3,7 +3,7 @@ use Rattle.std.specs.Prelude.{◌≡◌, ℕ, Bool, false, Some, None, List, len
 use Rattle.run_statistics.specs.below.object_layout.{ChunkValue, number_of}
 use Rattle.run_statistics.specs.below.copying_gc.{Moved, CanTake, IsCollected}
 use Rattle.run_statistics.specs.below.task_machine.{Begun, Private}
-use Rattle.run_statistics.specs.below.core_invariant.{Fits, SharedValue}
+use Rattle.run_statistics.specs.below.core_invariant.{WorkerPartFits, SharedValue}
 use Rattle.run_statistics.specs.below.fork_join_commit.{HoldsNone}
 use Rattle.journal_replay.specs.declared.out_part.OutPart.{OutPart}
 use Rattle.journal_replay.specs.declared.out_part.OutPart.TheVariants.{Nothing, Part, Copied}
@@ -17,7 +17,7 @@ pub record WorldValue : Type 0 where
 
 -- a part in no leaf collection fits, and has no uncommitted step unless the world has stopped
 pub record HoldsPart (w : SharedValue) (stopped : Bool) (k : ℕ) (p : Private) : Type 0 where
-  pub fits : Fits w k p
+  pub fits : WorkerPartFits w k p
   pub idle : p.begun ≡ None
   pub entered : stopped ≡ false → p.fresh ≡ 0
 
@@ -27,7 +27,7 @@ pub record HoldsCopy (w : SharedValue) (k : ℕ) (p : Private) (moved : Moved) :
   pub begun : Begun
   -- the chunks that its collection took
   pub news : List ChunkValue
-  pub fits : Fits w k before
+  pub fits : WorkerPartFits w k before
   pub fresh : before.fresh ≡ 0
   pub amid : before.begun ≡ Some begun
   pub new : CanTake before.heap.chunks news

@@ -2,7 +2,7 @@
 
 ghost use Rattle.std.specs.Prelude.{◌≡◌, ◌<◌, None, false};
 ghost use Rattle.run_statistics.specs.below.task_machine.{Private as PrivateOf};
-ghost use Rattle.run_statistics.specs.below.core_invariant.{first_cause, HasBegun, Fits, accounts};
+ghost use Rattle.run_statistics.specs.below.core_invariant.{first_cause, CopyingHasBegun, WorkerPartFits, accounts};
 ghost use Rattle.journal_replay.specs.Applied.{MakesFor};
 ghost use Rattle.journal_replay.specs.WorldValue.{WorkerHolds, HoldsCopy, HoldsPart};
 
@@ -19,9 +19,9 @@ fn copy_begun(
     to_chunks: ToChunks,
 ) -> Moved
     requires goes { (accounts shared.now).end ≡ None }
-    requires fits { Fits shared.now worker part.old }
+    requires fits { WorkerPartFits shared.now worker part.old }
     requires fresh { part.old.fresh ≡ 0 }
-    requires begun { (before : PrivateOf) × HasBegun before part.old roots.now to_chunks }
+    requires begun { (before : PrivateOf) × CopyingHasBegun before part.old roots.now to_chunks }
     ensures { HoldsCopy shared.now worker part.new result }
 {
     shared.stands();

@@ -2,11 +2,11 @@
 
 ghost use Rattle.std.specs.Prelude.{◌≡◌, ◌<◌, ◌≤◌, ◌+◌, ◌^◌, IfOk, None, false};
 ghost use Rattle.run_statistics.specs.below.run_ledger.{most_steps};
-ghost use Rattle.run_statistics.specs.below.core_invariant.{first_cause, Fits};
+ghost use Rattle.run_statistics.specs.below.core_invariant.{first_cause, WorkerPartFits};
 ghost use Rattle.run_statistics.specs.below.step_commit.{alone_entry, IsShared};
 ghost use Rattle.run_statistics.specs.below.entry_calls.{LeavesBy};
 ghost use Rattle.journal_replay.specs.Applied.{holding_of, MakesFor};
-ghost use Rattle.journal_replay.specs.Next.{standing_by, IsNext};
+ghost use Rattle.journal_replay.specs.Next.{standing_by, PausesNext};
 ghost use Rattle.journal_replay.specs.WorldValue.{WorkerHolds, HoldsPart};
 
 use crate::out_part::{Made, OutPart, idle_part};
@@ -25,16 +25,16 @@ fn run_more(
     budget: u32,
 ) -> Result<Paused, AllocError>
     requires first { first_cause shared.now.end shared.now.steps shared.now.settings worker false ≡ None }
-    requires fits { Fits shared.now worker part.old }
+    requires fits { WorkerPartFits shared.now worker part.old }
     requires idle { part.old.begun ≡ None }
     requires few { part.old.fresh + budget ≤ most_steps }
     requires counted { part.old.allocations + budget < 2 ^ 32 }
-    ensures fits { Fits shared.now worker part.new }
+    ensures fits { WorkerPartFits shared.now worker part.new }
     ensures idle { part.new.begun ≡ None }
     ensures task { part.new.task ≡ part.old.task }
     ensures within { part.new.fresh ≤ part.old.fresh + budget }
     ensures counted { part.new.allocations ≤ part.old.allocations + budget }
-    ensures next { IfOk result (IsNext shared.now part.new) }
+    ensures next { IfOk result (PausesNext shared.now part.new) }
     ensures spent { IfOk result (λ why. why ≡ Paused.Spent → part.new.fresh ≡ part.old.fresh + budget) }
 {
     shared.stands();
@@ -52,11 +52,11 @@ fn run_part(
     requires first { first_cause shared.now.end shared.now.steps shared.now.settings worker false ≡ None }
     requires holds { HoldsPart shared.now false worker part.old }
     requires few { steps ≤ most_steps }
-    ensures fits { Fits shared.now worker part.new }
+    ensures fits { WorkerPartFits shared.now worker part.new }
     ensures idle { part.new.begun ≡ None }
     ensures task { part.new.task ≡ part.old.task }
     ensures within { part.new.fresh ≤ steps }
-    ensures next { IfOk result (IsNext shared.now part.new) }
+    ensures next { IfOk result (PausesNext shared.now part.new) }
     ensures spent { IfOk result (λ why. why ≡ Paused.Spent → part.new.fresh ≡ steps) }
 {
     shared.stands();
@@ -73,7 +73,7 @@ fn run_part(
 // Commits the fresh steps of the part.
 fn enter_private(shared: &mut Counted, worker: u32, part: Private) -> Made
     requires room { 0 < shared.old.journal.room }
-    requires fits { Fits shared.old worker part }
+    requires fits { WorkerPartFits shared.old worker part }
     requires idle { part.begun ≡ None }
     requires some { 0 < part.fresh }
     ensures { MakesFor shared.old shared.new worker (record { worker = worker; kind = Kind.Ran part.task part.fresh }) result }
@@ -107,7 +107,7 @@ fn holding_of(ran: Ran) -> OutPart
 fn enter_leaving(shared: &mut Counted, worker: u32, part: Private, leaving: Leaving) -> Made
     requires room { 0 < shared.old.journal.room }
     requires first { first_cause shared.old.end shared.old.steps shared.old.settings worker false ≡ None }
-    requires fits { Fits shared.old worker part }
+    requires fits { WorkerPartFits shared.old worker part }
     requires idle { part.begun ≡ None }
     requires shared { IsShared shared.old part }
     requires leaves { LeavesBy shared.old part leaving }
@@ -130,7 +130,7 @@ fn enter_leaving(shared: &mut Counted, worker: u32, part: Private, leaving: Leav
 fn enter_last(shared: &mut Counted, worker: u32, part: Private) -> Made
     requires room { 0 < shared.old.journal.room }
     requires first { first_cause shared.old.end shared.old.steps shared.old.settings worker false ≡ None }
-    requires fits { Fits shared.old worker part }
+    requires fits { WorkerPartFits shared.old worker part }
     requires idle { part.begun ≡ None }
     requires shared { IsShared shared.old part }
     ensures { MakesFor shared.old shared.new worker (alone_entry worker part) result }
@@ -169,12 +169,12 @@ fn standing(part: &Private, paused: Paused) -> u32
 fn enter(shared: &mut Counted, worker: u32, part: Private, paused: Paused, steps: u32) -> Made
     requires room { 0 < shared.old.journal.room }
     requires first { first_cause shared.old.end shared.old.steps shared.old.settings worker false ≡ None }
-    requires fits { Fits shared.old worker part }
+    requires fits { WorkerPartFits shared.old worker part }
     requires idle { part.begun ≡ None }
     requires some { 0 < steps }
     requires few { steps ≤ most_steps }
     requires within { part.fresh ≤ steps }
-    requires next { IsNext shared.old part paused }
+    requires next { PausesNext shared.old part paused }
     requires spent { paused ≡ Paused.Spent → part.fresh ≡ steps }
     ensures { MakesFor shared.old shared.new worker (record { worker = worker; kind = Kind.Ran part.task steps }) result }
 {

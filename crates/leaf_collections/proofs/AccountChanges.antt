@@ -1,8 +1,8 @@
 -- An entry changes the account of one heap, whose task's part a worker holds: what stays of the accounts, and that
 -- nothing moves.
-use Rattle.leaf_collections.proofs.Common.{◌≡◌, ◌⊎◌, ℕ, true, false, Option, Some, None, length, slice_get, is_some, inl, inr, refl, ap, sym, subst, ◌∙◌, both_ways, cases_eq, MachineState, row_of, is_joined, is_waiting, Heap, Ledger, heap_of, let_go, or_fresh, with_heap, heap_machine, PoolValue, owner_of, Rests, rested, heap_then, with_at, with_off, SameObjects, with_belongings, AreLaidOut, Chunk, Belongings, In, Memory, objects, objects_of_chunks, HasNames, BelongingsStand, Located, belongings_kept, at_belongings, off_belongings, Begun, Private, SharedValue, accounts, value_by, value_of, with_marks, IsSharedValue, Fits, belongings_of_part, account_is, belongings_stand, fits_now, part_idle, stands_now}
+use Rattle.leaf_collections.proofs.Common.{◌≡◌, ◌⊎◌, ℕ, true, false, Option, Some, None, length, slice_get, is_some, inl, inr, refl, ap, sym, subst, ◌∙◌, both_ways, cases_eq, MachineState, row_of, is_joined, is_waiting, Heap, Ledger, heap_of, let_go, or_fresh, with_heap, heap_machine, PoolValue, owner_of, Rests, rested, heap_then, with_at, with_off, SameObjects, with_belongings, AreLaidOut, Chunk, Belongings, In, Memory, objects, objects_of_chunks, ChunksHaveNames, BelongingsStand, Located, belongings_kept, at_belongings, off_belongings, Begun, Private, SharedValue, accounts, value_by, value_of, with_marks, IsSharedValue, WorkerPartFits, belongings_of_part, account_is, belongings_stand, fits_now, part_idle, stands_now}
 
-module _ (w : SharedValue) (k : ℕ) (p : Private) (I : IsSharedValue w) (F : Fits w k (record p { fresh = 0 })) (on : (accounts w).end ≡ None) (f : Heap → Heap) (holds : (h : Heap) → (f h).worker ≡ h.worker) where
+module _ (w : SharedValue) (k : ℕ) (p : Private) (I : IsSharedValue w) (F : WorkerPartFits w k (record p { fresh = 0 })) (on : (accounts w).end ≡ None) (f : Heap → Heap) (holds : (h : Heap) → (f h).worker ≡ h.worker) where
   abbrev P : Private
   P = record p { fresh = 0 }
 
@@ -152,7 +152,7 @@ module _ (w : SharedValue) (k : ℕ) (p : Private) (I : IsSharedValue w) (F : Fi
 
       stands : BelongingsStand memory_after (rested L t) t
       stands = record {
-        names = subst (λ ks. HasNames ks (heap_of (rested L t) t)) (sym (same_view (λ (z : Belongings). z.chunks) refl))
+        names = subst (λ ks. ChunksHaveNames ks (heap_of (rested L t) t)) (sym (same_view (λ (z : Belongings). z.chunks) refl))
             (record { small = H.names.small ∙ sym (told (λ (h : Heap). h.chunks) (ap (λ (h : Heap). h.chunks) (chunks X))); large = H.names.large ∙ sym (told (λ (h : Heap). h.large) (ap (λ (h : Heap). h.large) (chunks X))) });
         room = same_view (λ (z : Belongings). z.room) refl ∙ (H.room ∙ sym (told (λ (h : Heap). h.room) (ap (λ (h : Heap). h.room) (chunks X))));
         since = ap (λ (z : Belongings). z.since) (at_belongings v' t g) ∙ (since ∙ sym (ap (λ (h : Heap). h.since) account_same));

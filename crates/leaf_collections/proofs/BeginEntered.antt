@@ -1,14 +1,14 @@
 -- A leaf collection begins, as the call makes it.
-use Rattle.leaf_collections.proofs.Common.{◌≡◌, ℕ, ◌+◌, ◌^◌, ◌<◌, ◌≤◌, ◌++◌, arith, Some, None, List, [], ◌∷◌, length, map, All, ap, sym, subst, ◌∙◌, vec_len, ReservedVecValue, all_from, map_in, Begin, EntryValue, Addr, IsBorn, cell_of, small_words, ChunkValue, number_of, IsSoundReference, PoolValue, TakesAll, units_in_use, HaveDistinctNumbers, IsFresh, saturating_words, with_places, ToChunks, AreNew, as_reference, born_live, In, Private, Begun, SharedValue, IsSharedValue, Fits, OthersFit, take_by, refused, HasBegun, roots_of, seen_object, entry_on, root_here}
-use Rattle.core_invariant.specs.below.copying_gc.{AreReserved}
+use Rattle.leaf_collections.proofs.Common.{◌≡◌, ℕ, ◌+◌, ◌^◌, ◌<◌, ◌≤◌, ◌++◌, arith, Some, None, List, [], ◌∷◌, length, map, All, ap, sym, subst, ◌∙◌, vec_len, ReservedVecValue, all_from, map_in, Begin, EntryValue, Addr, IsBorn, cell_of, small_words, ChunkValue, number_of, IsSoundReference, PoolValue, TakesAll, units_in_use, HaveDistinctNumbers, IsFresh, saturating_words, with_places, ToChunks, AreNew, as_reference, born_live, In, Private, Begun, SharedValue, IsSharedValue, WorkerPartFits, OthersFit, take_by, refused, CopyingHasBegun, roots_of, seen_object, entry_on, root_here}
+use Rattle.core_invariant.specs.below.copying_gc.{HasReservedLists}
 use Rattle.leaf_collections.proofs.CollectionPutOff.{without_fresh}
 use Rattle.leaf_collections.proofs.WhyNoCollection.{begin_idle, begin_within}
 use Rattle.leaf_collections.proofs.CollectionBegins.{begin_others, begin_world}
 use Rattle.leaf_collections.proofs.PartCollecting.{begin_part, new_fresh}
 use Rattle.leaf_collections.proofs.NewChunks.{new_of}
 
-module _ (w : SharedValue) (k : ℕ) (p : Private) (I : IsSharedValue w) (F : Fits w k p) (none : p.fresh ≡ 0) (free : refused w (record { worker = k; kind = Begin p.task }) ≡ None) where
-  abbrev F0 : Fits w k (record p { fresh = 0 })
+module _ (w : SharedValue) (k : ℕ) (p : Private) (I : IsSharedValue w) (F : WorkerPartFits w k p) (none : p.fresh ≡ 0) (free : refused w (record { worker = k; kind = Begin p.task }) ≡ None) where
+  abbrev F0 : WorkerPartFits w k (record p { fresh = 0 })
   F0 = without_fresh w k p F none
 
   pub begins_idle : p.begun ≡ None
@@ -57,11 +57,11 @@ module _ (w : SharedValue) (k : ℕ) (p : Private) (I : IsSharedValue w) (F : Fi
     pub begins_apart : OthersFit w begun_world k
     begins_apart = begin_others w k p I F0 free pool news 0 0 T j
 
-    pub begins_fit : (a b : ℕ) → Fits begun_world k (record p { heap = with_places p.heap a b; begun = Some begun_so })
+    pub begins_fit : (a b : ℕ) → WorkerPartFits begun_world k (record p { heap = with_places p.heap a b; begun = Some begun_so })
     begins_fit a b =
-        subst (λ n. Fits begun_world k (record p { heap = with_places p.heap a b; begun = Some begun_so; fresh = n })) (sym none)
-        (subst (λ rs. Fits begun_world k (record p { heap = with_places p.heap a b; begun = Some (record { roots = rs; news = numbers }); fresh = 0 })) (sym er)
-        (subst (λ ns. Fits begun_world k (record p { heap = with_places p.heap a b; begun = Some (record { roots = roots_of w p; news = ns }); fresh = 0 })) (sym (en ∙ ap (map number_of) news_are))
+        subst (λ n. WorkerPartFits begun_world k (record p { heap = with_places p.heap a b; begun = Some begun_so; fresh = n })) (sym none)
+        (subst (λ rs. WorkerPartFits begun_world k (record p { heap = with_places p.heap a b; begun = Some (record { roots = rs; news = numbers }); fresh = 0 })) (sym er)
+        (subst (λ ns. WorkerPartFits begun_world k (record p { heap = with_places p.heap a b; begun = Some (record { roots = roots_of w p; news = ns }); fresh = 0 })) (sym (en ∙ ap (map number_of) news_are))
         (begin_part w k p I F0 free pool news a b T j)))
 
     -- the roots are objects of the heap
@@ -71,7 +71,7 @@ module _ (w : SharedValue) (k : ℕ) (p : Private) (I : IsSharedValue w) (F : Fi
         let y = seen_object p.heap.chunks q.0 F.form.shaped.apart q.1 in
         (subst (λ z. IsBorn (cell_of p.heap.chunks z).mark) q.2 (born_live (cell_of p.heap.chunks q.0.at).mark q.0.birth y.mark), subst (λ (z : Addr). z.offset < 1024) q.2 (F.form.near q.0 q.1))
 
-    pub begins_with : (new : Private) (to : ToChunks) → to.chunks.items ≡ news → new ≡ record p { heap = with_places p.heap new.heap.slots new.heap.spare; begun = Some begun_so } → AreReserved new.heap (vec_len to.chunks) to → HasBegun p new roots to
+    pub begins_with : (new : Private) (to : ToChunks) → to.chunks.items ≡ news → new ≡ record p { heap = with_places p.heap new.heap.slots new.heap.spare; begun = Some begun_so } → HasReservedLists new.heap (vec_len to.chunks) to → CopyingHasBegun p new roots to
     begins_with new to items part reserved = record {
       part = part ∙ ap (λ ns. record p { heap = with_places p.heap new.heap.slots new.heap.spare; begun = Some (record { roots = roots; news = ns }) }) (en ∙ ap (map number_of) (sym items));
       sound = all_from (IsSoundReference p.heap.chunks) (map as_reference roots) (λ r i. let x = map_in as_reference roots r i in subst (IsSoundReference p.heap.chunks) x.2 (sound_root x.0 x.1));

@@ -1,5 +1,5 @@
 -- A part gets a chunk.
-use Rattle.leaf_collections.proofs.Common.{◌≡◌, ◌⊎◌, ℕ, ◌+◌, ◌*◌, ◌/◌, ◌<◌, ◌≤◌, true, false, ◌&&◌, not, Bool, cond, Option, Some, None, [], ◌∷◌, ◌++◌, length, map, slice_get, option_map, is_none, is_some, nat_lt, ◌==◌, inl, inr, refl, ap, ap₂, sym, subst, ◌∙◌, arith, lt-ltb, le-ltb, eq-eqb, ne_eqb, cases_eq, cases_lt, cond-false, cond-true, false≢true, leb-false, same_Some, append-nil, ReservedVecValue, in_map, MachineState, row_of, asked, is_joined, is_waiting, EntryValue, Heap, Ledger, Refused, Collecting, Due, NotNeeded, RunEnd, Pool as PoolOf, chunk_words, heap_of, in_use, is_small_size, lacks_room, let_go, or_fresh, units, with_heap, after, chunk_units, kind_refusal, refused_if, refused_unless, with_chunk, is_due, is_in_need, on_asked, entry_tells, legal_booked, heap_machine, place_in, ChunkValue, Located, Slot, PoolValue, Reserves as PoolTakes, units_in_use, LeafHeapValue, IsFresh, added, with_places, rested, heap_then, with_at, with_off, rested_view, Chunk, Belongings, In, Memory, object_name, objects, objects_of_chunks, AreLaidOut, reserved_chunks, reserved_units, HasNames, BelongingsStand, large_chunks, SameObjects, AsksUnits, BegunBy, with_belongings, at_belongings, Private, AreReserved, HeapMatchesAccount, IsShaped, chunks_added, shape_added, chunk_of, chunks_of, SharedValue, accounts, tree_counts_of, value_of, AreMeasured, IsMeasured, KeepsUnits, HeapForm, IsSharedValue, Fits, OthersFit, belongings_of_part, part_asks, need_cause, refused, asks_is, counted_is, account_idle, none_begun, small_names, entry_on, tasks_apart, MovesNothing, notes_unchanged, quiet_others, quiet_own, quiet_world, same_value, reserved_none, all_kept, measured_both, measured_new, part_kept, taken_keeps, fits_now, part_idle, stands_now, used_now, belongings_stand, places_form, some_units}
+use Rattle.leaf_collections.proofs.Common.{◌≡◌, ◌⊎◌, ℕ, ◌+◌, ◌*◌, ◌/◌, ◌<◌, ◌≤◌, true, false, ◌&&◌, not, Bool, cond, Option, Some, None, [], ◌∷◌, ◌++◌, length, map, slice_get, option_map, is_none, is_some, nat_lt, ◌==◌, inl, inr, refl, ap, ap₂, sym, subst, ◌∙◌, arith, lt-ltb, le-ltb, eq-eqb, ne_eqb, cases_eq, cases_lt, cond-false, cond-true, false≢true, leb-false, same_Some, append-nil, ReservedVecValue, in_map, MachineState, row_of, asked, is_joined, is_waiting, EntryValue, Heap, Ledger, Refused, Collecting, Due, NotNeeded, RunEnd, Pool as PoolOf, chunk_words, heap_of, in_use, is_small_size, lacks_room, let_go, or_fresh, units, with_heap, after, chunk_units, kind_refusal, refused_if, refused_unless, with_chunk, is_due, is_in_need, on_asked, entry_tells, legal_booked, heap_machine, place_in, ChunkValue, Located, Slot, PoolValue, Reserves as PoolTakes, units_in_use, LeafHeapValue, IsFresh, added, with_places, rested, heap_then, with_at, with_off, rested_view, Chunk, Belongings, In, Memory, object_name, objects, objects_of_chunks, AreLaidOut, reserved_chunks, reserved_units, ChunksHaveNames, BelongingsStand, large_chunks, SameObjects, AsksUnits, BegunBy, with_belongings, at_belongings, Private, HasReservedUnits, HeapMatchesAccount, HeapIsShaped, chunks_added, shape_added, chunk_of, chunks_of, SharedValue, accounts, tree_counts_of, value_of, AreMeasured, IsMeasured, KeepsUnits, HeapForm, IsSharedValue, WorkerPartFits, OthersFit, belongings_of_part, part_asks, need_cause, refused, asks_is, counted_is, account_idle, none_begun, small_names, entry_on, tasks_apart, MovesNothing, notes_unchanged, quiet_others, quiet_own, quiet_world, same_value, reserved_none, all_kept, measured_both, measured_new, part_kept, taken_keeps, fits_now, part_idle, stands_now, used_now, belongings_stand, places_form, some_units}
 use Rattle.core_invariant.specs.below.run_trace.{Chunk as ChunkOf}
 use Rattle.core_invariant.proofs.PartFitsMachine as link
 use Rattle.leaf_collections.proofs.AccountChanges as change
@@ -31,7 +31,7 @@ units_more number words z none = units_more_by_cases (is_small_size words) refl
         ∙ (big_spare (units words) two ∙ (some_units (units words) (omega (arith, two)) ∙ ap reserved_units (sym (cond-false (is_small_size words) 1 (units words) s))))
 
 -- the worker of the entry holds a part without fresh steps
-module _ (w : SharedValue) (k : ℕ) (p : Private) (I : IsSharedValue w) (F : Fits w k (record p { fresh = 0 })) (on : (accounts w).end ≡ None) (free : refused w (record { worker = k; kind = ChunkOf p.task }) ≡ None)
+module _ (w : SharedValue) (k : ℕ) (p : Private) (I : IsSharedValue w) (F : WorkerPartFits w k (record p { fresh = 0 })) (on : (accounts w).end ≡ None) (free : refused w (record { worker = k; kind = ChunkOf p.task }) ≡ None)
     (words : ℕ) (asks : part_asks w.program p ≡ Some words) where
   abbrev P : Private
   P = record p { fresh = 0 }
@@ -226,7 +226,7 @@ module _ (w : SharedValue) (k : ℕ) (p : Private) (I : IsSharedValue w) (F : Fi
         let old = part_kept w.pool pool P (units_stay t) F.measured in
         (subst (AreMeasured pool t) (sym chunks_are) (measured_both pool t p.heap.chunks (K ∷ []) old.0 (measured_new w.pool pool K t u T refl)), old.1)
 
-    shaped_then : IsShaped g
+    shaped_then : HeapIsShaped g
     shaped_then = shape_added p.heap K refl size_least fresh F.form.shaped slots spare
 
     objects_then : objects_of_chunks (belongings_of_part Q).chunks ≡ objects_of_chunks (belongings_of_part P).chunks
@@ -241,7 +241,7 @@ module _ (w : SharedValue) (k : ℕ) (p : Private) (I : IsSharedValue w) (F : Fi
     counted_rested : HeapMatchesAccount g (heap_of (rested L t) t)
     counted_rested = subst (HeapMatchesAccount g) (sym account_then) (record { chunks = counted_then.chunks; large = counted_then.large; last = counted_then.last; last_large = counted_then.last_large; room = counted_then.room; since = counted_then.since; reserved = counted_then.reserved })
 
-    names_then : HasNames (belongings_of_part Q).chunks (heap_of (rested L t) t)
+    names_then : ChunksHaveNames (belongings_of_part Q).chunks (heap_of (rested L t) t)
     names_then = record {
       small = small_names g.chunks ∙ counted_rested.chunks;
       large =
@@ -282,7 +282,7 @@ module _ (w : SharedValue) (k : ℕ) (p : Private) (I : IsSharedValue w) (F : Fi
     none_reserved : 2 ≤ u → p.heap.reserved ≡ None
     none_reserved two =
         reserved_none p.heap F.form p.heap.reserved refl
-        (subst (AreReserved p.heap.chunks p.heap.reserved) (ap (λ o. (or_fresh o).reserved) heap_is_in_ledger.1 ∙ reserved_zero (big (is_small_size words) refl sized)) (counted_is w k P I F on).reserved)
+        (subst (HasReservedUnits p.heap.chunks p.heap.reserved) (ap (λ o. (or_fresh o).reserved) heap_is_in_ledger.1 ∙ reserved_zero (big (is_small_size words) refl sized)) (counted_is w k P I F on).reserved)
       where
         big : (b : Bool) → is_small_size words ≡ b → u ≡ cond b 1 (units words) → is_small_size words ≡ false
         big true s q = absurd (omega (arith, two, q))
@@ -296,7 +296,7 @@ module _ (w : SharedValue) (k : ℕ) (p : Private) (I : IsSharedValue w) (F : Fi
 
     belongings_then : BelongingsStand after_ (rested L t) t
     belongings_then = record {
-      names = subst (λ (z : Belongings). HasNames z.chunks (heap_of (rested L t) t)) (sym here') names_then;
+      names = subst (λ (z : Belongings). ChunksHaveNames z.chunks (heap_of (rested L t) t)) (sym here') names_then;
       room = ap (λ (z : Belongings). z.room) here' ∙ counted_rested.room;
       since = ap (λ (z : Belongings). z.since) here' ∙ (added_since ∙ (ap (λ (z : Belongings). z.since) (sym own_belongings) ∙ (H.since ∙ (ap (λ (z : Heap). z.since) account_before ∙ (sym (chunk_since words heap_is_in_ledger.0) ∙ ap (λ (z : Heap). z.since) (sym account_then))))));
       count = λ live. ap (λ (z : Belongings). z.count) here' ∙ (ap (λ (z : Belongings). z.count) (sym own_belongings) ∙ (H.count (ap (λ (m : MachineState). is_joined (slice_get m.tasks t)) rested_same ∙ live) ∙ ap (λ (m : MachineState). length (row_of (slice_get m.store t))) rested_same));
@@ -326,7 +326,7 @@ module _ (w : SharedValue) (k : ℕ) (p : Private) (I : IsSharedValue w) (F : Fi
     none_then : (heap_of (rested L t) t).begun ≡ None
     none_then = ap (λ (z : Heap). z.begun) account_then ∙ (chunk_begun words heap_is_in_ledger.0 ∙ (ap (λ o. (or_fresh o).begun) (sym heap_is_in_ledger.1) ∙ account_idle w k P F on idle_part))
 
-    pub chunk_part : Fits w' k Q
+    pub chunk_part : WorkerPartFits w' k Q
     chunk_part =
         quiet_own I free moves k p g p.begun F form_then measured_then
         (subst (λ (z : Ledger). SameObjects before after_ (rested l t) (rested z t)) (sym then) part_same)
@@ -337,7 +337,7 @@ module _ (w : SharedValue) (k : ℕ) (p : Private) (I : IsSharedValue w) (F : Fi
     chunk_others o q ne G = quiet_others I free moves o q (tasks_apart w k o P q F G ne) G
 
 -- ---- IF TOO FEW ARE FREE
-module _ (w : SharedValue) (k : ℕ) (p : Private) (I : IsSharedValue w) (F : Fits w k (record p { fresh = 0 })) (on : (accounts w).end ≡ None) (free : refused w (record { worker = k; kind = ChunkOf p.task }) ≡ None)
+module _ (w : SharedValue) (k : ℕ) (p : Private) (I : IsSharedValue w) (F : WorkerPartFits w k (record p { fresh = 0 })) (on : (accounts w).end ≡ None) (free : refused w (record { worker = k; kind = ChunkOf p.task }) ≡ None)
     (words : ℕ) (asks : part_asks w.program p ≡ Some words) (full : w.pool.limit < units_in_use w.pool + chunk_units (Some words)) (j : ReservedVecValue EntryValue) where
   abbrev full_entry : EntryValue
   full_entry = record { worker = k; kind = ChunkOf p.task }
@@ -400,7 +400,7 @@ module _ (w : SharedValue) (k : ℕ) (p : Private) (I : IsSharedValue w) (F : Fi
       ∙ (rested_view (λ (z : Heap). z.begun) (λ z. refl) (accounts w) p.task ∙ account_idle w k (record p { fresh = 0 }) F on full_idle)
 
   -- the part, whose heap may have other spare capacities
-  pub full_part : (a b : ℕ) → Fits without_collection k (record p { fresh = 0; heap = with_places p.heap a b })
+  pub full_part : (a b : ℕ) → WorkerPartFits without_collection k (record p { fresh = 0; heap = with_places p.heap a b })
   full_part a b =
       quiet_own I free moves_full k p (with_places p.heap a b) p.begun F (places_form p.heap a b F.form) F.measured
       (subst (λ (z : Ledger). SameObjects full_belongings full_belongings (rested (accounts w) p.task) (rested z p.task)) (sym ends_so)
@@ -428,15 +428,15 @@ places_added h K a b c d = places_added_by_cases (K.size == 1024)
     places_added_by_cases true = refl
     places_added_by_cases false = refl
 
-pub places_fit : (w : SharedValue) (k : ℕ) (p : Private) (a b : ℕ) → Fits w k p → Fits w k (record p { heap = with_places p.heap a b })
+pub places_fit : (w : SharedValue) (k : ℕ) (p : Private) (a b : ℕ) → WorkerPartFits w k p → WorkerPartFits w k (record p { heap = with_places p.heap a b })
 places_fit w k p a b F = record { out = F.out; fits = F.fits; form = places_form p.heap a b F.form; measured = F.measured; leaf_limit = F.leaf_limit; field_limit = F.field_limit }
 
-module _ (w : SharedValue) (k : ℕ) (p : Private) (I : IsSharedValue w) (F : Fits w k p) (none : p.fresh ≡ 0) (free : refused w (record { worker = k; kind = ChunkOf p.task }) ≡ None) where
+module _ (w : SharedValue) (k : ℕ) (p : Private) (I : IsSharedValue w) (F : WorkerPartFits w k p) (none : p.fresh ≡ 0) (free : refused w (record { worker = k; kind = ChunkOf p.task }) ≡ None) where
   part_is : p ≡ record p { fresh = 0 }
   part_is = ap (λ n. record p { fresh = n }) none
 
-  F0 : Fits w k (record p { fresh = 0 })
-  F0 = subst (Fits w k) part_is F
+  F0 : WorkerPartFits w k (record p { fresh = 0 })
+  F0 = subst (WorkerPartFits w k) part_is F
 
   runs_on : (accounts w).end ≡ None
   runs_on = entry_on w (record { worker = k; kind = ChunkOf p.task }) free
@@ -458,8 +458,8 @@ module _ (w : SharedValue) (k : ℕ) (p : Private) (I : IsSharedValue w) (F : Fi
     pub pool_world : IsSharedValue pool_ended
     pool_world = full_world w k p I F0 runs_on free needs.0 needs.1 full_so j
 
-    pub pool_part : (a b : ℕ) → Fits pool_ended k (record p { heap = with_places p.heap a b })
-    pool_part a b = subst (λ n. Fits pool_ended k (record p { heap = with_places p.heap a b; fresh = n })) (sym none) (full_part w k p I F0 runs_on free needs.0 needs.1 full_so j a b)
+    pub pool_part : (a b : ℕ) → WorkerPartFits pool_ended k (record p { heap = with_places p.heap a b })
+    pool_part a b = subst (λ n. WorkerPartFits pool_ended k (record p { heap = with_places p.heap a b; fresh = n })) (sym none) (full_part w k p I F0 runs_on free needs.0 needs.1 full_so j a b)
 
     pub pool_others : OthersFit w pool_ended k
     pool_others = full_others w k p I F0 runs_on free needs.0 needs.1 full_so j
@@ -478,12 +478,12 @@ module _ (w : SharedValue) (k : ℕ) (p : Private) (I : IsSharedValue w) (F : Fi
     pub given_world : IsSharedValue given
     given_world = chunk_world w k p I F0 runs_on free needs.0 needs.1 pool number units 0 0 within size_is T j
 
-    pub given_part : (a b c d : ℕ) → Fits given k (record p { heap = with_places (added (with_places p.heap a b) K) c d })
+    pub given_part : (a b c d : ℕ) → WorkerPartFits given k (record p { heap = with_places (added (with_places p.heap a b) K) c d })
     given_part a b c d =
         let same : with_places (added p.heap (chunk_with number units)) c d ≡ with_places (added (with_places p.heap a b) K) c d =
         sym (ap (λ (z : ChunkValue). with_places (added (with_places p.heap a b) z) c d) K_is ∙ places_added p.heap (chunk_with number units) a b c d) in
-        subst (λ (h : LeafHeapValue). Fits given k (record p { heap = h })) same
-        (subst (λ n. Fits given k (record p { heap = with_places (added p.heap (chunk_with number units)) c d; fresh = n })) (sym none)
+        subst (λ (h : LeafHeapValue). WorkerPartFits given k (record p { heap = h })) same
+        (subst (λ n. WorkerPartFits given k (record p { heap = with_places (added p.heap (chunk_with number units)) c d; fresh = n })) (sym none)
         (chunk_part w k p I F0 runs_on free needs.0 needs.1 pool number units c d within size_is T j))
 
     pub given_others : OthersFit w given k

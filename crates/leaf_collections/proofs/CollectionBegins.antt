@@ -1,8 +1,8 @@
 -- A leaf collection of a part begins: the shared value and the parts of others.
-use Rattle.leaf_collections.proofs.Common.{◌≡◌, ℕ, ◌+◌, true, false, Some, None, List, [], ◌∷◌, ◌++◌, map, slice_get, option_map, is_some, ◌⊎◌, inl, inr, refl, ap, sym, ◌∙◌, cases_Bool, same_Some, ReservedVecValue, read_in, is_waiting, Begin, EntryValue, Heap, Ledger, take_of, with_heap, within, has_chunk, small_words, ChunkValue, number_of, PoolValue, TakesAll, slot_in, units_in_use, taken_are_owned, LeafHeapValue, with_places, In, Memory, Begun, Private, SharedValue, accounts, value_of, KeepsUnits, IsSharedValue, Fits, OthersFit, take_by, refused, roots_of, entry_on, tasks_apart, take_is, MovesNothing, quiet_others, quiet_world, all_taken_keep, part_idle, chunk_in}
+use Rattle.leaf_collections.proofs.Common.{◌≡◌, ℕ, ◌+◌, true, false, Some, None, List, [], ◌∷◌, ◌++◌, map, slice_get, option_map, is_some, ◌⊎◌, inl, inr, refl, ap, sym, ◌∙◌, cases_Bool, same_Some, ReservedVecValue, read_in, is_waiting, Begin, EntryValue, Heap, Ledger, take_of, with_heap, within, has_chunk, small_words, ChunkValue, number_of, PoolValue, TakesAll, slot_in, units_in_use, taken_are_owned, LeafHeapValue, with_places, In, Memory, Begun, Private, SharedValue, accounts, value_of, KeepsUnits, IsSharedValue, WorkerPartFits, OthersFit, take_by, refused, roots_of, entry_on, tasks_apart, take_is, MovesNothing, quiet_others, quiet_world, all_taken_keep, part_idle, chunk_in}
 use Rattle.leaf_collections.proofs.AccountChanges as change
 
-module _ (w : SharedValue) (k : ℕ) (p : Private) (I : IsSharedValue w) (F : Fits w k (record p { fresh = 0 })) (free : refused w (record { worker = k; kind = Begin p.task }) ≡ None) where
+module _ (w : SharedValue) (k : ℕ) (p : Private) (I : IsSharedValue w) (F : WorkerPartFits w k (record p { fresh = 0 })) (free : refused w (record { worker = k; kind = Begin p.task }) ≡ None) where
   abbrev P : Private
   P = record p { fresh = 0 }
 

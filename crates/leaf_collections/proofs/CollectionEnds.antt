@@ -1,5 +1,5 @@
 -- The end of a part's leaf collection: the new value stands, and parts fit.
-use Rattle.leaf_collections.proofs.Common.{◌≡◌, ℕ, ◌+◌, ◌-◌, ◌<◌, ◌&&◌, arith, true, false, not, Option, Some, None, is_some, List, [], ◌∷◌, ◌++◌, fold, length, slice_get, option_map, inl, inr, refl, ap, ap₂, sym, subst, ◌∙◌, cases_eq, same_Some, ReservedVecValue, got_within, each_from, got_some, in_map, map_in, read_in, none_some, Object, object_at, is_running, is_waiting, MachineState, runs_tell, EntryValue, End, Heap, Ledger, collected, heap_of, or_fresh, with_heap, with_heap_at, is_legal, SoundLedger, tasks_are_out_once, legal_sound, machine_goes_on, heap_machine, legal_then, waiters_are_free, Addr, Born, marked_object, cell_of, ChunkValue, Located, Slot, PoolValue, slot_at, owner_of, units_in_use, IsFresh, RefField, AreFields, redirected, StandOnce, Moved, new_address, AreGiven, units_in_slots, Rests, own, heap_then, with_at, with_off, legal_knows, CopyFits, EndsAt, CountsGo, OthersNotes, IsSource, Place, Chunk, Belongings, In, Lies, Memory, objects_of_chunks, rewritten_belongings, sources, Part, part_for, StandsFor, StandsForAll, as_node, by_end, WorkerFits, ends_stand_for, ends_fit_then, ends_leave, aside_is, Private, ParkedTask, refs_of_rest, Resting, refs_for, resting_references, with_ref_in, chunk_of, chunks_of, SharedValue, accounts, belongings_in, rest_at, tree_counts_of, value_of, KeepsUnits, RestsAreMeasured, IsSharedValue, Fits, OthersFit, belongings_of_part, part_of, heaps_of, sources_of, Enters, refused, fresh_off, seen_object, accounts_are, entered_world, entry_on, fits_then, free_at_rest, free_rests, part_fits, worker_when_out, refs_long, fits_held, stands_for_held, are_once, fresh_by, noted_sources, owned_before, AreFormed, Led, SourceThere, belongings_chunks, lead_all, given_keeps, measured_given, measured_kept, part_kept, stands_now, FitsCopied, end_entry, without_collection}
+use Rattle.leaf_collections.proofs.Common.{◌≡◌, ℕ, ◌+◌, ◌-◌, ◌<◌, ◌&&◌, arith, true, false, not, Option, Some, None, is_some, List, [], ◌∷◌, ◌++◌, fold, length, slice_get, option_map, inl, inr, refl, ap, ap₂, sym, subst, ◌∙◌, cases_eq, same_Some, ReservedVecValue, got_within, each_from, got_some, in_map, map_in, read_in, none_some, Object, object_at, is_running, is_waiting, MachineState, runs_tell, EntryValue, End, Heap, Ledger, collected, heap_of, or_fresh, with_heap, with_heap_at, is_legal, SoundLedger, tasks_are_out_once, legal_sound, machine_goes_on, heap_machine, legal_then, waiters_are_free, Addr, Born, marked_object, cell_of, ChunkValue, Located, Slot, PoolValue, slot_at, owner_of, units_in_use, IsFresh, RefField, AreFields, redirected, StandOnce, Moved, new_address, AreGiven, units_in_slots, Rests, own, heap_then, with_at, with_off, legal_knows, CopyFits, EndsAt, CountsGo, OthersNotes, IsSource, LiesWithOwner, Chunk, Belongings, In, Lies, Memory, objects_of_chunks, rewritten_belongings, sources, Part, part_for, StandsFor, StandsForAll, as_node, by_end, WorkerFits, ends_stand_for, ends_fit_then, ends_leave, aside_is, Private, ParkedTask, refs_of_rest, Resting, refs_for, resting_references, with_ref_in, chunk_of, chunks_of, SharedValue, accounts, belongings_in, rest_at, tree_counts_of, value_of, KeepsUnits, RestsAreMeasured, IsSharedValue, WorkerPartFits, OthersFit, belongings_of_part, part_of, heaps_of, sources_of, Enters, refused, fresh_off, seen_object, accounts_are, entered_world, entry_on, fits_then, free_at_rest, free_rests, part_fits, worker_when_out, refs_long, fits_held, stands_for_held, are_once, fresh_by, noted_sources, owned_before, AreFormed, Led, SourceThere, belongings_chunks, lead_all, given_keeps, measured_given, measured_kept, part_kept, stands_now, FitsCopied, end_entry, without_collection}
 
 -- a heap that a worker holds exists
 held_there : (hs : List Heap) (t k : ℕ) → (or_fresh (slice_get hs t)).worker ≡ Some k → t < length hs
@@ -63,7 +63,7 @@ module _ (w : SharedValue) (k : ℕ) (p : Private) (moved : Moved) (I : IsShared
       let lies : Lies (v.belongings (own l Q.name)).chunks Q.name s.object = Q.place.here Q.rests in
       let c = S.belongings.contents (own l Q.name) lies.0 Q.rests lies.1 in
       let same : Q.object ≡ c.0 = same_Some Q.object c.0 (sym Q.is ∙ (ap (object_at l.machine.store) (sym lies.2.name) ∙ c.1)) in
-      let long : length lies.0.refs ≡ length Q.object.refs = refs_long (Place v l) lies.0.refs c.0.refs c.2.refs ∙ ap (λ (z : Object). length z.refs) (sym same) in
+      let long : length lies.0.refs ≡ length Q.object.refs = refs_long (LiesWithOwner v l) lies.0.refs c.0.refs c.2.refs ∙ ap (λ (z : Object). length z.refs) (sym same) in
       source_object_by_cases Q lies.0 lies.2.at long (rest_at w.rests (own l Q.name)) refl lies.1
     where
       source_object_by_cases : (Q : IsSource v l t s) (o : Located) → o.at ≡ s.object → length o.refs ≡ length Q.object.refs → (r : Option ParkedTask) → rest_at w.rests (own l Q.name) ≡ r → In (objects_of_chunks (belongings_in r).chunks) o → At s
@@ -236,14 +236,14 @@ module _ (w : SharedValue) (k : ℕ) (p : Private) (moved : Moved) (I : IsShared
     held_value : (q : Part) → WorkerFits w.program w.settings q v'' L → WorkerFits w.program w.settings q v' L
     held_value q fits = fits_held v'' (λ u. v'.belongings u) L same_belongings w.program w.settings q sound' going' fits
 
-    pub end_fits : Fits w' k (without_collection p)
+    pub end_fits : WorkerPartFits w' k (without_collection p)
     end_fits =
         fits_then I free enters end_world k (without_collection p) (worker_when_out I free enters end_world k t ((S.tree_counts.task_out k t).1 F.out)) F.leaf_limit F.field_limit F.form (measured_given w.pool pool moved.back.items t p.heap.chunks G own_apart F.measured, λ n i. absurd i)
         (held_value (part_of w.settings (without_collection p))
         (subst (λ n. WorkerFits w.program w.settings (part_for w.settings t (belongings_of_part (without_collection p)) n) v'' L) (sym F.fresh)
         (ends_fit_then w.program w.settings w.journal.items I.legal v v'' k t moved.taken moved.given moved.left F.belongings (belongings_of_part (without_collection p)) f free C ends refl)))
 
-    apart : (u : ℕ) (q : Private) → (u ≡ k → ⊥) → Fits w u q → q.task ≡ t → ⊥
+    apart : (u : ℕ) (q : Private) → (u ≡ k → ⊥) → WorkerPartFits w u q → q.task ≡ t → ⊥
     apart u q ne Q same = ne (same_Some u k (sym Q.out ∙ (ap (λ z. (heap_of l z).worker) same ∙ F.out)))
 
     pub end_others : OthersFit w w' k
@@ -271,8 +271,8 @@ module _ (w : SharedValue) (k : ℕ) (p : Private) (moved : Moved) (I : IsShared
       pub world_so : IsSharedValue entered_so
       world_so = subst IsSharedValue (sym so) (end_world pool given once (w.journal.room - 1))
 
-      pub fits_so : Fits entered_so k (without_collection p)
-      fits_so = subst (λ (z : SharedValue). Fits z k (without_collection p)) (sym so) (end_fits pool given once (w.journal.room - 1))
+      pub fits_so : WorkerPartFits entered_so k (without_collection p)
+      fits_so = subst (λ (z : SharedValue). WorkerPartFits z k (without_collection p)) (sym so) (end_fits pool given once (w.journal.room - 1))
 
       pub others_so : OthersFit w entered_so k
       others_so = subst (λ (z : SharedValue). OthersFit w z k) (sym so) (end_others pool given once (w.journal.room - 1))

@@ -1,12 +1,12 @@
 -- A leaf collection of a part is put off.
-use Rattle.leaf_collections.proofs.Common.{◌≡◌, ℕ, arith, false, None, [], ◌∷◌, ◌++◌, is_none, is_some, inl, refl, ap, sym, subst, ◌∙◌, ReservedVecValue, PutOff, EntryValue, Heap, Ledger, PoolEnough, heap_of, in_use, with_heap, is_pool_enough, on_due, refused_if, entry_tells, units_in_use, LeafHeapValue, rested, rested_view, with_belongings, Memory, BegunBy, Private, SharedValue, accounts, value_of, HeapForm, IsSharedValue, Fits, OthersFit, belongings_of_part, first_cause, or_else, due_cause, refused, part_asks, account_idle, none_begun, entry_on, tasks_apart, MovesNothing, notes_unchanged, quiet_others, quiet_own, quiet_world, all_kept}
+use Rattle.leaf_collections.proofs.Common.{◌≡◌, ℕ, arith, false, None, [], ◌∷◌, ◌++◌, is_none, is_some, inl, refl, ap, sym, subst, ◌∙◌, ReservedVecValue, PutOff, EntryValue, Heap, Ledger, PoolEnough, heap_of, in_use, with_heap, is_pool_enough, on_due, refused_if, entry_tells, units_in_use, LeafHeapValue, rested, rested_view, with_belongings, Memory, BegunBy, Private, SharedValue, accounts, value_of, HeapForm, IsSharedValue, WorkerPartFits, OthersFit, belongings_of_part, first_cause, or_else, due_cause, refused, part_asks, account_idle, none_begun, entry_on, tasks_apart, MovesNothing, notes_unchanged, quiet_others, quiet_own, quiet_world, all_kept}
 use Rattle.leaf_collections.proofs.AccountChanges as change
 use Rattle.leaf_collections.proofs.WhyNotDue.{due_answer}
 
 -- WHY IT IS REFUSED
 
 -- if no cause precedes those of its kind
-pub put_off_answer : (w : SharedValue) (k : ℕ) (p : Private) → IsSharedValue w → Fits w k (record p { fresh = 0 }) → is_some (first_cause w.end w.steps w.settings k false) ≡ false
+pub put_off_answer : (w : SharedValue) (k : ℕ) (p : Private) → IsSharedValue w → WorkerPartFits w k (record p { fresh = 0 }) → is_some (first_cause w.end w.steps w.settings k false) ≡ false
     → refused w (record { worker = k; kind = PutOff p.task }) ≡ or_else (due_cause p (part_asks w.program p)) (refused_if (is_pool_enough w.settings (accounts w) p.task) (PoolEnough (units_in_use w.pool)) None)
 put_off_answer w k p I F h = due_answer w k p I F (PutOff p.task) (λ n. refused_if (is_pool_enough w.settings (accounts w) p.task) (PoolEnough n) None) refl h
 
@@ -31,7 +31,7 @@ reset_form h F = record {
 abbrev counted_anew : Heap → Heap
 counted_anew z = record z { since = 0 }
 
-module _ (w : SharedValue) (k : ℕ) (p : Private) (I : IsSharedValue w) (F : Fits w k (record p { fresh = 0 })) (free : refused w (record { worker = k; kind = PutOff p.task }) ≡ None) (j : ReservedVecValue EntryValue) where
+module _ (w : SharedValue) (k : ℕ) (p : Private) (I : IsSharedValue w) (F : WorkerPartFits w k (record p { fresh = 0 })) (free : refused w (record { worker = k; kind = PutOff p.task }) ≡ None) (j : ReservedVecValue EntryValue) where
   abbrev P : Private
   P = record p { fresh = 0 }
 
@@ -89,16 +89,16 @@ module _ (w : SharedValue) (k : ℕ) (p : Private) (I : IsSharedValue w) (F : Fi
       ap (λ (z : Heap). z.begun) (change.account_same w k p I F on counted_anew (λ z. refl) w.pool (λ c u q. q) 0 p.begun (λ z. refl) (λ z. refl) refl)
       ∙ (rested_view (λ (z : Heap). z.begun) (λ z. refl) l t ∙ account_idle w k P F on idle_part)
 
-  pub put_off_part : Fits w' k Q
+  pub put_off_part : WorkerPartFits w' k Q
   put_off_part =
       quiet_own I free moves k p (reset p.heap) p.begun F (reset_form p.heap F.form) F.measured
       (change.kept_same w k p I F on counted_anew (λ z. refl) w.pool (λ c u q. q) 0 p.begun (λ z. refl) (λ z. refl) refl (λ c u q. inl q) (λ q. refl))
       (subst (λ o. BegunBy (with_belongings v t (belongings_of_part Q)) (rested L t) t o) (sym idle_part) none_then)
 
 -- AS THE CALL MAKES IT
-module _ (w : SharedValue) (k : ℕ) (p : Private) (F : Fits w k p) (none : p.fresh ≡ 0) where
-  pub without_fresh : Fits w k (record p { fresh = 0 })
-  without_fresh = subst (λ n. Fits w k (record p { fresh = n })) none F
+module _ (w : SharedValue) (k : ℕ) (p : Private) (F : WorkerPartFits w k p) (none : p.fresh ≡ 0) where
+  pub without_fresh : WorkerPartFits w k (record p { fresh = 0 })
+  without_fresh = subst (λ n. WorkerPartFits w k (record p { fresh = n })) none F
 
   module _ (I : IsSharedValue w) (free : refused w (record { worker = k; kind = PutOff p.task }) ≡ None) (j : ReservedVecValue EntryValue) where
     abbrev entered_so : SharedValue
@@ -110,5 +110,5 @@ module _ (w : SharedValue) (k : ℕ) (p : Private) (F : Fits w k p) (none : p.fr
     pub put_off_apart : OthersFit w entered_so k
     put_off_apart = put_off_others w k p I without_fresh free j
 
-    pub put_off_fits : Fits entered_so k (record p { heap = reset p.heap })
-    put_off_fits = subst (λ n. Fits entered_so k (record p { heap = reset p.heap; fresh = n })) (sym none) (put_off_part w k p I without_fresh free j)
+    pub put_off_fits : WorkerPartFits entered_so k (record p { heap = reset p.heap })
+    put_off_fits = subst (λ n. WorkerPartFits entered_so k (record p { heap = reset p.heap; fresh = n })) (sym none) (put_off_part w k p I without_fresh free j)

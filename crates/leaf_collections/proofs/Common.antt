@@ -33,27 +33,27 @@ pub use Rattle.core_invariant.proofs.below.task_machine.{chunks_added, shape_add
 pub use Rattle.core_invariant.specs.Causes.{need_cause, first_cause, or_else, chunk_cause}
 pub use Rattle.core_invariant.specs.Due.{take_by, due_cause}
 pub use Rattle.core_invariant.specs.Entered.{refused, Enters}
-pub use Rattle.core_invariant.specs.Fits.{Fits, belongings_of_part, OthersFit, part_of}
-pub use Rattle.core_invariant.specs.LeafBegin.{HasBegun}
+pub use Rattle.core_invariant.specs.WorkerPartFits.{WorkerPartFits, belongings_of_part, OthersFit, part_of}
+pub use Rattle.core_invariant.specs.LeafBegin.{CopyingHasBegun}
 pub use Rattle.core_invariant.specs.Measured.{AreMeasured, IsMeasured, KeepsUnits, RestsAreMeasured}
 pub use Rattle.core_invariant.specs.Next.{part_asks, next_line}
-pub use Rattle.core_invariant.specs.Objects.{chunk_of, chunks_of, AreNear}
+pub use Rattle.core_invariant.specs.Objects.{chunk_of, chunks_of, OffsetsAreSmall}
 pub use Rattle.core_invariant.specs.Roots.{roots_of, heaps_of, sources_of}
 pub use Rattle.core_invariant.specs.SharedValue.{SharedValue, accounts, value_by, value_of, with_marks, tree_counts_of, belongings_in, rest_at}
 pub use Rattle.core_invariant.specs.Stands.{IsSharedValue, HeapForm}
 pub use Rattle.core_invariant.specs.below.chunk_pool.{PoolValue, owner_of, TakesAll, units_in_use, Slot, Reserves, slot_in, slot_at, IsBlank, NumbersBehind, one_unit, units_in}
 pub use Rattle.core_invariant.specs.below.copying_gc.{ToChunks, AreNew, as_reference, Moved, new_address}
 pub use Rattle.core_invariant.specs.below.hh_model.{MachineState, row_of, is_joined, is_waiting, asked, Object, object_at, is_running, Name, Task}
-pub use Rattle.core_invariant.specs.below.leaf_heap.{HaveDistinctNumbers, IsFresh, saturating_words, with_places, LeafHeapValue, added, AreTidy, AreWithin, IsTidy, IsCurrent, IsReserved, room_at, place_for, room_of}
+pub use Rattle.core_invariant.specs.below.leaf_heap.{HaveDistinctNumbers, IsFresh, saturating_words, with_places, LeafHeapValue, added, AreTidy, CellsFitInChunks, IsTidy, IsCurrent, IsReserved, room_at, place_for, room_of}
 pub use Rattle.core_invariant.specs.below.ledger_step_laws.{Rests, rested, own, IdleRest}
 pub use Rattle.core_invariant.specs.below.mark_sweep_gc.{AreGiven, units_in_slots}
 pub use Rattle.core_invariant.specs.below.object_layout.{Located, Addr, IsBorn, cell_of, small_words, ChunkValue, number_of, IsSoundReference, place_in, has_chunk, Born, marked_object, chunk_at, words_in, objects_from}
 pub use Rattle.core_invariant.specs.below.plain_vec.{ReservedVecValue, is_empty, option_is}
-pub use Rattle.core_invariant.specs.below.refinement.{SameObjects, with_belongings, AreLaidOut, Chunk, Belongings, In, Memory, objects, objects_of_chunks, HasNames, BelongingsStand, object_name, reserved_chunks, reserved_units, large_chunks, AsksUnits, BegunBy, CopyFits, EndsAt, CountsGo, OthersNotes, IsSource, Place, Lies, rewritten_belongings, sources, Part, part_for, StandsFor, StandsForAll, as_node, by_end, WorkerFits, BegunStands, LeafCollectionBegins}
+pub use Rattle.core_invariant.specs.below.refinement.{SameObjects, with_belongings, AreLaidOut, Chunk, Belongings, In, Memory, objects, objects_of_chunks, ChunksHaveNames, BelongingsStand, object_name, reserved_chunks, reserved_units, large_chunks, AsksUnits, BegunBy, CopyFits, EndsAt, CountsGo, OthersNotes, IsSource, LiesWithOwner, Lies, rewritten_belongings, sources, Part, part_for, StandsFor, StandsForAll, as_node, by_end, WorkerFits, BegunStands, LeafCollectionBegins}
 pub use Rattle.core_invariant.specs.below.remembered_set.{RefField, AreFields, redirected, StandOnce}
 pub use Rattle.core_invariant.specs.below.run_ledger.{Heap, Ledger, heap_of, let_go, or_fresh, with_heap, Refused, Collecting, Due, NotNeeded, RunEnd, Pool, chunk_words, in_use, is_small_size, lacks_room, units, after, chunk_units, kind_refusal, refused_if, refused_unless, with_chunk, is_due, is_in_need, on_asked, take_of, within, collected, with_heap_at, is_legal, SoundLedger, PoolEnough, is_pool_enough, on_due, is_fuel, on_running, PoolShort, Count, NotCollecting, NotOut, ends_as, is_out, end_numbers, NotDue, unless_wrong_number}
 pub use Rattle.core_invariant.specs.below.run_trace.{Begin, EntryValue, End, PutOff, Kind}
-pub use Rattle.core_invariant.specs.below.task_machine.{Begun, Private, AreReserved, HeapMatchesAccount, IsShaped, IsLastLarge, IsLastSmall, large_names, names_in, small_lists, is_part_due}
+pub use Rattle.core_invariant.specs.below.task_machine.{Begun, Private, HasReservedUnits, HeapMatchesAccount, HeapIsShaped, IsLastLarge, IsLastSmall, large_names, names_in, small_lists, is_part_due}
 pub use Rattle.core_invariant.specs.below.task_slots.{ParkedTask, refs_of_rest, Resting, refs_for, resting_references, with_ref_in}
 pub use Rattle.journal_laws.proofs.Waiters.{waiters_are_free}
 pub use Rattle.leaf_collections.specs.LeafEnd.{FitsCopied, end_entry, without_collection}

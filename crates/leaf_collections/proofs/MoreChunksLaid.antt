@@ -1,5 +1,5 @@
 -- The layout of a heap with one more, empty chunk, and what is known of it.
-use Rattle.leaf_collections.proofs.Common.{◌≡◌, ◌⊎◌, ℕ, ◌*◌, ◌/◌, ◌<◌, ◌≤◌, ◌==◌, ◌&&◌, ◌++◌, not, arith, Bool, true, false, cond, Option, Some, None, List, [], ◌∷◌, length, length-append, inl, inr, refl, ap, sym, subst, ◌∙◌, ne_eqb, AllByRecursion, cases_lt, cond-true, cond-false, eqb-true, is_empty, map_in, chunk_at, ChunkValue, words_in, AreTidy, AreWithin, LeafHeapValue, IsFresh, IsTidy, added, with_places, at_push, at_last, AreLaidOut, reserved_chunks, reserved_units, Chunk, In, numbers, units_of, IsLastLarge, IsLastSmall, IsShaped, AreNear, chunk_of, chunks_of, HeapForm, fresh_off}
+use Rattle.leaf_collections.proofs.Common.{◌≡◌, ◌⊎◌, ℕ, ◌*◌, ◌/◌, ◌<◌, ◌≤◌, ◌==◌, ◌&&◌, ◌++◌, not, arith, Bool, true, false, cond, Option, Some, None, List, [], ◌∷◌, length, length-append, inl, inr, refl, ap, sym, subst, ◌∙◌, ne_eqb, AllByRecursion, cases_lt, cond-true, cond-false, eqb-true, is_empty, map_in, chunk_at, ChunkValue, words_in, AreTidy, CellsFitInChunks, LeafHeapValue, IsFresh, IsTidy, added, with_places, at_push, at_last, AreLaidOut, reserved_chunks, reserved_units, Chunk, In, numbers, units_of, IsLastLarge, IsLastSmall, HeapIsShaped, OffsetsAreSmall, chunk_of, chunks_of, HeapForm, fresh_off}
 use Rattle.std.specs.List.{IsDistinct}
 use Rattle.leaf_collections.proofs.MoreChunksRead.{all_more, chunk_with, in_more, none_in, objects_more}
 
@@ -77,7 +77,7 @@ module _ (h : LeafHeapValue) (F : HeapForm h) (number u slots spare : ℕ) (some
   g = with_places (added h K) slots spare
 
   -- a large one comes if none was reserved
-  module _ (none : 2 ≤ u → h.reserved ≡ None) (shaped : IsShaped g) (chunks : g.chunks ≡ h.chunks ++ K ∷ []) (last : IsLastSmall g.chunks g.current) (last_large : IsLastLarge g.chunks g.reserved) where
+  module _ (none : 2 ≤ u → h.reserved ≡ None) (shaped : HeapIsShaped g) (chunks : g.chunks ≡ h.chunks ++ K ∷ []) (last : IsLastSmall g.chunks g.current) (last_large : IsLastLarge g.chunks g.reserved) where
     since_same : g.since ≡ h.since
     since_same = since_same_by_cases (K.size == 1024)
       where
@@ -123,7 +123,7 @@ module _ (h : LeafHeapValue) (F : HeapForm h) (number u slots spare : ℕ) (some
       | inr after ↦ spare_last i (omega (arith, lt, after, length-append h.chunks (K ∷ []))) big
     ]
 
-    near_then : AreNear (h.chunks ++ K ∷ [])
+    near_then : OffsetsAreSmall (h.chunks ++ K ∷ [])
     near_then o i = F.near o (subst (λ os. In os o) (objects_more K refl h.chunks) i)
 
     tidy_then : AreTidy (h.chunks ++ K ∷ [])
@@ -134,15 +134,15 @@ module _ (h : LeafHeapValue) (F : HeapForm h) (number u slots spare : ℕ) (some
       few = λ lt. omega arith;
     })
 
-    within_then : AreWithin (h.chunks ++ K ∷ [])
+    within_then : CellsFitInChunks (h.chunks ++ K ∷ [])
     within_then = all_more (λ k. words_in k.cells ≤ k.size) h.chunks K F.within (omega arith)
 
     pub form_more : HeapForm g
     form_more = record {
       shaped = shaped;
-      near = subst AreNear (sym chunks) near_then;
+      near = subst OffsetsAreSmall (sym chunks) near_then;
       tidy = subst AreTidy (sym chunks) tidy_then;
-      within = subst AreWithin (sym chunks) within_then;
+      within = subst CellsFitInChunks (sym chunks) within_then;
       last = last;
       last_large = last_large;
       since = let a = F.since in let b = since_same in omega (arith, a, b);

@@ -1,5 +1,5 @@
 -- A heap with one more, empty chunk: the objects that are read, and its account.
-use Rattle.leaf_collections.proofs.Common.{◌≡◌, ◌⊎◌, ℕ, zero, suc, ◌-◌, ◌*◌, ◌<◌, ◌≤◌, ◌==◌, arith, Bool, true, false, cond, Option, Some, None, List, [], ◌∷◌, ◌++◌, length, map, All, inl, inr, ne_eqb, refl, ap, sym, subst, ◌∙◌, cases_lt, cond-false, leb-false, length_push, Name, Heap, chunk_words, is_small_size, units, chunk_units, with_chunk, chunk_at, ChunkValue, words_in, Located, objects_from, LeafHeapValue, IsCurrent, IsReserved, added, room_at, with_places, at_push, at_last, Chunk, In, object_name, objects_of_chunks, large_chunks, AreReserved, HeapMatchesAccount, IsLastLarge, IsLastSmall, large_names, names_in, small_lists, IsShaped, chunk_of, chunks_of}
+use Rattle.leaf_collections.proofs.Common.{◌≡◌, ◌⊎◌, ℕ, zero, suc, ◌-◌, ◌*◌, ◌<◌, ◌≤◌, ◌==◌, arith, Bool, true, false, cond, Option, Some, None, List, [], ◌∷◌, ◌++◌, length, map, All, inl, inr, ne_eqb, refl, ap, sym, subst, ◌∙◌, cases_lt, cond-false, leb-false, length_push, Name, Heap, chunk_words, is_small_size, units, chunk_units, with_chunk, chunk_at, ChunkValue, words_in, Located, objects_from, LeafHeapValue, IsCurrent, IsReserved, added, room_at, with_places, at_push, at_last, Chunk, In, object_name, objects_of_chunks, large_chunks, HasReservedUnits, HeapMatchesAccount, IsLastLarge, IsLastSmall, large_names, names_in, small_lists, HeapIsShaped, chunk_of, chunks_of}
 
 -- ---- LISTS OF CHUNKS
 
@@ -83,7 +83,7 @@ room_same : (ks : List ChunkValue) (k : ChunkValue) (o : Option ℕ) → IsCurre
 room_same ks k None c = refl
 room_same ks k (Some i) c = ap (λ (z : ChunkValue). z.size - words_in z.cells) (at_push ks k i c.0)
 
-reserved_same : (ks : List ChunkValue) (k : ChunkValue) (o : Option ℕ) (u : ℕ) → IsReserved ks o → AreReserved ks o u → AreReserved (ks ++ k ∷ []) o u
+reserved_same : (ks : List ChunkValue) (k : ChunkValue) (o : Option ℕ) (u : ℕ) → IsReserved ks o → HasReservedUnits ks o u → HasReservedUnits (ks ++ k ∷ []) o u
 reserved_same ks k None u c r = r
 reserved_same ks k (Some i) u c r = ap (λ (z : ChunkValue). z.size) (at_push ks k i c.0) ∙ r
 
@@ -103,7 +103,7 @@ small_one number = record { number = number; size = 1024; cells = [] }
 abbrev pub chunk_with : ℕ → ℕ → ChunkValue
 chunk_with number u = record { number = number; size = 1024 * u; cells = [] }
 
-module _ (h : LeafHeapValue) (l : Heap) (S : IsShaped h) (C : HeapMatchesAccount h l) (number slots spare : ℕ) where
+module _ (h : LeafHeapValue) (l : Heap) (S : HeapIsShaped h) (C : HeapMatchesAccount h l) (number slots spare : ℕ) where
   small_counted : HeapMatchesAccount (with_places (added h (small_one number)) slots spare) (record l { chunks = l.chunks ++ [] ∷ []; room = 1024 })
   small_counted = record {
     chunks = small_more (small_one number) refl h.chunks refl ∙ ap (λ xs. xs ++ [] ∷ []) C.chunks;

@@ -1,12 +1,12 @@
 -- The part after its leaf collection has begun.
-use Rattle.leaf_collections.proofs.Common.{◌≡◌, ℕ, true, false, Option, Some, None, List, [], length, map, slice_get, is_some, ◌⊎◌, refl, ap, ap₂, sym, subst, ◌∙◌, length-map, ReservedVecValue, in_map, map_in, MachineState, is_waiting, Begin, EntryValue, Heap, Ledger, heap_of, let_go, take_of, with_heap, within, heap_machine, place_in, small_words, ChunkValue, number_of, has_own, PoolValue, TakesAll, LeafHeapValue, IsFresh, with_places, rested, within_rested, legal_knows, rested_sound, rested_view, rested_worker, waits_rest, SameObjects, with_belongings, BelongingsStand, Chunk, Belongings, In, Memory, BegunStands, LeafCollectionBegins, begins, at_belongings, Begun, Private, chunk_of, SharedValue, accounts, value_of, IsMeasured, IsSharedValue, Fits, belongings_of_part, take_by, refused, roots_of, account_idle, places_form, entry_on, take_is, quiet_own, all_taken_units, measured_kept, fits_now, belongings_stand, status, are_roots}
+use Rattle.leaf_collections.proofs.Common.{◌≡◌, ℕ, true, false, Option, Some, None, List, [], length, map, slice_get, is_some, ◌⊎◌, refl, ap, ap₂, sym, subst, ◌∙◌, length-map, ReservedVecValue, in_map, map_in, MachineState, is_waiting, Begin, EntryValue, Heap, Ledger, heap_of, let_go, take_of, with_heap, within, heap_machine, place_in, small_words, ChunkValue, number_of, has_own, PoolValue, TakesAll, LeafHeapValue, IsFresh, with_places, rested, within_rested, legal_knows, rested_sound, rested_view, rested_worker, waits_rest, SameObjects, with_belongings, BelongingsStand, Chunk, Belongings, In, Memory, BegunStands, LeafCollectionBegins, begins, at_belongings, Begun, Private, chunk_of, SharedValue, accounts, value_of, IsMeasured, IsSharedValue, WorkerPartFits, belongings_of_part, take_by, refused, roots_of, account_idle, places_form, entry_on, take_is, quiet_own, all_taken_units, measured_kept, fits_now, belongings_stand, status, are_roots}
 use Rattle.core_invariant.proofs.PartFitsMachine as link
 use Rattle.leaf_collections.proofs.AccountChanges as change
 use Rattle.leaf_collections.proofs.WhyNoCollection.{begin_idle}
 use Rattle.leaf_collections.proofs.CollectionBegins as first
 use Rattle.leaf_collections.proofs.NewChunks.{distinct_numbers, idle_rest}
 
-module _ (w : SharedValue) (k : ℕ) (p : Private) (I : IsSharedValue w) (F : Fits w k (record p { fresh = 0 })) (free : refused w (record { worker = k; kind = Begin p.task }) ≡ None) where
+module _ (w : SharedValue) (k : ℕ) (p : Private) (I : IsSharedValue w) (F : WorkerPartFits w k (record p { fresh = 0 })) (free : refused w (record { worker = k; kind = Begin p.task }) ≡ None) where
   abbrev P : Private
   P = record p { fresh = 0 }
 
@@ -124,7 +124,7 @@ module _ (w : SharedValue) (k : ℕ) (p : Private) (I : IsSharedValue w) (F : Fi
     measured_then : IsMeasured pool Q
     measured_then = (measured_kept w.pool pool t p.heap.chunks (first.units_stay w k p I F free pool news slots spare T j t) F.measured.0, all_taken_units w.pool pool p.task (take_by (small_words p.heap.chunks)) [] news T)
 
-    pub begin_part : Fits w' k Q
+    pub begin_part : WorkerPartFits w' k Q
     begin_part = quiet_own I free (first.moves w k p I F free pool news slots spare T j) k p g (Some b) F (places_form p.heap slots spare F.form) measured_then part_same begun_stands
 
     -- no new chunk's number is one of the heap's

@@ -1,12 +1,12 @@
 -- Why no chunk is given to a part.
-use Rattle.leaf_collections.proofs.Common.{◌≡◌, ℕ, true, false, Option, Some, None, is_none, is_some, nat_le, refl, ap, ap₂, sym, ◌∙◌, none_of, asked, EntryValue, Heap, Ledger, Refused, Collecting, Due, NotNeeded, heap_of, lacks_room, is_due, is_in_need, on_asked, is_fuel, kind_refusal, on_running, refused_if, refused_unless, place_for, room_of, Private, lacks_same, SharedValue, accounts, IsSharedValue, Fits, next_line, part_asks, chunk_cause, first_cause, need_cause, or_else, refused, asks_is, asks_two, counted_is, room_is, since_is, at_part, on_is, refused_is, found_first}
+use Rattle.leaf_collections.proofs.Common.{◌≡◌, ℕ, true, false, Option, Some, None, is_none, is_some, nat_le, refl, ap, ap₂, sym, ◌∙◌, none_of, asked, EntryValue, Heap, Ledger, Refused, Collecting, Due, NotNeeded, heap_of, lacks_room, is_due, is_in_need, on_asked, is_fuel, kind_refusal, on_running, refused_if, refused_unless, place_for, room_of, Private, lacks_same, SharedValue, accounts, IsSharedValue, WorkerPartFits, next_line, part_asks, chunk_cause, first_cause, need_cause, or_else, refused, asks_is, asks_two, counted_is, room_is, since_is, at_part, on_is, refused_is, found_first}
 use Rattle.core_invariant.specs.below.run_trace.{Chunk}
 
 unless_none : {A : Type 0} (o : Option A) (c : Refused) → refused_unless (is_none o) c None ≡ refused_if (is_some o) c None
 unless_none None c = refl
 unless_none (Some x) c = refl
 
-module _ (w : SharedValue) (k : ℕ) (p : Private) (I : IsSharedValue w) (F : Fits w k (record p { fresh = 0 })) (on : (accounts w).end ≡ None) where
+module _ (w : SharedValue) (k : ℕ) (p : Private) (I : IsSharedValue w) (F : WorkerPartFits w k (record p { fresh = 0 })) (on : (accounts w).end ≡ None) where
   abbrev P : Private
   P = record p { fresh = 0 }
 
@@ -46,7 +46,7 @@ module _ (w : SharedValue) (k : ℕ) (p : Private) (I : IsSharedValue w) (F : Fi
       ∙ ap (refused_if (is_some p.begun) Collecting) (by_asks (asked w.program l.machine t) refl ∙ ap (need_cause p) asks)
 
 -- if no cause precedes it
-pub chunk_answer : (w : SharedValue) (k : ℕ) (p : Private) → IsSharedValue w → Fits w k (record p { fresh = 0 }) → is_some (first_cause w.end w.steps w.settings k false) ≡ false
+pub chunk_answer : (w : SharedValue) (k : ℕ) (p : Private) → IsSharedValue w → WorkerPartFits w k (record p { fresh = 0 }) → is_some (first_cause w.end w.steps w.settings k false) ≡ false
     → refused w (record { worker = k; kind = Chunk p.task }) ≡ chunk_cause p (part_asks w.program p)
 chunk_answer w k p I F h =
     refused_is w I (record { worker = k; kind = Chunk p.task })

@@ -1,17 +1,17 @@
 -- Why a leaf collection of a part doesn't begin, and what is known if it may.
-use Rattle.leaf_collections.proofs.Common.{◌≡◌, ℕ, ◌+◌, ◌≤◌, arith, Bool, true, false, Option, None, is_none, is_some, refl, ap, sym, ◌∙◌, false≢true, leb-true, Begin, EntryValue, Ledger, Refused, PoolShort, heap_of, in_use, take_of, is_pool_enough, on_due, refused_if, refused_unless, entry_tells, small_words, units_in_use, Private, SharedValue, accounts, IsSharedValue, Fits, first_cause, or_else, due_cause, take_by, refused, part_asks, none_begun, entry_on, take_is, used_now}
+use Rattle.leaf_collections.proofs.Common.{◌≡◌, ℕ, ◌+◌, ◌≤◌, arith, Bool, true, false, Option, None, is_none, is_some, refl, ap, sym, ◌∙◌, false≢true, leb-true, Begin, EntryValue, Ledger, Refused, PoolShort, heap_of, in_use, take_of, is_pool_enough, on_due, refused_if, refused_unless, entry_tells, small_words, units_in_use, Private, SharedValue, accounts, IsSharedValue, WorkerPartFits, first_cause, or_else, due_cause, take_by, refused, part_asks, none_begun, entry_on, take_is, used_now}
 use Rattle.leaf_collections.proofs.WhyNotDue.{due_answer, due_is}
 
 -- WHY IT IS REFUSED
 
 -- if no cause precedes those of its kind
-pub begin_answer : (w : SharedValue) (k : ℕ) (p : Private) → IsSharedValue w → Fits w k (record p { fresh = 0 }) → is_some (first_cause w.end w.steps w.settings k false) ≡ false
+pub begin_answer : (w : SharedValue) (k : ℕ) (p : Private) → IsSharedValue w → WorkerPartFits w k (record p { fresh = 0 }) → is_some (first_cause w.end w.steps w.settings k false) ≡ false
     → refused w (record { worker = k; kind = Begin p.task }) ≡ or_else (due_cause p (part_asks w.program p)) (refused_unless (is_pool_enough w.settings (accounts w) p.task) (PoolShort (units_in_use w.pool)) None)
 begin_answer w k p I F h = due_answer w k p I F (Begin p.task) (λ n. refused_unless (is_pool_enough w.settings (accounts w) p.task) (PoolShort n) None) refl h
 
 -- IF NOTHING REFUSES IT
 
-module _ (w : SharedValue) (k : ℕ) (p : Private) (I : IsSharedValue w) (F : Fits w k (record p { fresh = 0 })) (free : refused w (record { worker = k; kind = Begin p.task }) ≡ None) where
+module _ (w : SharedValue) (k : ℕ) (p : Private) (I : IsSharedValue w) (F : WorkerPartFits w k (record p { fresh = 0 })) (free : refused w (record { worker = k; kind = Begin p.task }) ≡ None) where
   abbrev P : Private
   P = record p { fresh = 0 }
 

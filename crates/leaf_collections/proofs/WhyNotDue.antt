@@ -1,12 +1,12 @@
 -- Why a leaf collection of a part neither begins nor is put off.
-use Rattle.leaf_collections.proofs.Common.{◌≡◌, ℕ, true, false, Bool, Option, None, is_some, nat_le, refl, ap, ap₂, sym, ◌∙◌, none_of, Kind, Ledger, Refused, Collecting, NotDue, heap_of, in_use, is_due, on_asked, is_fuel, kind_refusal, on_due, on_running, refused_if, refused_unless, units_in_use, Private, is_part_due, SharedValue, accounts, IsSharedValue, Fits, part_asks, first_cause, or_else, due_cause, refused, asks_is, since_is, at_part, used_now, on_is, refused_is}
+use Rattle.leaf_collections.proofs.Common.{◌≡◌, ℕ, true, false, Bool, Option, None, is_some, nat_le, refl, ap, ap₂, sym, ◌∙◌, none_of, Kind, Ledger, Refused, Collecting, NotDue, heap_of, in_use, is_due, on_asked, is_fuel, kind_refusal, on_due, on_running, refused_if, refused_unless, units_in_use, Private, is_part_due, SharedValue, accounts, IsSharedValue, WorkerPartFits, part_asks, first_cause, or_else, due_cause, refused, asks_is, since_is, at_part, used_now, on_is, refused_is}
 
 in_turn : (a b : Bool) (x y : Refused) (rest : Option Refused) → refused_if a x (refused_unless b y rest) ≡ or_else (refused_if a x (refused_unless b y None)) rest
 in_turn true b x y rest = refl
 in_turn false true x y rest = refl
 in_turn false false x y rest = refl
 
-module _ (w : SharedValue) (k : ℕ) (p : Private) (I : IsSharedValue w) (F : Fits w k (record p { fresh = 0 })) (on : (accounts w).end ≡ None) where
+module _ (w : SharedValue) (k : ℕ) (p : Private) (I : IsSharedValue w) (F : WorkerPartFits w k (record p { fresh = 0 })) (on : (accounts w).end ≡ None) where
   abbrev P : Private
   P = record p { fresh = 0 }
 
@@ -29,7 +29,7 @@ module _ (w : SharedValue) (k : ℕ) (p : Private) (I : IsSharedValue w) (F : Fi
 
 -- an entry of a kind that needs a due collection, if no cause precedes those of its kind; the rest depends on the units
 -- in use
-pub due_answer : (w : SharedValue) (k : ℕ) (p : Private) → IsSharedValue w → Fits w k (record p { fresh = 0 }) → (kind : Kind) (rest : ℕ → Option Refused)
+pub due_answer : (w : SharedValue) (k : ℕ) (p : Private) → IsSharedValue w → WorkerPartFits w k (record p { fresh = 0 }) → (kind : Kind) (rest : ℕ → Option Refused)
     → kind_refusal w.program w.settings (accounts w) k kind ≡ on_running (accounts w) k p.task (on_due w.settings w.program (accounts w) p.task (rest (in_use (accounts w)))) → is_some (first_cause w.end w.steps w.settings k (is_fuel kind)) ≡ false
     → refused w (record { worker = k; kind = kind }) ≡ or_else (due_cause p (part_asks w.program p)) (rest (units_in_use w.pool))
 due_answer w k p I F kind rest says h =

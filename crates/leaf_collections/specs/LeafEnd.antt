@@ -5,13 +5,13 @@ use Rattle.core_invariant.specs.below.run_ledger.{end_numbers, heap_of}
 use Rattle.core_invariant.specs.below.object_layout.{ChunkValue}
 use Rattle.core_invariant.specs.below.chunk_pool.{owner_of}
 use Rattle.core_invariant.specs.below.leaf_heap.{HaveDistinctNumbers, IsFresh}
-use Rattle.core_invariant.specs.below.remembered_set.{AreInOrder, ArePlaces}
+use Rattle.core_invariant.specs.below.remembered_set.{AreAscending, ArePlaces}
 use Rattle.core_invariant.specs.below.copying_gc.{Moved, new_address}
 use Rattle.core_invariant.specs.below.mark_sweep_gc.{units_in_slots}
 use Rattle.core_invariant.specs.below.ledger_step_laws.{aside}
 use Rattle.core_invariant.specs.below.refinement.{CopyFits, Belongings}
 use Rattle.core_invariant.specs.below.task_machine.{Private}
-use Rattle.core_invariant.specs.Fits.{belongings_of_part}
+use Rattle.core_invariant.specs.WorkerPartFits.{belongings_of_part}
 use Rattle.core_invariant.specs.Measured.{AreMeasured}
 use Rattle.core_invariant.specs.Stands.{HeapForm}
 use Rattle.core_invariant.specs.SharedValue.{SharedValue, accounts, value_of}
@@ -43,6 +43,6 @@ pub record FitsCopied (w : SharedValue) (worker : ℕ) (p : Private) (moved : Mo
   pub leaf_limit : p.leaf_limit ≡ w.settings.leaf
   pub field_limit : p.field_limit ≡ field_limit w.settings.version
   pub numbers : ◌≡◌ {A = ℕ × ℕ × ℕ} (moved.taken, moved.given, moved.left) (end_numbers (accounts w).machine (heap_of (accounts w) p.task))
-  pub order : AreInOrder moved.moved.items
+  pub order : AreAscending moved.moved.items
   pub places : ArePlaces moved.moved.items
   pub back : AreBack w p moved.back.items moved.given

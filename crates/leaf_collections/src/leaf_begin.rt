@@ -5,7 +5,7 @@ ghost use Rattle.std.specs.List.Sorted.{IsPermutation};
 ghost use Rattle.core_invariant.specs.below.object_layout.{number_of};
 ghost use Rattle.core_invariant.specs.below.chunk_pool.{units_in_use, TakesAll};
 ghost use Rattle.core_invariant.specs.below.leaf_heap.{with_places};
-ghost use Rattle.core_invariant.specs.below.copying_gc.{AreReserved};
+ghost use Rattle.core_invariant.specs.below.copying_gc.{HasReservedLists};
 ghost use Rattle.leaf_collections.specs.LeafBegin.{AreFalling};
 
 use core_invariant::{
@@ -34,7 +34,7 @@ fn prepare(
     ensures none { IfOk result (λ q. q.numbers.items ≡ []) }
     ensures room { IfOk result (λ q. count ≤ q.numbers.room) }
     ensures empty { IfOk result (λ q. q.to.chunks.items ≡ []) }
-    ensures reserved { IfOk result (λ q. AreReserved heap.new count q.to) }
+    ensures reserved { IfOk result (λ q. HasReservedLists heap.new count q.to) }
 {
     let roots = Listed::from_vec(roots.to_vec(alloc)?);
     let mut numbers = ReservedVec::new(alloc);
@@ -102,7 +102,7 @@ pub fn begin_with(
     ensures taken { IfOk result (λ to. TakesAll pool.old pool.new part.old.task count [] to.chunks.items) }
     ensures falling { IfOk result (λ to. AreFalling to.chunks.items) }
     ensures begun { IfOk result (λ to. part.new ≡ record part.old { heap = with_places part.old.heap part.new.heap.slots part.new.heap.spare; begun = Some (record { roots = roots.now; news = map number_of to.chunks.items }) }) }
-    ensures reserved { IfOk result (λ to. AreReserved part.new.heap (vec_len to.chunks) to) }
+    ensures reserved { IfOk result (λ to. HasReservedLists part.new.heap (vec_len to.chunks) to) }
 {
     let prepared = prepare(alloc, roots, &mut part.heap, count)?;
     let Prepared {

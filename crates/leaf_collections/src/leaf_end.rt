@@ -3,7 +3,7 @@
 ghost use Rattle.std.specs.Prelude.{◌≡◌, ◌<◌, All, IsSome, fold, length, slice_get};
 ghost use Rattle.core_invariant.specs.below.chunk_pool.{slot_at};
 ghost use Rattle.core_invariant.specs.below.leaf_heap.{HaveDistinctNumbers};
-ghost use Rattle.core_invariant.specs.below.remembered_set.{redirected, AreFields, AreInOrder, ArePlaces, StandOnce};
+ghost use Rattle.core_invariant.specs.below.remembered_set.{redirected, AreFields, AreAscending, ArePlaces, StandOnce};
 ghost use Rattle.core_invariant.specs.below.mark_sweep_gc.{AreGiven};
 ghost use Rattle.core_invariant.specs.below.task_slots.{resting_references, resting, with_ref_in, with_resting};
 ghost use Rattle.core_invariant.specs.Roots.{sources_of};
@@ -14,7 +14,7 @@ use core_invariant::{Addr, Chunk, Heaps, Pool};
 pub fn lead(heaps: &mut Heaps, task: u32, moved: &[(Addr, Addr)])
     requires made { task < length heaps.old.task_slots.rests }
     requires fields { AreFields resting_references (resting heaps.old) (sources_of (slice_get heaps.old.task_slots.sets task)) }
-    requires order { AreInOrder moved.now }
+    requires order { AreAscending moved.now }
     requires places { ArePlaces moved.now }
     ensures led { heaps.new ≡ with_resting heaps.old (fold (redirected resting_references with_ref_in moved.now) (resting heaps.old) (sources_of (slice_get heaps.old.task_slots.sets task))) }
     ensures once { StandOnce (sources_of (slice_get heaps.old.task_slots.sets task)) }

@@ -1,10 +1,10 @@
 -- The invariant of a heap after another chunk is added, and lists of chunks with distinct numbers.
-use Rattle.leaf_heap.proofs.Common.{◌≡◌, ℕ, zero, suc, ◌+◌, ◌-◌, ◌^◌, ◌<◌, ◌≤◌, Bool, true, false, List, [], ◌∷◌, ◌++◌, length, get_or, refl, sym, ap, ◌∙◌, subst, arith, ⊎_elim, eqb, length-append, append_assoc, Option, Some, None, take, All-append, All-push, option_or, cond, Result, Ok, Err, IfOk, IsOk, is_some, option_map, cases_Bool, cases_lt, eq-eqb, ne_eqb, lt-ltb, le-ltb, get_or_append_left, get_or-append_right, take_more, Cell, ChunkValue, words_in, chunk_at, object_words_in, held_words, no_chunk, object_count, one_each, place_in, place_of, small_part, small_words, PiecesValue, ShowsChunks, AreWithin, saturating_words, IsCurrent, IsFresh, AgreesWithChunks, IsReserved, HaveDistinctNumbers, none_there, place_there}
+use Rattle.leaf_heap.proofs.Common.{◌≡◌, ℕ, zero, suc, ◌+◌, ◌-◌, ◌^◌, ◌<◌, ◌≤◌, Bool, true, false, List, [], ◌∷◌, ◌++◌, length, get_or, refl, sym, ap, ◌∙◌, subst, arith, ⊎_elim, eqb, length-append, append_assoc, Option, Some, None, take, All-append, All-push, option_or, cond, Result, Ok, Err, IfOk, IsOk, is_some, option_map, cases_Bool, cases_lt, eq-eqb, ne_eqb, lt-ltb, le-ltb, get_or_append_left, get_or-append_right, take_more, Cell, ChunkValue, words_in, chunk_at, object_words_in, held_words, no_chunk, object_count, one_each, place_in, chunk_position, small_part, small_words, PiecesValue, ShowsChunks, CellsFitInChunks, saturating_words, IsCurrent, IsFresh, AgreesWithChunks, IsReserved, HaveDistinctNumbers, none_there, place_there}
 use Rattle.leaf_heap.proofs.HeapLemmas.{held_words-append, sum_pushed}
 
 -- ---- a chunk is added
 
-pub place_of-push_there : (ks : List ChunkValue) (k : ChunkValue) (q : ℕ) → place_of ks q < length ks → place_of (ks ++ k ∷ []) q ≡ place_of ks q
+pub place_of-push_there : (ks : List ChunkValue) (k : ChunkValue) (q : ℕ) → chunk_position ks q < length ks → chunk_position (ks ++ k ∷ []) q ≡ chunk_position ks q
 place_of-push_there [] k q l = absurd (omega arith)
 place_of-push_there (x ∷ xs) k q l =
     ⊎_elim
@@ -12,7 +12,7 @@ place_of-push_there (x ∷ xs) k q l =
     (λ (e : eqb x.number q ≡ false). let m = rw e at l in rw (e, place_of-push_there xs k q (omega arith)))
     (cases_Bool (eqb x.number q))
 
-pub place_of-push_new : (ks : List ChunkValue) (k : ChunkValue) (q : ℕ) → length ks ≤ place_of ks q → place_of (ks ++ k ∷ []) q ≡ length ks + (cond (eqb k.number q) 0 1)
+pub place_of-push_new : (ks : List ChunkValue) (k : ChunkValue) (q : ℕ) → length ks ≤ chunk_position ks q → chunk_position (ks ++ k ∷ []) q ≡ length ks + (cond (eqb k.number q) 0 1)
 place_of-push_new [] k q l = cases_of (eqb k.number q)
   where
     cases_of : (b : Bool) → cond b 0 (1 + 0) ≡ 0 + cond b 0 1
@@ -29,20 +29,20 @@ pub place_in-push : (ks : List ChunkValue) (k : ChunkValue) → place_in ks k.nu
 place_in-push ks k fresh q =
     let len : length (ks ++ k ∷ []) ≡ length ks + 1 = simp length-append (omega arith) in
     ⊎_elim
-    (λ (there : place_of ks q < length ks).
+    (λ (there : chunk_position ks q < length ks).
     let ne : k.number ≡ q → ⊥ = λ e. let n = none_there ks k.number fresh in let m = rw e at n in omega arith in
-    rw (ne_eqb k.number q ne, len, place_of-push_there ks k q there, lt-ltb (place_of ks q) (length ks + 1) (omega arith), lt-ltb (place_of ks q) (length ks) there))
-    (λ (gone : length ks ≤ place_of ks q).
+    rw (ne_eqb k.number q ne, len, place_of-push_there ks k q there, lt-ltb (chunk_position ks q) (length ks + 1) (omega arith), lt-ltb (chunk_position ks q) (length ks) there))
+    (λ (gone : length ks ≤ chunk_position ks q).
     ⊎_elim
     (λ (e : eqb k.number q ≡ true).
-    let sum : place_of (ks ++ k ∷ []) q ≡ length ks + 0 = rw e at (place_of-push_new ks k q gone) in
-    let new : place_of (ks ++ k ∷ []) q ≡ length ks = omega arith in
+    let sum : chunk_position (ks ++ k ∷ []) q ≡ length ks + 0 = rw e at (place_of-push_new ks k q gone) in
+    let new : chunk_position (ks ++ k ∷ []) q ≡ length ks = omega arith in
     rw (e, len, new, lt-ltb (length ks) (length ks + 1) (omega arith)))
     (λ (e : eqb k.number q ≡ false).
-    let new : place_of (ks ++ k ∷ []) q ≡ length ks + 1 = rw e at (place_of-push_new ks k q gone) in
-    rw (e, len, new, le-ltb (length ks + 1) (length ks + 1) (omega arith), le-ltb (place_of ks q) (length ks) gone))
+    let new : chunk_position (ks ++ k ∷ []) q ≡ length ks + 1 = rw e at (place_of-push_new ks k q gone) in
+    rw (e, len, new, le-ltb (length ks + 1) (length ks + 1) (omega arith), le-ltb (chunk_position ks q) (length ks) gone))
     (cases_Bool (eqb k.number q)))
-    (cases_lt (place_of ks q) (length ks))
+    (cases_lt (chunk_position ks q) (length ks))
 
 module _ (ks : List ChunkValue) (k : ChunkValue) where
   pub at_push : (i : ℕ) → i < length ks → chunk_at (ks ++ k ∷ []) i ≡ chunk_at ks i
@@ -68,7 +68,7 @@ module _ (ks : List ChunkValue) (k : ChunkValue) (empty : k.cells ≡ []) where
       let sum : held_words (ks ++ k ∷ []) ≡ held_words ks = held_words-append ks (k ∷ []) ∙ omega arith in
       rw sum e
 
-  within_push : AreWithin ks → AreWithin (ks ++ k ∷ [])
+  within_push : CellsFitInChunks ks → CellsFitInChunks (ks ++ k ∷ [])
   within_push h = All-push (λ (x : ChunkValue). words_in x.cells ≤ x.size) ks k h (subst (λ (cs : List Cell). words_in cs ≤ k.size) (sym empty) (omega arith))
 
   module _ (pieces : PiecesValue) (filled kept : Option ℕ) (count many part base : ℕ) (place new : ℕ → Option ℕ) (entries : ℕ) (keeps : AgreesWithChunks ks pieces filled kept count many part base place entries) (fresh : IsFresh ks k.number)
@@ -123,25 +123,25 @@ new_entry (Err x) was m n s e l none = cc
 
 -- ---- distinct numbers
 
-none_from : (ks : List ChunkValue) (n : ℕ) → length ks ≤ place_of ks n → IsFresh ks n
-none_from ks n l = rw (le-ltb (place_of ks n) (length ks) l)
+none_from : (ks : List ChunkValue) (n : ℕ) → length ks ≤ chunk_position ks n → IsFresh ks n
+none_from ks n l = rw (le-ltb (chunk_position ks n) (length ks) l)
 
 pub fresh_cons : (k : ChunkValue) (ks : List ChunkValue) (n : ℕ) → (k.number ≡ n → ⊥) → IsFresh ks n → IsFresh (k ∷ ks) n
 fresh_cons k ks n ne h =
     let l = none_there ks n h in
-    let p : place_of (k ∷ ks) n ≡ 1 + place_of ks n = rw (ne_eqb k.number n ne) refl in
+    let p : chunk_position (k ∷ ks) n ≡ 1 + chunk_position ks n = rw (ne_eqb k.number n ne) refl in
     none_from (k ∷ ks) n (omega arith)
 
 pub fresh_head : (k : ChunkValue) (ks : List ChunkValue) (n : ℕ) → IsFresh (k ∷ ks) n → k.number ≡ n → ⊥
 fresh_head k ks n h e =
     let l = none_there (k ∷ ks) n h in
-    let p : place_of (k ∷ ks) n ≡ 0 = rw (eq-eqb k.number n e) refl in
+    let p : chunk_position (k ∷ ks) n ≡ 0 = rw (eq-eqb k.number n e) refl in
     omega arith
 
 pub fresh_tail : (k : ChunkValue) (ks : List ChunkValue) (n : ℕ) → IsFresh (k ∷ ks) n → IsFresh ks n
 fresh_tail k ks n h =
     let l = none_there (k ∷ ks) n h in
-    let p : place_of (k ∷ ks) n ≡ 1 + place_of ks n = rw (ne_eqb k.number n (fresh_head k ks n h)) refl in
+    let p : chunk_position (k ∷ ks) n ≡ 1 + chunk_position ks n = rw (ne_eqb k.number n (fresh_head k ks n h)) refl in
     none_from ks n (omega arith)
 
 pub fresh_at : (ks : List ChunkValue) (n : ℕ) → IsFresh ks n → (i : ℕ) (d : ChunkValue) → i < length ks → (get_or ks i d).number ≡ n → ⊥
@@ -167,7 +167,7 @@ held_more ks i k l read =
     rw (more, ← read, held_words-append (take i ks) (k ∷ [])) (omega arith)
 
 -- a chunk in front, or after the others
-place_of-front : (xs ks : List ChunkValue) (n : ℕ) → place_of xs n < length xs → place_of (xs ++ ks) n ≡ place_of xs n
+place_of-front : (xs ks : List ChunkValue) (n : ℕ) → chunk_position xs n < length xs → chunk_position (xs ++ ks) n ≡ chunk_position xs n
 place_of-front [] ks n l = absurd (omega arith)
 place_of-front (x ∷ xs) ks n l =
     ⊎_elim
@@ -175,7 +175,7 @@ place_of-front (x ∷ xs) ks n l =
     (λ (e : eqb x.number n ≡ false). let m = rw e at l in rw (e, place_of-front xs ks n (omega arith)))
     (cases_Bool (eqb x.number n))
 
-place_of-behind : (xs ks : List ChunkValue) (n : ℕ) → length xs ≤ place_of xs n → place_of (xs ++ ks) n ≡ length xs + place_of ks n
+place_of-behind : (xs ks : List ChunkValue) (n : ℕ) → length xs ≤ chunk_position xs n → chunk_position (xs ++ ks) n ≡ length xs + chunk_position ks n
 place_of-behind [] ks n l = omega arith
 place_of-behind (x ∷ xs) ks n l =
     ⊎_elim
@@ -190,25 +190,25 @@ pub table_front : (xs ks : List ChunkValue) (base : ℕ) (place new : ℕ → Op
 table_front xs ks base place new was adds q =
     let len : length (xs ++ ks) ≡ length xs + length ks = simp length-append refl in
     ⊎_elim
-    (λ (l : place_of xs q < length xs).
-    let there : place_in xs q ≡ Some (place_of xs q) = place_there xs q l in
-    let all : place_in (xs ++ ks) q ≡ Some (place_of xs q) = rw (len, place_of-front xs ks q l, lt-ltb (place_of xs q) (length xs + length ks) (omega arith)) refl in
+    (λ (l : chunk_position xs q < length xs).
+    let there : place_in xs q ≡ Some (chunk_position xs q) = place_there xs q l in
+    let all : place_in (xs ++ ks) q ≡ Some (chunk_position xs q) = rw (len, place_of-front xs ks q l, lt-ltb (chunk_position xs q) (length xs + length ks) (omega arith)) refl in
     adds q ∙ rw (there, all) refl)
-    (λ (l : length xs ≤ place_of xs q).
-    let none : place_in xs q ≡ None = rw (le-ltb (place_of xs q) (length xs) l) refl in
+    (λ (l : length xs ≤ chunk_position xs q).
+    let none : place_in xs q ≡ None = rw (le-ltb (chunk_position xs q) (length xs) l) refl in
     adds q ∙ (ap (λ (o : Option ℕ). option_or (option_map (λ j. base + length xs - j) o) (place q)) none ∙ (was q ∙
     ⊎_elim
-    (λ (m : place_of ks q < length ks).
-    let there : place_in ks q ≡ Some (place_of ks q) = place_there ks q m in
-    let all : place_in (xs ++ ks) q ≡ Some (length xs + place_of ks q) = rw (len, place_of-behind xs ks q l, lt-ltb (length xs + place_of ks q) (length xs + length ks) (omega arith)) refl in
-    let same : base - place_of ks q ≡ base + length xs - (length xs + place_of ks q) = omega arith in
+    (λ (m : chunk_position ks q < length ks).
+    let there : place_in ks q ≡ Some (chunk_position ks q) = place_there ks q m in
+    let all : place_in (xs ++ ks) q ≡ Some (length xs + chunk_position ks q) = rw (len, place_of-behind xs ks q l, lt-ltb (length xs + chunk_position ks q) (length xs + length ks) (omega arith)) refl in
+    let same : base - chunk_position ks q ≡ base + length xs - (length xs + chunk_position ks q) = omega arith in
     rw (there, all) (ap Some same))
-    (λ (m : length ks ≤ place_of ks q).
-    let there : place_in ks q ≡ None = rw (le-ltb (place_of ks q) (length ks) m) refl in
-    let all : place_in (xs ++ ks) q ≡ None = rw (len, place_of-behind xs ks q l, le-ltb (length xs + place_of ks q) (length xs + length ks) (omega arith)) refl in
+    (λ (m : length ks ≤ chunk_position ks q).
+    let there : place_in ks q ≡ None = rw (le-ltb (chunk_position ks q) (length ks) m) refl in
+    let all : place_in (xs ++ ks) q ≡ None = rw (len, place_of-behind xs ks q l, le-ltb (length xs + chunk_position ks q) (length xs + length ks) (omega arith)) refl in
     rw (there, all) refl)
-    (cases_lt (place_of ks q) (length ks)))))
-    (cases_lt (place_of xs q) (length xs))
+    (cases_lt (chunk_position ks q) (length ks)))))
+    (cases_lt (chunk_position xs q) (length xs))
 
 -- one more entry
 pub entry_more : (xs : List ChunkValue) (k : ChunkValue) → IsFresh xs k.number → (base i : ℕ) → length xs ≡ i → (q : ℕ) (old was new : Option ℕ) →
@@ -266,7 +266,7 @@ module _ (xs ks : List ChunkValue) where
   IsReserved-behind b e (Some i) h = rw e (simp length-append (let l : i < length ks = h.0 in omega arith), rw (at_behind i) h.1)
 
 module _ (ls rs ks : List ChunkValue) (pieces : PiecesValue) (filled kept : Option ℕ) (a b n many part base : ℕ) (place : ℕ → Option ℕ) (entries : ℕ) (keeps : AgreesWithChunks ks pieces filled kept n many part base place entries)
-    (left : a ≡ saturating_words (held_words ls)) (right : b ≡ saturating_words (held_words rs)) (left_within : AreWithin ls) (right_within : AreWithin rs) where
+    (left : a ≡ saturating_words (held_words ls)) (right : b ≡ saturating_words (held_words rs)) (left_within : CellsFitInChunks ls) (right_within : CellsFitInChunks rs) where
   together : ls ++ (rs ++ ks) ≡ (ls ++ rs) ++ ks
   together = sym (append_assoc ls rs ks)
 

@@ -1,15 +1,15 @@
 -- The names of lower crates and of the specifications that these proofs use. Declares nothing.
 pub use Rattle.frozen_views.proofs.Levels.{on_ok}
 pub use Rattle.frozen_views.specs.PiecesValue.{NotesChanges, PiecesValue, ShowsChunks, written_chunk}
-pub use Rattle.leaf_heap.specs.LeafHeapValue.{AreWithin, saturating_words, LeafHeapValue, IsCurrent, IsFresh, AgreesWithChunks, IsReserved, large_place, HaveDistinctNumbers, place_for, room_at, small_place, units, AreNear, AreTidy, IsTidy, added, IsSettled}
+pub use Rattle.leaf_heap.specs.LeafHeapValue.{CellsFitInChunks, saturating_words, LeafHeapValue, IsCurrent, IsFresh, AgreesWithChunks, IsReserved, large_place, HaveDistinctNumbers, place_for, room_at, small_place, units, AllBeginInFirstUnit, AreTidy, IsTidy, added, IsSettled}
 pub use Rattle.leaf_heap.specs.PlaceLaws.{KeepsShape, WritesKeepCounts}
 pub use Rattle.leaf_heap.specs.contracts.contents.Contents.{the_view}
 pub use Rattle.object_layout.proofs.ChunkLaws.{length-put, cell_of-found, place_of-put, none_there, place_there}
 pub use Rattle.object_layout.proofs.HoldLemmas.{size_of-new}
 pub use Rattle.object_layout.proofs.PlaceLemmas.{total-put_cell, words_in-push, All-put_cell}
-pub use Rattle.object_layout.specs.Cell.{Cell, size_of, Born, Hole, IsObject, Mark, Moved, header_of, moved_to, no_cell, with_mark, frozen, filled_cell, new_cell, with_int, with_ref}
+pub use Rattle.object_layout.specs.Cell.{Cell, size_of, Born, Hole, IsObject, Mark, Moved, header_of, moved_to, no_cell, with_mark, frozen, filled_cell, new_cell, cell_with_int, with_ref}
 pub use Rattle.object_layout.specs.ChunkValue.{ChunkValue}
-pub use Rattle.object_layout.specs.Chunks.{cell_of, chunk_at, object_words_in, held_size, held_words, one_each, put_object, small_part, sum_in, sum_of, no_chunk, object_count, place_in, place_of, small_words, with_cell, next_address, push_object}
+pub use Rattle.object_layout.specs.Chunks.{cell_of, chunk_at, object_words_in, held_size, held_words, one_each, put_object, small_part, sum_in, sum_of, no_chunk, object_count, place_in, chunk_position, small_words, with_cell, next_address, push_object}
 pub use Rattle.object_layout.specs.Objects.{Located}
 pub use Rattle.object_layout.specs.Place.{cell_at, object_at, put_cell, words_in, IsObjectAt, IsCellAt, cells_from}
 pub use Rattle.object_layout.specs.declared.word.Addr.{Addr}

@@ -1,5 +1,5 @@
 -- The invariant of a heap after one of its chunks is written or another is added.
-use Rattle.leaf_heap.proofs.Common.{◌≡◌, ℕ, zero, suc, ◌+◌, ◌-◌, ◌*◌, ◌/◌, ◌<◌, ◌≤◌, true, false, List, [], ◌∷◌, ◌++◌, length, get_or, set, refl, sym, ap, ◌∙◌, subst, arith, ⊎_elim, inl, inr, ◌⊎◌, eqb, length-set, Option, Some, None, take, All-get_or, All-set, Bor, IfSome, option_copied, option_map, cases_Bool, cases_lt, eqb-true, lt-ltb, le-ltb, le-leb, lt-leb, get_or_read, take_more, Addr, Header, Born, Cell, Hole, IsObject, Mark, Moved, header_of, size_of, ChunkValue, cell_at, object_at, put_cell, words_in, IsObjectAt, cell_of, chunk_at, object_words_in, held_size, held_words, no_chunk, one_each, place_in, place_of, put_object, small_part, sum_in, sum_of, with_cell, NotesChanges, PiecesValue, ShowsChunks, written_chunk, total-put_cell, words_in-push, AreWithin, saturating_words, LeafHeapValue, IsCurrent, AgreesWithChunks, IsReserved, large_place, place_for, room_at, small_place, units}
+use Rattle.leaf_heap.proofs.Common.{◌≡◌, ℕ, zero, suc, ◌+◌, ◌-◌, ◌*◌, ◌/◌, ◌<◌, ◌≤◌, true, false, List, [], ◌∷◌, ◌++◌, length, get_or, set, refl, sym, ap, ◌∙◌, subst, arith, ⊎_elim, inl, inr, ◌⊎◌, eqb, length-set, Option, Some, None, take, All-get_or, All-set, Bor, IfSome, option_copied, option_map, cases_Bool, cases_lt, eqb-true, lt-ltb, le-ltb, le-leb, lt-leb, get_or_read, take_more, Addr, Header, Born, Cell, Hole, IsObject, Mark, Moved, header_of, size_of, ChunkValue, cell_at, object_at, put_cell, words_in, IsObjectAt, cell_of, chunk_at, object_words_in, held_size, held_words, no_chunk, one_each, place_in, chunk_position, put_object, small_part, sum_in, sum_of, with_cell, NotesChanges, PiecesValue, ShowsChunks, written_chunk, total-put_cell, words_in-push, CellsFitInChunks, saturating_words, LeafHeapValue, IsCurrent, AgreesWithChunks, IsReserved, large_place, place_for, room_at, small_place, units}
 use Rattle.frozen_views.proofs.PieceLists as lists
 use Rattle.object_layout.proofs.ChunkLaws as chunks
 pub use Rattle.object_layout.proofs.ChunkLaws.{none_there, place_found, place_there}
@@ -91,7 +91,7 @@ module _ (f : ℕ → ℕ) where
 
 -- ---- positions of chunks
 
-pub place_of-set : (ks : List ChunkValue) (i : ℕ) (k : ChunkValue) (d : ChunkValue) → k.number ≡ (get_or ks i d).number → (n : ℕ) → place_of (set ks i k) n ≡ place_of ks n
+pub place_of-set : (ks : List ChunkValue) (i : ℕ) (k : ChunkValue) (d : ChunkValue) → k.number ≡ (get_or ks i d).number → (n : ℕ) → chunk_position (set ks i k) n ≡ chunk_position ks n
 place_of-set [] i k d e n = refl
 place_of-set (x ∷ xs) zero k d e n = rw e
 place_of-set (x ∷ xs) (suc i) k d e n = rw (place_of-set xs i k d e n)
@@ -142,7 +142,7 @@ module _ (ks : List ChunkValue) (i : ℕ) (k : ChunkValue) (size : k.size ≡ (c
 -- ---- words inside their chunks
 
 module _ (k : ChunkValue) (at : ℕ) (d : Cell) (s : size_of d ≡ size_of (cell_at k.cells at)) where
-  within_put : (ks : List ChunkValue) (i : ℕ) → k ≡ get_or ks i k → i < length ks → AreWithin ks → AreWithin (set ks i (with_cell k at d))
+  within_put : (ks : List ChunkValue) (i : ℕ) → k ≡ get_or ks i k → i < length ks → CellsFitInChunks ks → CellsFitInChunks (set ks i (with_cell k at d))
   within_put ks i read l h =
       let here : words_in k.cells ≤ k.size = subst (λ (x : ChunkValue). words_in x.cells ≤ x.size) (sym read) (All-get_or (λ (x : ChunkValue). words_in x.cells ≤ x.size) ks i k l h) in
       let same = place.words_in-put k.cells at d s in
@@ -157,12 +157,12 @@ pub found_cell : (ks : List ChunkValue) (a : Addr) (o : Option (Bor ChunkValue))
 found_cell ks a None e = tt
 found_cell ks a (Some k) e =
     ⊎_elim
-    (λ (l : place_of ks a.chunk < length ks).
-    let f : Some k.now ≡ Some (chunk_at ks (place_of ks a.chunk)) = rw (lt-ltb (place_of ks a.chunk) (length ks) l) at e in
-    let g : k.now ≡ chunk_at ks (place_of ks a.chunk) = cc in
+    (λ (l : chunk_position ks a.chunk < length ks).
+    let f : Some k.now ≡ Some (chunk_at ks (chunk_position ks a.chunk)) = rw (lt-ltb (chunk_position ks a.chunk) (length ks) l) at e in
+    let g : k.now ≡ chunk_at ks (chunk_position ks a.chunk) = cc in
     ap (λ (x : ChunkValue). cell_at x.cells a.offset) g ∙ sym (chunks.cell_of-found ks a no_chunk l))
-    (λ (l : length ks ≤ place_of ks a.chunk). let f : Some k.now ≡ None = rw (le-ltb (place_of ks a.chunk) (length ks) l) at e in absurd (cc))
-    (cases_lt (place_of ks a.chunk) (length ks))
+    (λ (l : length ks ≤ chunk_position ks a.chunk). let f : Some k.now ≡ None = rw (le-ltb (chunk_position ks a.chunk) (length ks) l) at e in absurd (cc))
+    (cases_lt (chunk_position ks a.chunk) (length ks))
 
 -- ---- a cell of the heap's own is written
 
@@ -170,7 +170,7 @@ empty_put : (cs : List Cell) (at : ℕ) (d : Cell) → cs ≡ [] → put_cell cs
 empty_put [] at d e = refl
 empty_put (c ∷ cs) at d e = cc
 
-module _ (ks : List ChunkValue) (a : Addr) (i : ℕ) (k : ChunkValue) (o : IsObject (cell_of ks a).mark) (found : i ≡ place_of ks a.chunk) (read : k ≡ get_or ks i k) where
+module _ (ks : List ChunkValue) (a : Addr) (i : ℕ) (k : ChunkValue) (o : IsObject (cell_of ks a).mark) (found : i ≡ chunk_position ks a.chunk) (read : k ≡ get_or ks i k) where
   pub own_in : i < length ks
   own_in = let l = chunks.chunk_of_object ks a o in omega arith
 

@@ -1,5 +1,5 @@
 -- Where objects begin in the chunks of a heap.
-use Rattle.leaf_heap.proofs.Common.{◌≡◌, ℕ, zero, suc, ◌+◌, ◌<◌, ◌≤◌, List, [], ◌∷◌, length, refl, sym, subst, arith, inl, inr, eqb, All, cases_Bool, cases_lt, All-cons, All-head, All-nil, All-tail, In, Cell, size_of, ChunkValue, cell_at, words_in, IsCellAt, Located, AreNear, AreTidy, AreWithin, IsTidy}
+use Rattle.leaf_heap.proofs.Common.{◌≡◌, ℕ, zero, suc, ◌+◌, ◌<◌, ◌≤◌, List, [], ◌∷◌, length, refl, sym, subst, arith, inl, inr, eqb, All, cases_Bool, cases_lt, All-cons, All-head, All-nil, All-tail, In, Cell, size_of, ChunkValue, cell_at, words_in, IsCellAt, Located, AllBeginInFirstUnit, AreTidy, CellsFitInChunks, IsTidy}
 use Rattle.object_layout.proofs.PlaceLemmas as place
 
 -- the only cell begins at 0
@@ -16,7 +16,7 @@ near_in k at t w h =
       | inr small ↦ let e : at + size_of (cell_at k.cells at) ≤ words_in k.cells = place.cell_ends k.cells at h in omega arith
     ]
 
-pub are_near : (ks : List ChunkValue) → AreTidy ks → AreWithin ks → AreNear ks
+pub are_near : (ks : List ChunkValue) → AreTidy ks → CellsFitInChunks ks → AllBeginInFirstUnit ks
 are_near [] t w = λ a o. absurd o
 are_near (k ∷ ks) t w = λ a o.
     elim (cases_Bool (eqb k.number a.chunk)) [

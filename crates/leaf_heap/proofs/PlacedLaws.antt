@@ -1,11 +1,11 @@
 -- What is at an address of a heap after an object is placed, a chunk added, or heaps merged.
-use Rattle.leaf_heap.proofs.Common.{◌≡◌, ℕ, zero, suc, ◌<◌, true, false, List, [], ◌∷◌, ◌++◌, length, get_or, set, refl, sym, ap, ◌∙◌, arith, ⊎_elim, eqb, length-set, cases_Bool, eq-eqb, ne_eqb, get_or-set_same, Addr, Cell, IsObject, cell_of, chunk_at, next_address, no_chunk, place_of, push_object, ChunkValue, cell_at, words_in, cell_of-found, HaveDistinctNumbers, IsFresh}
+use Rattle.leaf_heap.proofs.Common.{◌≡◌, ℕ, zero, suc, ◌<◌, true, false, List, [], ◌∷◌, ◌++◌, length, get_or, set, refl, sym, ap, ◌∙◌, arith, ⊎_elim, eqb, length-set, cases_Bool, eq-eqb, ne_eqb, get_or-set_same, Addr, Cell, IsObject, cell_of, chunk_at, next_address, no_chunk, chunk_position, push_object, ChunkValue, cell_at, words_in, cell_of-found, HaveDistinctNumbers, IsFresh}
 use Rattle.object_layout.proofs.PlaceLemmas as place
 use Rattle.leaf_heap.proofs.HeapLemmas as heap
 use Rattle.leaf_heap.proofs.ChunkAdded as added
 
 -- if numbers are distinct, each chunk is found by its number
-pub place_of-own : (ks : List ChunkValue) → HaveDistinctNumbers ks → (i : ℕ) → i < length ks → place_of ks (chunk_at ks i).number ≡ i
+pub place_of-own : (ks : List ChunkValue) → HaveDistinctNumbers ks → (i : ℕ) → i < length ks → chunk_position ks (chunk_at ks i).number ≡ i
 place_of-own [] h i l = absurd (omega arith)
 place_of-own (k ∷ ks) h zero l = rw (eq-eqb k.number k.number refl)
 place_of-own (k ∷ ks) h (suc i) l =
@@ -16,7 +16,7 @@ place_of-own (k ∷ ks) h (suc i) l =
 pub cell_of-placed : (ks : List ChunkValue) → HaveDistinctNumbers ks → (i : ℕ) (c : Cell) → i < length ks → cell_of (push_object ks i c) (next_address (chunk_at ks i)) ≡ c
 cell_of-placed ks h i c l =
     let found = heap.place_of-set ks i (record (chunk_at ks i) { cells = (chunk_at ks i).cells ++ c ∷ [] }) no_chunk refl (chunk_at ks i).number ∙ place_of-own ks h i l in
-    let in' : place_of (push_object ks i c) (chunk_at ks i).number < length (push_object ks i c) = rw (found, length-set) l in
+    let in' : chunk_position (push_object ks i c) (chunk_at ks i).number < length (push_object ks i c) = rw (found, length-set) l in
     let read = cell_of-found (push_object ks i c) (next_address (chunk_at ks i)) no_chunk in' in
     let there = get_or-set_same ks i (record (chunk_at ks i) { cells = (chunk_at ks i).cells ++ c ∷ [] }) no_chunk l in
     read

@@ -97,15 +97,15 @@ IsReserved ks None = Unit {0}
 IsReserved ks (Some i) = (i < length ks) × ((chunk_words < (chunk_at ks i).size) × ((chunk_at ks i).cells ≡ []))
 
 -- all words of these chunks are inside them
-abbrev pub AreWithin : List ChunkValue → Type 0
-AreWithin ks = All (λ k. words_in k.cells ≤ k.size) ks
+abbrev pub CellsFitInChunks : List ChunkValue → Type 0
+CellsFitInChunks ks = All (λ k. words_in k.cells ≤ k.size) ks
 
 -- the table has exactly the distance of each chunk from a base, all words are inside their chunks, the counts are those
 -- of the words, of the objects, and of the words of small objects, and the cached pieces show what their chunks hold
 pub record AgreesWithChunks (chunks : List ChunkValue) (pieces : PiecesValue) (filled kept : Option ℕ) (count many part base : ℕ) (place : ℕ → Option ℕ) (entries : ℕ) : Type 0 where
   pub current : IsCurrent chunks filled
   pub reserved : IsReserved chunks kept
-  pub within : AreWithin chunks
+  pub within : CellsFitInChunks chunks
   pub words : count ≡ saturating_words (held_words chunks)
   pub objects : many ≡ saturating_words (object_count chunks)
   pub small : part ≡ saturating_words (small_words chunks)
@@ -129,8 +129,8 @@ abbrev pub AreTidy : List ChunkValue → Type 0
 AreTidy ks = All IsTidy ks
 
 -- each object begins within the first 1,024 words of its chunk
-abbrev pub AreNear : List ChunkValue → Type 0
-AreNear ks = (a : Addr) → IsObject (cell_of ks a).mark → a.offset < chunk_words
+abbrev pub AllBeginInFirstUnit : List ChunkValue → Type 0
+AllBeginInFirstUnit ks = (a : Addr) → IsObject (cell_of ks a).mark → a.offset < chunk_words
 
 -- all chunks are so, and their numbers are distinct
 pub record IsSettled (ks : List ChunkValue) : Type 0 where

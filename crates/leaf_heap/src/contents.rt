@@ -1,9 +1,9 @@
 // The chunks of a heap, and where the next object goes.
 
 ghost use Rattle.std.specs.Prelude.{◌≡◌, ◌+◌, ◌^◌, ◌<◌, ◌≤◌, [], is_some, option_map, OnOk, None, Some};
-ghost use Rattle.object_layout.specs.Cell.{size_of, new_cell, IsPlace, chunk_words};
+ghost use Rattle.object_layout.specs.Cell.{size_of, new_cell, BeginsInFirstUnit, chunk_words};
 ghost use Rattle.object_layout.specs.Chunks.{chunk_at, held_words, next_address, object_count, small_words};
-ghost use Rattle.leaf_heap.specs.LeafHeapValue.{added, saturating_words, no_contents, with_object_placed, placed_at, place_for, room_of, with_places, AreWithin, IsCurrent, IsFresh, IsReserved, IsSettled};
+ghost use Rattle.leaf_heap.specs.LeafHeapValue.{added, saturating_words, no_contents, with_object_placed, placed_at, place_for, room_of, with_places, CellsFitInChunks, IsCurrent, IsFresh, IsReserved, IsSettled};
 
 use super::counts::small_part;
 use chunk_list::{ChunkList, missing_pieces};
@@ -93,7 +93,7 @@ impl Contents {
 
     // All words lie inside their chunks.
     pub(crate) fn lie_within(&self)
-        ensures { AreWithin self.now.chunks }
+        ensures { CellsFitInChunks self.now.chunks }
     {
         let _ = &self.chunks;
     }
@@ -263,7 +263,7 @@ impl Contents {
         requires refs { new.header.nrefs < 2 ^ 20 }
         requires ints { new.header.nints < 2 ^ 20 }
         ensures address { let object = new_cell new.header new.birth in result ≡ option_map (λ i. next_address (chunk_at self.old.chunks i)) (place_for self.old (size_of object)) }
-        ensures near { IsPlace result }
+        ensures near { BeginsInFirstUnit result }
         ensures placed { let object = new_cell new.header new.birth in self.new ≡ with_object_placed self.old (place_for self.old (size_of object)) object }
         ensures settled { IsSettled self.old.chunks → IsSettled self.new.chunks }
     {

@@ -2,7 +2,7 @@
 
 ghost use Rattle.std.specs.Prelude.{◌≡◌, ◌^◌, ◌<◌, length, option_copied, option_map, slice_get, is_some, IfSome, Some};
 ghost use Rattle.object_layout.specs.declared.word.Addr.{Addr};
-ghost use Rattle.object_layout.specs.Cell.{Born, frozen, header_of, with_int, IsBorn, IsObject, IsPlace};
+ghost use Rattle.object_layout.specs.Cell.{Born, frozen, header_of, cell_with_int, IsBorn, IsObject, BeginsInFirstUnit};
 ghost use Rattle.object_layout.specs.Place.{cell_at};
 ghost use Rattle.object_layout.specs.Chunks.{cell_of, chunk_at, has_chunk, object_of, place_in, put_object};
 ghost use Rattle.leaf_heap.specs.FieldLaws.{with_ref_of};
@@ -78,7 +78,7 @@ impl LeafHeap {
     pub fn own_ref(&self, object: Addr, field: u32) -> Option<Addr>
         requires { field < length (object_of self.now.chunks object).refs }
         ensures value { slice_get (object_of self.now.chunks object).refs field ≡ Some result }
-        ensures place { IsPlace result }
+        ensures place { BeginsInFirstUnit result }
     {
         self.space.own_ref(object, field)
     }
@@ -94,7 +94,7 @@ impl LeafHeap {
     /// Writes a reference of an object.
     pub fn own_set_ref(&mut self, object: Addr, field: u32, value: Option<Addr>)
         requires field { field < length (object_of self.old.chunks object).refs }
-        requires place { IsPlace value }
+        requires place { BeginsInFirstUnit value }
         ensures { self.new ≡ with_ref_of self.old object field value }
     {
         self.space.own_set_ref(object, field, value);
@@ -105,7 +105,7 @@ impl LeafHeap {
     pub fn set_ref_in(&mut self, place: usize, object: Addr, field: u32, value: Option<Addr>)
         requires place { place_in self.old.chunks object.chunk ≡ Some place }
         requires field { field < length (object_of self.old.chunks object).refs }
-        requires value { IsPlace value }
+        requires value { BeginsInFirstUnit value }
         ensures { self.new ≡ with_ref_of self.old object field value }
     {
         self.space.set_ref_in(place, object, field, value);
@@ -114,7 +114,7 @@ impl LeafHeap {
     /// Writes a number of an object.
     pub fn own_set_int(&mut self, object: Addr, field: u32, value: i64)
         requires { field < length (object_of self.old.chunks object).ints }
-        ensures { self.new ≡ record self.old { chunks = put_object self.old.chunks object (with_int (cell_of self.old.chunks object) field value) } }
+        ensures { self.new ≡ record self.old { chunks = put_object self.old.chunks object (cell_with_int (cell_of self.old.chunks object) field value) } }
     {
         self.space.own_set_int(object, field, value);
     }
@@ -124,7 +124,7 @@ impl LeafHeap {
     pub fn set_int_in(&mut self, place: usize, object: Addr, field: u32, value: i64)
         requires place { place_in self.old.chunks object.chunk ≡ Some place }
         requires field { field < length (object_of self.old.chunks object).ints }
-        ensures { self.new ≡ record self.old { chunks = put_object self.old.chunks object (with_int (cell_of self.old.chunks object) field value) } }
+        ensures { self.new ≡ record self.old { chunks = put_object self.old.chunks object (cell_with_int (cell_of self.old.chunks object) field value) } }
     {
         self.space.set_int_in(place, object, field, value);
     }

@@ -1,7 +1,7 @@
 // Placing objects with their fields.
 
 ghost use Rattle.std.specs.Prelude.{◌≡◌, ◌^◌, ◌<◌, length, option_map, All, Some};
-ghost use Rattle.object_layout.specs.Cell.{filled_cell, size_of, IsPlace, chunk_words};
+ghost use Rattle.object_layout.specs.Cell.{filled_cell, size_of, BeginsInFirstUnit, chunk_words};
 ghost use Rattle.object_layout.specs.Chunks.{chunk_at, next_address};
 ghost use Rattle.leaf_heap.specs.LeafHeapValue.{with_object_placed, placed_at, place_for, IsSettled};
 
@@ -17,9 +17,9 @@ impl Contents {
         requires ints { new.header.nints ≡ length ints.now }
         requires few_refs { new.header.nrefs < 2 ^ 20 }
         requires few_ints { new.header.nints < 2 ^ 20 }
-        requires places { All IsPlace refs.now }
+        requires places { All BeginsInFirstUnit refs.now }
         ensures address { let object = filled_cell new.header new.birth refs.now ints.now in result ≡ option_map (λ i. next_address (chunk_at self.old.chunks i)) (place_for self.old (size_of object)) }
-        ensures near { IsPlace result }
+        ensures near { BeginsInFirstUnit result }
         ensures placed { let object = filled_cell new.header new.birth refs.now ints.now in self.new ≡ with_object_placed self.old (place_for self.old (size_of object)) object }
         ensures settled { IsSettled self.old.chunks → IsSettled self.new.chunks }
     {
@@ -36,7 +36,7 @@ impl Contents {
         requires ints { new.header.nints ≡ length ints.now }
         requires few_refs { new.header.nrefs < 2 ^ 20 }
         requires few_ints { new.header.nints < 2 ^ 20 }
-        requires places { All IsPlace refs.now }
+        requires places { All BeginsInFirstUnit refs.now }
         requires fits { place_for self.old (size_of (filled_cell new.header new.birth refs.now ints.now)) ≡ Some i }
         ensures address { result ≡ next_address (chunk_at self.old.chunks i) }
         ensures near { result.offset < chunk_words }

@@ -1,9 +1,9 @@
 // A leaf heap: the chunks of a task, between collections.
 
 ghost use Rattle.std.specs.Prelude.{◌≡◌, ◌+◌, ◌^◌, ◌<◌, ◌≤◌, [], is_some, length, All, option_map, OnOk, OnErr, IfErr, IfOk, IsOk, None};
-ghost use Rattle.object_layout.specs.Cell.{filled_cell, size_of, new_cell, IsPlace, chunk_words};
+ghost use Rattle.object_layout.specs.Cell.{filled_cell, size_of, new_cell, BeginsInFirstUnit, chunk_words};
 ghost use Rattle.object_layout.specs.Chunks.{chunk_at, held_words, next_address, object_count, small_words};
-ghost use Rattle.leaf_heap.specs.LeafHeapValue.{added, saturating_words, exchanged, merged, with_object_placed, place_for, room_of, with_places, HaveDistinctNumbers, AreNear, AreWithin, IsCurrent, IsFresh, IsReserved, IsSettled};
+ghost use Rattle.leaf_heap.specs.LeafHeapValue.{added, saturating_words, exchanged, merged, with_object_placed, place_for, room_of, with_places, HaveDistinctNumbers, AllBeginInFirstUnit, CellsFitInChunks, IsCurrent, IsFresh, IsReserved, IsSettled};
 
 use super::contents::New;
 use super::space::Space;
@@ -43,8 +43,8 @@ impl LeafHeap {
     pub fn chunks(&self) -> &[Chunk]
         ensures chunks { result.now ≡ self.now.chunks }
         ensures settled { IsSettled self.now.chunks }
-        ensures within { AreWithin self.now.chunks }
-        ensures near { AreNear self.now.chunks }
+        ensures within { CellsFitInChunks self.now.chunks }
+        ensures near { AllBeginInFirstUnit self.now.chunks }
     {
         self.space.lie_within();
         self.space.chunks()
@@ -194,7 +194,7 @@ impl LeafHeap {
         requires refs { new.header.nrefs < 2 ^ 20 }
         requires ints { new.header.nints < 2 ^ 20 }
         ensures address { let object = new_cell new.header new.birth in result ≡ Ok (option_map (λ i. next_address (chunk_at self.old.chunks i)) (place_for self.old (size_of object))) }
-        ensures near { IfOk result IsPlace }
+        ensures near { IfOk result BeginsInFirstUnit }
         ensures placed { let object = new_cell new.header new.birth in self.new ≡ with_object_placed self.old (place_for self.old (size_of object)) object }
     {
         Ok(self.place_spare(new))
@@ -206,7 +206,7 @@ impl LeafHeap {
         requires refs { new.header.nrefs < 2 ^ 20 }
         requires ints { new.header.nints < 2 ^ 20 }
         ensures address { let object = new_cell new.header new.birth in result ≡ option_map (λ i. next_address (chunk_at self.old.chunks i)) (place_for self.old (size_of object)) }
-        ensures near { IsPlace result }
+        ensures near { BeginsInFirstUnit result }
         ensures placed { let object = new_cell new.header new.birth in self.new ≡ with_object_placed self.old (place_for self.old (size_of object)) object }
     {
         self.space.place(new)
@@ -218,9 +218,9 @@ impl LeafHeap {
         requires ints { new.header.nints ≡ length ints.now }
         requires few_refs { new.header.nrefs < 2 ^ 20 }
         requires few_ints { new.header.nints < 2 ^ 20 }
-        requires places { All IsPlace refs.now }
+        requires places { All BeginsInFirstUnit refs.now }
         ensures address { let object = filled_cell new.header new.birth refs.now ints.now in result ≡ option_map (λ i. next_address (chunk_at self.old.chunks i)) (place_for self.old (size_of object)) }
-        ensures near { IsPlace result }
+        ensures near { BeginsInFirstUnit result }
         ensures placed { let object = filled_cell new.header new.birth refs.now ints.now in self.new ≡ with_object_placed self.old (place_for self.old (size_of object)) object }
     {
         self.space.place_filled(new, refs, ints)

@@ -2,9 +2,9 @@
 
 ghost use Rattle.std.specs.Prelude.{◌≡◌, ◌^◌, ◌<◌, length, option_copied, option_map, slice_get, is_some, IfSome, Some};
 ghost use Rattle.object_layout.specs.declared.word.Addr.{Addr};
-ghost use Rattle.object_layout.specs.Cell.{Born, Moved, frozen, header_of, with_int, with_mark, IsBorn, IsObject, IsPlace};
+ghost use Rattle.object_layout.specs.Cell.{Born, Moved, frozen, header_of, cell_with_int, with_mark, IsBorn, IsObject, BeginsInFirstUnit};
 ghost use Rattle.object_layout.specs.Place.{cell_at};
-ghost use Rattle.object_layout.specs.Chunks.{cell_of, chunk_at, has_chunk, object_of, place_in, place_of, put_object};
+ghost use Rattle.object_layout.specs.Chunks.{cell_of, chunk_at, has_chunk, object_of, place_in, chunk_position, put_object};
 ghost use Rattle.leaf_heap.specs.FieldLaws.{with_ref_of};
 
 use super::contents::Contents;
@@ -45,8 +45,8 @@ impl Contents {
 
     /// The position of the chunk of a number that the heap has.
     pub fn own_place(&self, number: u32) -> usize
-        requires { place_of self.now.chunks number < length self.now.chunks }
-        ensures { result ≡ place_of self.now.chunks number }
+        requires { chunk_position self.now.chunks number < length self.now.chunks }
+        ensures { result ≡ chunk_position self.now.chunks number }
     {
         let _few = self.chunks.len();
         self.base - self.table[&number]
@@ -54,7 +54,7 @@ impl Contents {
 
     // The chunk of an object of this heap.
     fn chunk_of(&self, object: Addr) -> &Chunk
-        requires { place_of self.now.chunks object.chunk < length self.now.chunks }
+        requires { chunk_position self.now.chunks object.chunk < length self.now.chunks }
         ensures { cell_at result.now.cells object.offset ≡ cell_of self.now.chunks object }
     {
         self.chunks.at(self.own_place(object.chunk))
@@ -97,7 +97,7 @@ impl Contents {
     pub fn own_ref(&self, object: Addr, field: u32) -> Option<Addr>
         requires { field < length (object_of self.now.chunks object).refs }
         ensures value { slice_get (object_of self.now.chunks object).refs field ≡ Some result }
-        ensures place { IsPlace result }
+        ensures place { BeginsInFirstUnit result }
     {
         ref_at(self.chunk_of(object), object.offset, field)
     }
@@ -113,7 +113,7 @@ impl Contents {
     /// Writes a reference of an object.
     pub fn own_set_ref(&mut self, object: Addr, field: u32, value: Option<Addr>)
         requires field { field < length (object_of self.old.chunks object).refs }
-        requires place { IsPlace value }
+        requires place { BeginsInFirstUnit value }
         ensures { self.new ≡ with_ref_of self.old object field value }
     {
         let place = self.own_place(object.chunk);
@@ -125,7 +125,7 @@ impl Contents {
     pub fn set_ref_in(&mut self, place: usize, object: Addr, field: u32, value: Option<Addr>)
         requires place { place_in self.old.chunks object.chunk ≡ Some place }
         requires field { field < length (object_of self.old.chunks object).refs }
-        requires value { IsPlace value }
+        requires value { BeginsInFirstUnit value }
         ensures { self.new ≡ with_ref_of self.old object field value }
     {
         let chunk = self.chunks.at_mut(place);
@@ -137,7 +137,7 @@ impl Contents {
     /// Writes a number of an object.
     pub fn own_set_int(&mut self, object: Addr, field: u32, value: i64)
         requires { field < length (object_of self.old.chunks object).ints }
-        ensures { self.new ≡ record self.old { chunks = put_object self.old.chunks object (with_int (cell_of self.old.chunks object) field value) } }
+        ensures { self.new ≡ record self.old { chunks = put_object self.old.chunks object (cell_with_int (cell_of self.old.chunks object) field value) } }
     {
         let place = self.own_place(object.chunk);
         self.set_int_in(place, object, field, value);
@@ -148,7 +148,7 @@ impl Contents {
     pub fn set_int_in(&mut self, place: usize, object: Addr, field: u32, value: i64)
         requires place { place_in self.old.chunks object.chunk ≡ Some place }
         requires field { field < length (object_of self.old.chunks object).ints }
-        ensures { self.new ≡ record self.old { chunks = put_object self.old.chunks object (with_int (cell_of self.old.chunks object) field value) } }
+        ensures { self.new ≡ record self.old { chunks = put_object self.old.chunks object (cell_with_int (cell_of self.old.chunks object) field value) } }
     {
         let chunk = self.chunks.at_mut(place);
         let header = header_at(chunk, object.offset);
@@ -181,7 +181,7 @@ impl Contents {
     pub fn forward_in(&mut self, place: usize, object: Addr, to: Addr)
         requires place { place_in self.old.chunks object.chunk ≡ Some place }
         requires object { IsObject (cell_of self.old.chunks object).mark }
-        requires to { IsPlace (Some to) }
+        requires to { BeginsInFirstUnit (Some to) }
         ensures { self.new ≡ record self.old { chunks = put_object self.old.chunks object (with_mark (cell_of self.old.chunks object) (Moved to)) } }
     {
         let chunk = self.chunks.at_mut(place);

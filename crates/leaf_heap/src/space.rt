@@ -1,9 +1,9 @@
 // The chunks of a heap behind a pointer, which a heap that never had one does without.
 
 ghost use Rattle.std.specs.Prelude.{◌≡◌, ◌+◌, ◌^◌, ◌<◌, ◌≤◌, [], is_some, length, option_map, All, IfOk, OnOk, None, Some};
-ghost use Rattle.object_layout.specs.Cell.{filled_cell, size_of, new_cell, IsPlace, chunk_words};
+ghost use Rattle.object_layout.specs.Cell.{filled_cell, size_of, new_cell, BeginsInFirstUnit, chunk_words};
 ghost use Rattle.object_layout.specs.Chunks.{chunk_at, held_words, next_address, object_count, small_words};
-ghost use Rattle.leaf_heap.specs.LeafHeapValue.{added, saturating_words, no_contents, with_object_placed, place_for, room_of, with_places, AreWithin, IsCurrent, IsFresh, IsReserved, IsSettled};
+ghost use Rattle.leaf_heap.specs.LeafHeapValue.{added, saturating_words, no_contents, with_object_placed, place_for, room_of, with_places, CellsFitInChunks, IsCurrent, IsFresh, IsReserved, IsSettled};
 
 use super::contents::{Contents, New};
 use boxed::BoxedSlot;
@@ -58,7 +58,7 @@ impl Space {
 
     // All words lie inside their chunks.
     pub(crate) fn lie_within(&self)
-        ensures { AreWithin self.now.chunks }
+        ensures { CellsFitInChunks self.now.chunks }
     {
         match &self.contents {
             Some(contents) => contents.get().lie_within(),
@@ -196,7 +196,7 @@ impl Space {
         requires refs { new.header.nrefs < 2 ^ 20 }
         requires ints { new.header.nints < 2 ^ 20 }
         ensures address { let object = new_cell new.header new.birth in result ≡ option_map (λ i. next_address (chunk_at self.old.chunks i)) (place_for self.old (size_of object)) }
-        ensures near { IsPlace result }
+        ensures near { BeginsInFirstUnit result }
         ensures placed { let object = new_cell new.header new.birth in self.new ≡ with_object_placed self.old (place_for self.old (size_of object)) object }
         ensures settled { IsSettled self.old.chunks → IsSettled self.new.chunks }
     {
@@ -213,9 +213,9 @@ impl Space {
         requires ints { new.header.nints ≡ length ints.now }
         requires few_refs { new.header.nrefs < 2 ^ 20 }
         requires few_ints { new.header.nints < 2 ^ 20 }
-        requires places { All IsPlace refs.now }
+        requires places { All BeginsInFirstUnit refs.now }
         ensures address { let object = filled_cell new.header new.birth refs.now ints.now in result ≡ option_map (λ i. next_address (chunk_at self.old.chunks i)) (place_for self.old (size_of object)) }
-        ensures near { IsPlace result }
+        ensures near { BeginsInFirstUnit result }
         ensures placed { let object = filled_cell new.header new.birth refs.now ints.now in self.new ≡ with_object_placed self.old (place_for self.old (size_of object)) object }
         ensures settled { IsSettled self.old.chunks → IsSettled self.new.chunks }
     {

@@ -1,5 +1,5 @@
 -- The ancestors of a task, and what their heaps' objects refer to.
-use Rattle.ledger_heaps.proofs.Common.{◌≡◌, ℕ, zero, suc, ◌==◌, Bool, true, false, cond, not, Option, Some, None, List, [], ◌∷◌, slice_get, filter, ◌⊎◌, inl, inr, refl, ap, sym, subst, ◌∙◌, eqb, eqb-true, eq-eqb, flat_map, and_parts, and_from, or_cases, or_right, false≢true, not-true, In, contains_from_in, in_flat, flat_in, in_kept, in_from_kept, got_in, same_truth, Name, MachineState, refs_at, owner_of, is_on_path, parents, path_by, through, path_here, Heap, holds_name, held, is_proper_ancestor, in_from_holds, holds_from_in, in_held, held_keeps, names_of, accounts, AreOwned, ancestors, ancestors_by, references_from_heaps}
+use Rattle.ledger_heaps.proofs.Common.{◌≡◌, ℕ, zero, suc, ◌==◌, Bool, true, false, cond, not, Option, Some, None, List, [], ◌∷◌, slice_get, filter, ◌⊎◌, inl, inr, refl, ap, sym, subst, ◌∙◌, eqb, eqb-true, eq-eqb, flat_map, and_parts, and_from, or_cases, or_right, false≢true, not-true, In, contains_from_in, in_flat, flat_in, in_kept, in_from_kept, got_in, same_truth, Name, MachineState, refs_at, owner_of, is_on_path, parents, path_by, through, path_here, Heap, holds_name, held, is_proper_ancestor, in_from_holds, holds_from_in, in_held, held_keeps, heap_names, accounts, AreOwned, ancestors, ancestors_by, references_from_heaps}
 
 pub one_up : (par : ℕ → Option ℕ) (k at p : ℕ) → par at ≡ Some p → ancestors_by par (suc k) at ≡ p ∷ ancestors_by par k p
 one_up par k at p e = ap (λ (o : Option ℕ). through o [] (λ q. q ∷ ancestors_by par k q)) e
@@ -49,18 +49,18 @@ module _ (m : MachineState) (heaps : List Heap) (t : ℕ) (owned : AreOwned m.ta
   abbrev kept : List Name
   kept = filter test (held (accounts m heaps))
 
-  owner_is : (u : ℕ) (n : Name) → In (names_of (slice_get heaps u)) n → own n ≡ u
-  owner_is u n i = owned u n (contains_from_in (names_of (slice_get heaps u)) n i)
+  owner_is : (u : ℕ) (n : Name) → In (heap_names (slice_get heaps u)) n → own n ≡ u
+  owner_is u n i = owned u n (contains_from_in (heap_names (slice_get heaps u)) n i)
 
   tested : (a : ℕ) (n : Name) → own n ≡ a → is_on_path m.tasks a t ≡ true → (a == t) ≡ false → test n ≡ true
   tested a n e h ne = subst (λ b. is_proper_ancestor m.tasks b t ≡ true) (sym e) (and_from (is_on_path m.tasks a t) (not (a == t)) h (ap not ne))
 
-  into_kept : (a : ℕ) (r : Name) → In (ancestors m.tasks t) a → (b : Bool) → (a == t) ≡ b → In (cond b [] (flat_map refs (names_of (slice_get heaps a)))) r → In (flat_map refs kept) r
+  into_kept : (a : ℕ) (r : Name) → In (ancestors m.tasks t) a → (b : Bool) → (a == t) ≡ b → In (cond b [] (flat_map refs (heap_names (slice_get heaps a)))) r → In (flat_map refs kept) r
   into_kept a r up true e i = absurd i
   into_kept a r up false e i =
-      let f = flat_in refs (names_of (slice_get heaps a)) r i in
+      let f = flat_in refs (heap_names (slice_get heaps a)) r i in
       let n = f.1 in
-      let i' : In (names_of (slice_get heaps a)) n = got_in (names_of (slice_get heaps a)) f.0 n f.2 in
+      let i' : In (heap_names (slice_get heaps a)) n = got_in (heap_names (slice_get heaps a)) f.0 n f.2 in
       in_flat refs kept n r
       (in_kept test (held (accounts m heaps)) n (in_held (accounts m heaps) n (a, i')) (tested a n (owner_is a n i') (path_from_above (parents m.tasks) t a t up) e)) f.3
 
@@ -69,9 +69,9 @@ module _ (m : MachineState) (heaps : List Heap) (t : ℕ) (owned : AreOwned m.ta
       let f = flat_in (references_from_heaps m.store heaps t) (ancestors m.tasks t) r i in
       into_kept f.1 r (got_in (ancestors m.tasks t) f.0 f.1 f.2) (f.1 == t) refl f.3
 
-  in_refs : (u : ℕ) (r n : Name) → In (names_of (slice_get heaps u)) n → In (refs n) r → (b : Bool) → b ≡ false → In (cond b [] (flat_map refs (names_of (slice_get heaps u)))) r
+  in_refs : (u : ℕ) (r n : Name) → In (heap_names (slice_get heaps u)) n → In (refs n) r → (b : Bool) → b ≡ false → In (cond b [] (flat_map refs (heap_names (slice_get heaps u)))) r
   in_refs u r n i j true e = absurd (false≢true (sym e))
-  in_refs u r n i j false e = in_flat refs (names_of (slice_get heaps u)) n r i j
+  in_refs u r n i j false e = in_flat refs (heap_names (slice_get heaps u)) n r i j
 
   in_above : (u : ℕ) → is_on_path m.tasks u t ≡ true → (u == t) ≡ false → In (ancestors m.tasks t) u
   in_above u h ne = elim (above_from_path (parents m.tasks) t u t h) [ inl e ↦ absurd (false≢true (sym ne ∙ eq-eqb u t e)) | inr i ↦ i ]

@@ -18,7 +18,7 @@ pub use Rattle.run_ledger.proofs.Collections.{Born, born_from, born_is, born_on,
 pub use Rattle.run_ledger.proofs.Held.{insert_cases, laid_flat}
 pub use Rattle.run_ledger.proofs.Members.{in_from_holds, holds_from_in, is_name_itself, same_from_is_name}
 pub use Rattle.run_ledger.proofs.Reached.{length_kept, reached_root, reached_more, reached_is_walks}
-pub use Rattle.run_ledger.proofs.Sound.{in_held, held_keeps, names_of}
+pub use Rattle.run_ledger.proofs.Sound.{in_held, held_keeps, heap_names}
 pub use Rattle.run_ledger.proofs.Weights.{birth_weight, kept_weight, survivors_weight, weight_parts}
 pub use Rattle.run_ledger.specs.Heaps.{held, is_proper_ancestor, name_le, insert_name, by_birth, in_snapshot, is_last_empty, without_empty, emptied, heap_of, merged, or_fresh, with_heap_at, collected, large_survivors, small_survivors, units, units_sum, words_at, words_in, words_sum, chunk_words, lay, put_last, room_behind, held_in, laid_onto, small_in, roots_of}
 pub use Rattle.run_ledger.specs.Reachable.{holds_name, is_name, reached, reached_by, StartsWithin, LeadsWithin}

@@ -1,12 +1,12 @@
 -- Any number of private steps.
-use Rattle.ledger_step_laws.proofs.Common.{◌≡◌, ℕ, zero, suc, true, false, Option, Some, slice_get, ◌⊎◌, inl, inr, ap, ap₂, sym, subst, ◌∙◌, arith, nat_le, refl, ProgramText, SettingsValue, Task, MachineState, IsStored, can_step, goes_on, is_running, Closed, stored_step, Heap, Ledger, or_fresh, lacks_room, task_step, task_steps, on_asked, is_private, task_step_machine, collecting, SoundAt, task_step_sound, ArePrivate, AlikeFor, Knows}
+use Rattle.ledger_step_laws.proofs.Common.{◌≡◌, ℕ, zero, suc, true, false, Option, Some, slice_get, ◌⊎◌, inl, inr, ap, ap₂, sym, subst, ◌∙◌, arith, nat_le, refl, ProgramText, SettingsValue, Task, MachineState, IsStored, can_step, goes_on, is_running, Closed, stored_step, Heap, Ledger, or_fresh, lacks_room, task_step, task_steps, on_asked, is_private, task_step_machine, collecting, SoundAt, task_step_sound, ArePrivate, AlikeFor, LedgerIsKnown}
 use Rattle.ledger_step_laws.proofs.Ahead.{private_limit, private_end, private_off}
 use Rattle.ledger_step_laws.proofs.Commute.{private', alike_step, goes_running, goes_can, goes_rows, alike_self, asked_same}
 
 module _ (p : ProgramText) (s : SettingsValue) (u : ℕ) where
   -- what is known of the accounts stays known
-  pub step_knows : (l : Ledger) (x : Task) → Knows l → collecting (slice_get l.heaps u) ≡ false → slice_get l.machine.tasks u ≡ Some x → is_running (Some x) ≡ true → can_step l.machine u ≡ true → is_private p l.machine u ≡ true
-      → Knows (task_step p l u) × (collecting (slice_get (task_step p l u).heaps u) ≡ false)
+  pub step_knows : (l : Ledger) (x : Task) → LedgerIsKnown l → collecting (slice_get l.heaps u) ≡ false → slice_get l.machine.tasks u ≡ Some x → is_running (Some x) ≡ true → can_step l.machine u ≡ true → is_private p l.machine u ≡ true
+      → LedgerIsKnown (task_step p l u) × (collecting (slice_get (task_step p l u).heaps u) ≡ false)
   step_knows l x K c is run can h =
       let S : SoundAt u (task_step p l u) = task_step_sound p l u (K.sound, c) in
       let e = task_step_machine p l u in (
@@ -21,7 +21,7 @@ module _ (p : ProgramText) (s : SettingsValue) (u : ℕ) where
   abbrev Alike : Ledger → Ledger → ℕ → Type 0
   Alike l l' k = ArePrivate p s l' u k × AlikeFor u (task_steps p l u k) (task_steps p l' u k)
 
-  pub alike_steps : (k : ℕ) (l l' : Ledger) (x : Task) → Knows l → Knows l' → (k ≡ 0) ⊎ (collecting (slice_get l.heaps u) ≡ false) → AlikeFor u l l' → slice_get l.machine.tasks u ≡ Some x → is_running (Some x) ≡ true → can_step l.machine u ≡ true
+  pub alike_steps : (k : ℕ) (l l' : Ledger) (x : Task) → LedgerIsKnown l → LedgerIsKnown l' → (k ≡ 0) ⊎ (collecting (slice_get l.heaps u) ≡ false) → AlikeFor u l l' → slice_get l.machine.tasks u ≡ Some x → is_running (Some x) ≡ true → can_step l.machine u ≡ true
       → ArePrivate p s l u k → Alike l l' k
   alike_steps zero l l' x K K' c A is run can h = (tt, A)
   alike_steps (suc k) l l' x K K' (inl e) A is run can h = absurd (omega (arith, e))
@@ -56,7 +56,7 @@ module _ (p : ProgramText) (s : SettingsValue) (t : ℕ) where
   steps_off zero l u ne h = refl
   steps_off (suc k) l u ne h = steps_off k (task_step p l t) u ne h.3 ∙ private_off p l t h.2 u ne
 
-  pub steps_know : (k : ℕ) (l : Ledger) (x : Task) → Knows l → (k ≡ 0) ⊎ (collecting (slice_get l.heaps t) ≡ false) → slice_get l.machine.tasks t ≡ Some x → is_running (Some x) ≡ true → can_step l.machine t ≡ true → ArePrivate p s l t k → Knows (task_steps p l t k)
+  pub steps_know : (k : ℕ) (l : Ledger) (x : Task) → LedgerIsKnown l → (k ≡ 0) ⊎ (collecting (slice_get l.heaps t) ≡ false) → slice_get l.machine.tasks t ≡ Some x → is_running (Some x) ≡ true → can_step l.machine t ≡ true → ArePrivate p s l t k → LedgerIsKnown (task_steps p l t k)
   steps_know zero l x K c is run can h = K
   steps_know (suc k) l x K (inl e) is run can h = absurd (omega (arith, e))
   steps_know (suc k) l x K (inr c) is run can h =

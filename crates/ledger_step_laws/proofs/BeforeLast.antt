@@ -1,5 +1,5 @@
 -- What holds before the last step of an accepted entry of steps.
-use Rattle.ledger_step_laws.proofs.Common.{◌≡◌, ℕ, false, Some, None, slice_get, inr, ap, ◌∙◌, ProgramText, SettingsValue, MachineState, is_waiting, running_tells, can_going, Ledger, let_go, task_steps, SoundLedger, heap_machine, StepsAlone, Knows, rested, Splits, RunsPrivateSteps}
+use Rattle.ledger_step_laws.proofs.Common.{◌≡◌, ℕ, false, Some, None, slice_get, inr, ap, ◌∙◌, ProgramText, SettingsValue, MachineState, is_waiting, running_tells, can_going, Ledger, let_go, task_steps, SoundLedger, heap_machine, StepsAlone, LedgerIsKnown, rested, Splits, RunsPrivateSteps}
 use Rattle.ledger_step_laws.proofs.Ahead.{steps_alone_all}
 use Rattle.ledger_step_laws.proofs.Along.{steps_end, steps_know}
 use Rattle.ledger_step_laws.proofs.Rested.{rested_sound}
@@ -18,7 +18,7 @@ module _ (p : ProgramText) (s : SettingsValue) (l l' : Ledger) (t w k : ℕ) (E 
   pub going : m.machine.end ≡ None
   going = steps_end p s t k l S.private ∙ can_going l.machine t E.can
 
-  pub known : Knows m
+  pub known : LedgerIsKnown m
   known = steps_know p s t k l E.task E.knows (inr E.collects) E.at E.runs E.can S.private
 
   pub alone : StepsAlone l m t

@@ -35,9 +35,9 @@ pub use Rattle.hh_model.specs.declared.data.TaskStatus.{TaskStatus}
 pub use Rattle.hh_model.specs.declared.data.TaskStatus.TheVariants.{Running, Waiting, Joined, Ended}
 pub use Rattle.hh_model.specs.declared.data.Trap.{Trap}
 pub use Rattle.hh_model.specs.declared.data.Trap.TheVariants.{Range, Frozen, Div, Size, Depth}
-pub use Rattle.ledger_step_laws.specs.Accounts.{own, rested, ArePrivate, StepsAlone, SameTree, AlikeFor, Knows, ChangesHeap, WorkerTakes, SameTasks, Rests, WritesOne, Leaves}
+pub use Rattle.ledger_step_laws.specs.Accounts.{own, rested, ArePrivate, StepsAlone, SameTree, AlikeFor, LedgerIsKnown, ChangesHeap, WorkerTakes, SameTasks, Rests, WritesOne, Leaves}
 pub use Rattle.ledger_step_laws.specs.Kinds.{ForksTask, JoinsTasks, EndsTask, TasksCanJoin, StoresOne, StoresNumber}
-pub use Rattle.ledger_step_laws.specs.LastStepCases.{Splits, RunsPrivateSteps, LastKind, Private, Reading, Writing, Printing, Forking, Ending, Joining, Finishing, Halting, IsOfKind, GoesOn, IsApart, IdleRest, OnlyAskersReserve, TaskIsAt, JustReads, Wrote, stepped_by, LastStepEndsRun, Halts, WritesOther}
+pub use Rattle.ledger_step_laws.specs.LastStepCases.{Splits, RunsPrivateSteps, LastKind, Private, Reading, Writing, Printing, Forking, Ending, Joining, Finishing, Halting, IsOfKind, GoesOn, KindTellsPrivate, IdleRest, OnlyAskersReserve, TaskIsAt, JustReads, ChangesByWrite, stepped_by, LastStepEndsRun, Halts, WritesOther}
 pub use Rattle.path_laws.proofs.FreeReads.{own_reads}
 pub use Rattle.path_laws.proofs.Leaves.{can_going, waiting_stops}
 pub use Rattle.path_laws.proofs.Objects.{put_rows, put_here}

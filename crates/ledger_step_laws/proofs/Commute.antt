@@ -1,6 +1,6 @@
 -- Private steps of a task have the same result before and after what others do: the task, its heap's account and its
 -- objects.
-use Rattle.ledger_step_laws.proofs.Common.{◌≡◌, ℕ, zero, suc, pos, ◌+◌, ◌==◌, ◌&&◌, ◌||◌, ◌<◌, not, Bool, true, false, cond, Option, Some, None, List, [], ◌∷◌, ◌++◌, length, slice_get, slice_set, replicate, ◌⊎◌, inl, inr, refl, ap, ap₂, sym, subst, ◌∙◌, arith, is_none, nat_lt, length-set, option_flatten, false≢true, and_parts, and_from, eqb-true, eq-eqb, cases_eq, or_cases, or_left, or_right, not-true, same_Some, got_same, got_other, got_within, In, or_false, Instr, Set, Mov, Movr, Nil as NilOf, Calc, Same, Jmp, Jz, Newm, Pack, Getr, Geti, Putr, Puti, Cntr, Cnti, Freeze, Cas, Call, Par, Ret, Out, Line, ProgramText, Name, Object, Frame, Task, Trap, Range, Frozen, Div, Size, Depth, End, Trapped, MachineState, Effect, Goes, Stops, Traps, StepContext, effect, made, row_of, object_at, put_object, counts_in, int_in, ref_in, or_trap, with_object, read_effect, calculated, place_in, same_name, onward, with_ref, refs_of, task_names, precedes, IsStored, strand_of, is_on_path, setting, fetched, step, follow, returned_to, last_of, front_of, back_in, entry_frame, with_task, ended_by, can_step, goes_on, is_running, is_joined, is_over, frame_limit, owner_of, parents, joined, runs, asked, asked_by, asked_line, at_in, named_from_in, seen, runs_is, names_run, in_registers, put_here, put_rows, own_reads, step_taken, owner_here, Ledger, with_allocation, allocated_by, task_step, touched, is_open, owns, works_alone, is_read, is_frozen, is_frozen_above, is_private, is_private_by, is_private_line, task_step_machine, own, AlikeFor, Knows}
+use Rattle.ledger_step_laws.proofs.Common.{◌≡◌, ℕ, zero, suc, pos, ◌+◌, ◌==◌, ◌&&◌, ◌||◌, ◌<◌, not, Bool, true, false, cond, Option, Some, None, List, [], ◌∷◌, ◌++◌, length, slice_get, slice_set, replicate, ◌⊎◌, inl, inr, refl, ap, ap₂, sym, subst, ◌∙◌, arith, is_none, nat_lt, length-set, option_flatten, false≢true, and_parts, and_from, eqb-true, eq-eqb, cases_eq, or_cases, or_left, or_right, not-true, same_Some, got_same, got_other, got_within, In, or_false, Instr, Set, Mov, Movr, Nil as NilOf, Calc, Same, Jmp, Jz, Newm, Pack, Getr, Geti, Putr, Puti, Cntr, Cnti, Freeze, Cas, Call, Par, Ret, Out, Line, ProgramText, Name, Object, Frame, Task, Trap, Range, Frozen, Div, Size, Depth, End, Trapped, MachineState, Effect, Goes, Stops, Traps, StepContext, effect, made, row_of, object_at, put_object, counts_in, int_in, ref_in, or_trap, with_object, read_effect, calculated, place_in, same_name, onward, with_ref, refs_of, task_names, precedes, IsStored, strand_of, is_on_path, setting, fetched, step, follow, returned_to, last_of, front_of, back_in, entry_frame, with_task, ended_by, can_step, goes_on, is_running, is_joined, is_over, frame_limit, owner_of, parents, joined, runs, asked, asked_by, asked_line, at_in, named_from_in, seen, runs_is, names_run, in_registers, put_here, put_rows, own_reads, step_taken, owner_here, Ledger, with_allocation, allocated_by, task_step, touched, is_open, owns, works_alone, is_read, is_frozen, is_frozen_above, is_private, is_private_by, is_private_line, task_step_machine, own, AlikeFor, LedgerIsKnown}
 use Rattle.hh_model.specs.declared.data.Trap.TheVariants.{Nil}
 use Rattle.ledger_step_laws.proofs.Ahead.{put_other, heap_after, heap_then, with_at, private_alone}
 use Rattle.ledger_step_laws.proofs.Private.{last_caller}
@@ -28,7 +28,7 @@ made_at store u row o n is e =
     ∙ (ap (λ r. slice_get (row_of r) n.count) (got_same store u row (row_of (slice_get store u) ++ o ∷ []) is)
     ∙ ap (λ r. slice_get (row_of r ++ o ∷ []) n.count) is)
 
-module _ (l l' : Ledger) (u : ℕ) (x : Task) (K : Knows l) (K' : Knows l') (A : AlikeFor u l l') (at_u : slice_get l.machine.tasks u ≡ Some x) (run : is_running (Some x) ≡ true) where
+module _ (l l' : Ledger) (u : ℕ) (x : Task) (K : LedgerIsKnown l) (K' : LedgerIsKnown l') (A : AlikeFor u l l') (at_u : slice_get l.machine.tasks u ≡ Some x) (run : is_running (Some x) ≡ true) where
   abbrev m : MachineState
   m = l.machine
 

@@ -1,11 +1,11 @@
 -- The last step of an entry of steps is of one of the kinds.
-use Rattle.ledger_step_laws.proofs.Common.{◌≡◌, ℕ, ℤ, pos, ◌+◌, ◌-◌, ◌==◌, ◌&&◌, ◌||◌, not, Bool, true, false, cond, Option, Some, None, List, [], ◌∷◌, ◌++◌, length, length-set, slice_get, slice_set, ◌⊎◌, inl, inr, refl, ap, sym, subst, ◌∙◌, is_none, is_some, nat_lt, replicate, option_flatten, false≢true, both_ways, eqb-true, eq-eqb, none-some, got_same, Instr, Set, Mov, Movr, Nil as NilOf, Calc, Same, Jmp, Jz, Newm, Pack, Getr, Geti, Putr, Puti, Cntr, Cnti, Freeze, Cas, Call, Par, Ret, Out, Line, ProgramText, Name, Object, Frame, Waiting, Task, Trap, Range, Frozen, Size, Depth, End, Trapped, Entangled, Done, MachineState, words_asked, words_for, with_int, Effect, Goes, Prints, Calls, Forks, Returns, Traps, Stops, StepContext, effect, made, row_of, object_at, put_object, counts_in, int_in, ref_in, or_trap, with_object, read_effect, place_in, same_name, onward, precedes, entry_frame, setting, step, follow, returned_to, last_return, child_ended_by, or_same, last_of, ended_by, with_task, can_step, depth_limit, frame_limit, owner_of, is_left, sibling, result_at, result_of, ended_task, join_of, child, strand, strand_of, edge, can_going, step_taken, Ledger, Machine, heap_of, or_fresh, let_go, task_step, touched, is_open, owns, works_alone, is_read, is_frozen_above, is_private, is_private_by, is_private_line, task_step_machine, heap_machine, own, rested, StepsAlone, WritesOne, Knows, EndsTask, LastKind, Private, Reading, Writing, Printing, Forking, Ending, Joining, Finishing, Halting, IsOfKind, GoesOn, IsApart, IdleRest, OnlyAskersReserve, TaskIsAt, JustReads, Wrote, stepped_by, LastStepEndsRun, Halts}
+use Rattle.ledger_step_laws.proofs.Common.{◌≡◌, ℕ, ℤ, pos, ◌+◌, ◌-◌, ◌==◌, ◌&&◌, ◌||◌, not, Bool, true, false, cond, Option, Some, None, List, [], ◌∷◌, ◌++◌, length, length-set, slice_get, slice_set, ◌⊎◌, inl, inr, refl, ap, sym, subst, ◌∙◌, is_none, is_some, nat_lt, replicate, option_flatten, false≢true, both_ways, eqb-true, eq-eqb, none-some, got_same, Instr, Set, Mov, Movr, Nil as NilOf, Calc, Same, Jmp, Jz, Newm, Pack, Getr, Geti, Putr, Puti, Cntr, Cnti, Freeze, Cas, Call, Par, Ret, Out, Line, ProgramText, Name, Object, Frame, Waiting, Task, Trap, Range, Frozen, Size, Depth, End, Trapped, Entangled, Done, MachineState, words_asked, words_for, with_int, Effect, Goes, Prints, Calls, Forks, Returns, Traps, Stops, StepContext, effect, made, row_of, object_at, put_object, counts_in, int_in, ref_in, or_trap, with_object, read_effect, place_in, same_name, onward, precedes, entry_frame, setting, step, follow, returned_to, last_return, child_ended_by, or_same, last_of, ended_by, with_task, can_step, depth_limit, frame_limit, owner_of, is_left, sibling, result_at, result_of, ended_task, join_of, child, strand, strand_of, edge, can_going, step_taken, Ledger, Machine, heap_of, or_fresh, let_go, task_step, touched, is_open, owns, works_alone, is_read, is_frozen_above, is_private, is_private_by, is_private_line, task_step_machine, heap_machine, own, rested, StepsAlone, WritesOne, LedgerIsKnown, EndsTask, LastKind, Private, Reading, Writing, Printing, Forking, Ending, Joining, Finishing, Halting, IsOfKind, GoesOn, KindTellsPrivate, IdleRest, OnlyAskersReserve, TaskIsAt, JustReads, ChangesByWrite, stepped_by, LastStepEndsRun, Halts}
 use Rattle.hh_model.specs.declared.data.Trap.TheVariants.{Nil}
 use Rattle.ledger_step_laws.proofs.Ahead.{private_end}
 use Rattle.ledger_step_laws.proofs.LastStepForkJoin.{alone_by, writes_by, tells, then_, goes_then, step_is, fork_case, ret_case}
 use Rattle.ledger_step_laws.proofs.Rested.{rest_heaps}
 
-module _ (p : ProgramText) (l : Ledger) (t : ℕ) (x : Task) (line : Line) (K : Knows l) (idle : IdleRest l) (spare : OnlyAskersReserve p l) (can : can_step l.machine t ≡ true) (I : TaskIsAt p l t x line) where
+module _ (p : ProgramText) (l : Ledger) (t : ℕ) (x : Task) (line : Line) (K : LedgerIsKnown l) (idle : IdleRest l) (spare : OnlyAskersReserve p l) (can : can_step l.machine t ≡ true) (I : TaskIsAt p l t x line) where
   abbrev m : MachineState
   m = l.machine
 
@@ -180,7 +180,7 @@ module _ (p : ProgramText) (l : Ledger) (t : ℕ) (x : Task) (line : Line) (K : 
         },
       )
 
-  write_case : words_asked m.field_limit x.top line.instr ≡ None → (f : Frame) (n : Name) (y y' : Object) → touched x.top line.instr ≡ Some n → (own l n ≡ t → ⊥) → object_at m.store n ≡ Some y → length y'.refs ≡ length y.refs → Wrote x line.instr y y' f → Good (Goes f (put_object m.store n y'))
+  write_case : words_asked m.field_limit x.top line.instr ≡ None → (f : Frame) (n : Name) (y y' : Object) → touched x.top line.instr ≡ Some n → (own l n ≡ t → ⊥) → object_at m.store n ≡ Some y → length y'.refs ≡ length y.refs → ChangesByWrite x line.instr y y' f → Good (Goes f (put_object m.store n y'))
   write_case none f n y y' touches foreign is fields how q h =
       let z : Task = record x { top = f } in
       let m' : MachineState = record m { tasks = slice_set m.tasks t z; store = put_object m.store n y' } in
@@ -289,11 +289,11 @@ module _ (p : ProgramText) (l : Ledger) (t : ℕ) (x : Task) (line : Line) (K : 
   good (Putr o i v) il c =
       other (ref_in x.top o) _ (ap (touched x.top) il) (foreign_by c) (λ n y touches foreign is. trap_is Range (place_in (length y.refs) (int_in x.top i)) _ (λ at found.
       either_is y.mutable _ (Traps Frozen) (λ may. write_case (ap (words_asked m.field_limit x.top) il) _ n y _ touches foreign is (length-set y.refs at (ref_in x.top v))
-      (subst (λ k. Wrote x k y (record y { refs = slice_set y.refs at (ref_in x.top v) }) (onward x.top)) (sym il) (at, found, may, refl, refl))) (λ frozen. traps Frozen)))
+      (subst (λ k. ChangesByWrite x k y (record y { refs = slice_set y.refs at (ref_in x.top v) }) (onward x.top)) (sym il) (at, found, may, refl, refl))) (λ frozen. traps Frozen)))
   good (Puti o i v) il c =
       other (ref_in x.top o) _ (ap (touched x.top) il) (foreign_by c) (λ n y touches foreign is. trap_is Range (place_in (length y.ints) (int_in x.top i)) _ (λ at found.
       either_is y.mutable _ (Traps Frozen) (λ may. write_case (ap (words_asked m.field_limit x.top) il) _ n y _ touches foreign is refl
-      (subst (λ k. Wrote x k y (record y { ints = slice_set y.ints at (int_in x.top v) }) (onward x.top)) (sym il) (at, found, may, refl, refl))) (λ frozen. traps Frozen)))
+      (subst (λ k. ChangesByWrite x k y (record y { ints = slice_set y.ints at (int_in x.top v) }) (onward x.top)) (sym il) (at, found, may, refl, refl))) (λ frozen. traps Frozen)))
   good (Cntr d o) il c = other (ref_in x.top o) _ (ap (touched x.top) il) (foreign_by c) (λ n y touches foreign is. plain (ap (words_asked m.field_limit x.top) il) _ n y touches foreign is (λ f. subst (λ k. JustReads x k y f) (sym il) tt))
   good (Cnti d o) il c = other (ref_in x.top o) _ (ap (touched x.top) il) (foreign_by c) (λ n y touches foreign is. plain (ap (words_asked m.field_limit x.top) il) _ n y touches foreign is (λ f. subst (λ k. JustReads x k y f) (sym il) tt))
   good (Freeze o) il c = other (ref_in x.top o) _ (ap (touched x.top) il) (foreign_by c) (λ n y touches foreign is. frozen n y foreign (owner_of m.tasks n.task == t) refl)
@@ -305,7 +305,7 @@ module _ (p : ProgramText) (l : Ledger) (t : ℕ) (x : Task) (line : Line) (K : 
       other (ref_in x.top o) _ (ap (touched x.top) il) (foreign_by c) (λ n y touches foreign is. trap_is Range (place_in (length y.refs) (int_in x.top i)) _ (λ at found.
       either_is y.mutable _ (Traps Frozen) (λ may. either_is (same_name (option_flatten (slice_get y.refs at)) (ref_in x.top e)) _ _
       (λ same. write_case (ap (words_asked m.field_limit x.top) il) _ n y _ touches foreign is (length-set y.refs at (ref_in x.top v))
-      (subst (λ k. Wrote x k y (record y { refs = slice_set y.refs at (ref_in x.top v) }) (onward (with_int x.top d (pos 1)))) (sym il) (at, found, may, refl, refl, same)))
+      (subst (λ k. ChangesByWrite x k y (record y { refs = slice_set y.refs at (ref_in x.top v) }) (onward (with_int x.top d (pos 1)))) (sym il) (at, found, may, refl, refl, same)))
       (λ other. read_case (ap (words_asked m.field_limit x.top) il) _ n y touches foreign is
       (subst (λ k. JustReads x k y (onward (with_int x.top d (pos 0)))) (sym il) (at, found, may, other, refl)))) (λ frozen. traps Frozen)))
   good (Par g f) il c = fork_case p l t x line can I K idle spare g f il
@@ -326,9 +326,9 @@ module _ (p : ProgramText) (l : Ledger) (t : ℕ) (x : Task) (line : Line) (K : 
   foreign_or false b (inr h) = inr refl
 
   abbrev Known : Type 0
-  Known = (kind : LastKind) × IsOfKind p l k t x line kind × (GoesOn kind → k.machine.end ≡ None) × IsApart p l t kind
+  Known = (kind : LastKind) × IsOfKind p l k t x line kind × (GoesOn kind → k.machine.end ≡ None) × KindTellsPrivate p l t kind
 
-  apart_by : (kind : LastKind) → is_private p m t ≡ false → IsApart p l t kind
+  apart_by : (kind : LastKind) → is_private p m t ≡ false → KindTellsPrivate p l t kind
   apart_by Private h = tt
   apart_by Reading h = h
   apart_by Writing h = h

@@ -1,5 +1,5 @@
 -- A last step that forks, ends its task or joins two children.
-use Rattle.ledger_step_laws.proofs.Common.{◌≡◌, ℕ, ℤ, ◌+◌, ◌-◌, ◌%◌, ◌<◌, Bool, true, false, cond, arith, Option, Some, None, List, [], ◌∷◌, ◌++◌, length, slice_get, slice_set, ◌⊎◌, inl, inr, refl, ap, ap₂, sym, subst, ◌∙◌, is_none, is_some, nat_lt, false≢true, cases_eq, cond-true, cond-false, eqb-false, eq-eqb, got_same, got_other, got_within, same_view, view_step, got_some, Par, Ret, Line, ProgramText, Name, Object, Edge, Frame, TaskStatus, Running, Waiting, Joined, Task, Depth, Trapped, MachineState, words_asked, Effect, StepContext, effect, row_of, object_at, put_object, onward, setting, fetched, step, follow, returned_to, last_return, child_ended_by, or_same, last_of, ended_by, with_task, can_step, depth_limit, owner_of, owner_in, path_in, parents, parent_of, resumed, joined, is_running, is_waiting, is_joined, is_over, is_left, sibling, result_at, result_in, result_of, ended_task, join_of, joined_task, child, strand, strand_of, edge, runs, waits, asked, asked_by, asked_line, asked_at, waits_is, IsForkJoinState, step_is_fork_join_state, put_here, put_rows, can_going, grown_at, three_left, three_right, running_tells, ended_tells, wp, parr, ended_stops, step_taken, Ledger, heap_of, within, or_fresh, let_go, merged, emptied, forked_heap, allocated_by, allocated_in, at_fork, join_heaps, moved_on, moved_to, settled, stepped_to, task_step, has_no_caller, task_step_machine, heap_machine, heap_view, Rests, rested, StepsAlone, WritesOne, Knows, ForksTask, EndsTask, JoinsTasks, TasksCanJoin, LastKind, Forking, Ending, Joining, IsOfKind, IdleRest, OnlyAskersReserve, TaskIsAt, stepped_by}
+use Rattle.ledger_step_laws.proofs.Common.{◌≡◌, ℕ, ℤ, ◌+◌, ◌-◌, ◌%◌, ◌<◌, Bool, true, false, cond, arith, Option, Some, None, List, [], ◌∷◌, ◌++◌, length, slice_get, slice_set, ◌⊎◌, inl, inr, refl, ap, ap₂, sym, subst, ◌∙◌, is_none, is_some, nat_lt, false≢true, cases_eq, cond-true, cond-false, eqb-false, eq-eqb, got_same, got_other, got_within, same_view, view_step, got_some, Par, Ret, Line, ProgramText, Name, Object, Edge, Frame, TaskStatus, Running, Waiting, Joined, Task, Depth, Trapped, MachineState, words_asked, Effect, StepContext, effect, row_of, object_at, put_object, onward, setting, fetched, step, follow, returned_to, last_return, child_ended_by, or_same, last_of, ended_by, with_task, can_step, depth_limit, owner_of, owner_in, path_in, parents, parent_of, resumed, joined, is_running, is_waiting, is_joined, is_over, is_left, sibling, result_at, result_in, result_of, ended_task, join_of, joined_task, child, strand, strand_of, edge, runs, waits, asked, asked_by, asked_line, asked_at, waits_is, IsForkJoinState, step_is_fork_join_state, put_here, put_rows, can_going, grown_at, three_left, three_right, running_tells, ended_tells, wp, parr, ended_stops, step_taken, Ledger, heap_of, within, or_fresh, let_go, merged, emptied, forked_heap, allocated_by, allocated_in, at_fork, join_heaps, moved_on, moved_to, settled, stepped_to, task_step, has_no_caller, task_step_machine, heap_machine, heap_view, Rests, rested, StepsAlone, WritesOne, LedgerIsKnown, ForksTask, EndsTask, JoinsTasks, TasksCanJoin, LastKind, Forking, Ending, Joining, IsOfKind, IdleRest, OnlyAskersReserve, TaskIsAt, stepped_by}
 use Rattle.ledger_step_laws.proofs.Ahead.{put_other, with_off}
 use Rattle.ledger_step_laws.proofs.Rested.{rest_heaps, rested_worker}
 use Rattle.ledger_step_laws.proofs.Entries.{fork_is, fork_is_names, fork_names, join_is, within_rested}
@@ -105,7 +105,7 @@ module _ (p : ProgramText) (l : Ledger) (t : ℕ) (x : Task) (line : Line) (can 
   abbrev Good : Effect → Type 0
   Good e = effect s x.top m.store line.instr ≡ e → is_none (follow m t x line.number e).end ≡ true → LastStepCases
 
-  module _ (K : Knows l) (idle : IdleRest l) (spare : OnlyAskersReserve p l) where
+  module _ (K : LedgerIsKnown l) (idle : IdleRest l) (spare : OnlyAskersReserve p l) where
     -- A FORK
 
     abbrev new_edges : List Edge

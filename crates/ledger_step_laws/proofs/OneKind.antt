@@ -1,5 +1,5 @@
 -- A last step is of one kind only: the task that it leaves, the end, and the instruction determine it.
-use Rattle.ledger_step_laws.proofs.Common.{◌≡◌, ℕ, ℤ, Bool, true, false, cond, Option, Some, None, slice_get, slice_set, length, inl, inr, refl, ap, ap₂, sym, ◌∙◌, option_flatten, got_same, Instr, Set, Mov, Movr, Nil as NilOf, Calc, Same, Jmp, Jz, Newm, Pack, Getr, Geti, Putr, Puti, Cntr, Cnti, Freeze, Cas, Call, Par, Ret, Out, Line, ProgramText, Name, Object, Frame, TaskStatus, Running, Waiting, Ended, Joined, Task, End, MachineState, object_at, place_in, int_in, ref_in, same_name, onward, is_joined, is_over, Ledger, let_go, is_private, touched, heap_machine, LastKind, Private, Reading, Writing, Printing, Forking, Ending, Joining, Finishing, Halting, IsOfKind, IsApart, TaskIsAt, JustReads, Wrote}
+use Rattle.ledger_step_laws.proofs.Common.{◌≡◌, ℕ, ℤ, Bool, true, false, cond, Option, Some, None, slice_get, slice_set, length, inl, inr, refl, ap, ap₂, sym, ◌∙◌, option_flatten, got_same, Instr, Set, Mov, Movr, Nil as NilOf, Calc, Same, Jmp, Jz, Newm, Pack, Getr, Geti, Putr, Puti, Cntr, Cnti, Freeze, Cas, Call, Par, Ret, Out, Line, ProgramText, Name, Object, Frame, TaskStatus, Running, Waiting, Ended, Joined, Task, End, MachineState, object_at, place_in, int_in, ref_in, same_name, onward, is_joined, is_over, Ledger, let_go, is_private, touched, heap_machine, LastKind, Private, Reading, Writing, Printing, Forking, Ending, Joining, Finishing, Halting, IsOfKind, KindTellsPrivate, TaskIsAt, JustReads, ChangesByWrite}
 
 -- WHAT A COMPARE AND SWAP FINDS
 
@@ -96,7 +96,7 @@ module _ (p : ProgramText) (l l' : Ledger) (t : ℕ) (x : Task) (line : Line) (I
   reads_by Ret n y f r is J = absurd J
   reads_by (Out a) n y f r is J = absurd J
 
-  writes_by : (instr : Instr) (n : Name) (y y' : Object) (f : Frame) → touched x.top instr ≡ Some n → object_at l.machine.store n ≡ Some y → Wrote x instr y y' f → by_line l x instr ≡ Writing
+  writes_by : (instr : Instr) (n : Name) (y y' : Object) (f : Frame) → touched x.top instr ≡ Some n → object_at l.machine.store n ≡ Some y → ChangesByWrite x instr y y' f → by_line l x instr ≡ Writing
   writes_by (Putr o k v) n y y' f r is W = refl
   writes_by (Puti o k v) n y y' f r is W = refl
   writes_by (Cas d o k e v) n y y' f r is W = ap (λ b. cond b Writing Reading) (swap_is true n y o k e W.0 r is W.1 W.5)
@@ -124,7 +124,7 @@ module _ (p : ProgramText) (l l' : Ledger) (t : ℕ) (x : Task) (line : Line) (I
   set_task : (y : Task) (m' : MachineState) → l'.machine ≡ m' → m'.tasks ≡ slice_set l.machine.tasks t y → slice_get l'.machine.tasks t ≡ Some y
   set_task y m' e ts = ap (λ (m : MachineState). slice_get m.tasks t) e ∙ (ap (λ xs. slice_get xs t) ts ∙ got_same l.machine.tasks t x y I.task)
 
-  kind_is : (kind : LastKind) → IsOfKind p l l' t x line kind → IsApart p l t kind → told ≡ kind
+  kind_is : (kind : LastKind) → IsOfKind p l l' t x line kind → KindTellsPrivate p l t kind → told ≡ kind
   kind_is Private K a = ap (λ b. cond b Private (by_task (slice_get l'.machine.tasks t) x.parent (by_end l'.machine.end (by_line l x line.instr)))) K
   kind_is Reading K a =
       let e = ap (λ (z : Ledger). z.machine) K.goes in

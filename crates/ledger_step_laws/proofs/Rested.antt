@@ -1,5 +1,5 @@
 -- A task is released.
-use Rattle.ledger_step_laws.proofs.Common.{◌≡◌, ℕ, List, slice_set, Some, length, slice_get, ◌⊎◌, inl, inr, refl, ap, sym, subst, ◌∙◌, Option, None, cases_eq, Name, Heap, Ledger, heap_of, or_fresh, let_go, with_heap_at, SoundLedger, renewed, MachineState, IsStored, Closed, heap_machine, heap_view, ChangesHeap, Rests, rested, Knows}
+use Rattle.ledger_step_laws.proofs.Common.{◌≡◌, ℕ, List, slice_set, Some, length, slice_get, ◌⊎◌, inl, inr, refl, ap, sym, subst, ◌∙◌, Option, None, cases_eq, Name, Heap, Ledger, heap_of, or_fresh, let_go, with_heap_at, SoundLedger, renewed, MachineState, IsStored, Closed, heap_machine, heap_view, ChangesHeap, Rests, rested, LedgerIsKnown}
 use Rattle.ledger_step_laws.proofs.Ahead.{heap_then, with_at, with_off}
 
 pub name_cases : (m n : Name) → (m ≡ n) ⊎ (m ≡ n → ⊥)
@@ -37,7 +37,7 @@ rested_sound l t S = rested_sound_by_cases (slice_get l.heaps t) refl
     rested_sound_by_cases None e = S
     rested_sound_by_cases (Some h) e = renewed l.machine.tasks l.machine.edges l.machine.store l.heaps S t h (let_go h) e (λ n i. i) (λ n i. i) refl refl refl
 
-pub rested_knows : (l : Ledger) (t : ℕ) → Knows l → Knows (rested l t)
+pub rested_knows : (l : Ledger) (t : ℕ) → LedgerIsKnown l → LedgerIsKnown (rested l t)
 rested_knows l t K = record {
   sound = rested_sound l t K.sound;
   stored = subst (λ (m : MachineState). Closed m.tasks m.store (IsStored m)) (sym (heap_machine l t let_go)) K.stored;

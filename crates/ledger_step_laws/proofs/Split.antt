@@ -1,5 +1,5 @@
 -- An accepted entry of steps consists of private steps and one more of a known kind.
-use Rattle.ledger_step_laws.proofs.Common.{◌≡◌, ℕ, zero, suc, ◌+◌, ◌≤◌, ◌||◌, min, nat_le, arith, Bool, true, false, cond, Option, Some, None, List, ◌++◌, length, slice_get, replicate, inl, inr, refl, ap, sym, subst, ◌∙◌, is_none, false≢true, both_ways, and_parts, cond-true, leb-true, min-le_right, Line, ProgramText, IsProgram, Ran, EntryValue, SettingsValue, field_limit, Name, Task, MachineState, row_of, step, can_step, goes_on, is_running, fetched, run, run_from, asked, always_next, runs_is, step_cases, Heap, Ledger, heap_of, let_go, or_fresh, with_allocation, task_step, task_steps, standing, is_due, is_in_need, is_private, most_steps, stepped_to, allocated_in, allocated_by, refusal, kind_refusal, after, is_out, long_at, option_is, ledger_of, is_legal, tasks_of, machine_goes_on, task_steps_booked, none_unless, out_tells, entry_tells, entry_sound, accepted_on, legal_booked, legal_stocked, tasks_are_out_once, placed_worker, machine_is_run, kind_machine, task_step_machine, heap_machine, step_leaves, steps_last, task_steps_sound, collecting, held_is, run_root, run_on, can_going, ArePrivate, rested, StepsAlone, Knows, Leaves, GoesOn, IsApart, IdleRest, OnlyAskersReserve, TaskIsAt, IsOfKind, LastKind, Splits, RunsPrivateSteps}
+use Rattle.ledger_step_laws.proofs.Common.{◌≡◌, ℕ, zero, suc, ◌+◌, ◌≤◌, ◌||◌, min, nat_le, arith, Bool, true, false, cond, Option, Some, None, List, ◌++◌, length, slice_get, replicate, inl, inr, refl, ap, sym, subst, ◌∙◌, is_none, false≢true, both_ways, and_parts, cond-true, leb-true, min-le_right, Line, ProgramText, IsProgram, Ran, EntryValue, SettingsValue, field_limit, Name, Task, MachineState, row_of, step, can_step, goes_on, is_running, fetched, run, run_from, asked, always_next, runs_is, step_cases, Heap, Ledger, heap_of, let_go, or_fresh, with_allocation, task_step, task_steps, standing, is_due, is_in_need, is_private, most_steps, stepped_to, allocated_in, allocated_by, refusal, kind_refusal, after, is_out, long_at, option_is, ledger_of, is_legal, tasks_of, machine_goes_on, task_steps_booked, none_unless, out_tells, entry_tells, entry_sound, accepted_on, legal_booked, legal_stocked, tasks_are_out_once, placed_worker, machine_is_run, kind_machine, task_step_machine, heap_machine, step_leaves, steps_last, task_steps_sound, collecting, held_is, run_root, run_on, can_going, ArePrivate, rested, StepsAlone, LedgerIsKnown, Leaves, GoesOn, KindTellsPrivate, IdleRest, OnlyAskersReserve, TaskIsAt, IsOfKind, LastKind, Splits, RunsPrivateSteps}
 use Rattle.ledger_step_laws.proofs.Ahead.{heap_after, with_at, with_off, heap_then, steps_alone_all}
 use Rattle.ledger_step_laws.proofs.Along.{step_knows, steps_know}
 use Rattle.ledger_step_laws.proofs.Commute.{alike_self, goes_running, goes_can}
@@ -56,7 +56,7 @@ module _ (p : ProgramText) (s : SettingsValue) (t : ℕ) where
   steps_worker (suc k) l h = steps_worker k (task_step p l t) h.3 ∙ worker_step l h.2
 
   -- and the task runs on
-  pub steps_go : (k : ℕ) (l : Ledger) (x : Task) → Knows l → collecting (slice_get l.heaps t) ≡ false → slice_get l.machine.tasks t ≡ Some x → is_running (Some x) ≡ true → can_step l.machine t ≡ true → ArePrivate p s l t k
+  pub steps_go : (k : ℕ) (l : Ledger) (x : Task) → LedgerIsKnown l → collecting (slice_get l.heaps t) ≡ false → slice_get l.machine.tasks t ≡ Some x → is_running (Some x) ≡ true → can_step l.machine t ≡ true → ArePrivate p s l t k
       → (y : Task) × (slice_get (task_steps p l t k).machine.tasks t ≡ Some y) × (is_running (Some y) ≡ true) × (can_step (task_steps p l t k).machine t ≡ true)
   steps_go zero l x K c is run can h = (x, is, run, can)
   steps_go (suc k) l x K c is run can h =
@@ -113,7 +113,7 @@ module _ (p : ProgramText) (s : SettingsValue) (journal : List EntryValue) (w t 
   pub stand : ArePrivate p s l t k × (is_due s p lj t ≡ false) × (is_in_need p lj t ≡ false)
   stand = stands p s t k l fits_one
 
-  K : Knows l
+  K : LedgerIsKnown l
   K = legal_knows p s journal legal
 
   task_there : (x : Task) × (slice_get l.machine.tasks t ≡ Some x) × (is_running (Some x) ≡ true)
@@ -129,7 +129,7 @@ module _ (p : ProgramText) (s : SettingsValue) (journal : List EntryValue) (w t 
   pub goes : (y : Task) × (slice_get lj.machine.tasks t ≡ Some y) × (is_running (Some y) ≡ true) × (can_step lj.machine t ≡ true)
   goes = steps_go p s t k l task_there.0 K out.1 task_there.1 task_there.2 can stand.0
 
-  pub knows : Knows lj
+  pub knows : LedgerIsKnown lj
   knows = steps_know p s t k l task_there.0 K (inr out.1) task_there.1 task_there.2 can stand.0
 
   pub idle : IdleRest lj
@@ -150,8 +150,8 @@ module _ (p : ProgramText) (s : SettingsValue) (journal : List EntryValue) (w t 
   task_is_at : TaskIsAt p lj t goes.0 next.0
   task_is_at = record { task = goes.1; runs = runs_is goes.0.status goes.2; next = next.1 }
 
-  known : (kind : LastKind) × IsOfKind p lj (after p s l (record { worker = w; kind = Ran t (suc k) })) t goes.0 next.0 kind × (GoesOn kind → (after p s l (record { worker = w; kind = Ran t (suc k) })).machine.end ≡ None) × IsApart p lj t kind
-  known = subst (λ (z : Ledger). (kind : LastKind) × IsOfKind p lj z t goes.0 next.0 kind × (GoesOn kind → z.machine.end ≡ None) × IsApart p lj t kind) (sym (steps_last p l t k)) (last_step p lj t goes.0 next.0 knows idle spare goes.3 task_is_at)
+  known : (kind : LastKind) × IsOfKind p lj (after p s l (record { worker = w; kind = Ran t (suc k) })) t goes.0 next.0 kind × (GoesOn kind → (after p s l (record { worker = w; kind = Ran t (suc k) })).machine.end ≡ None) × KindTellsPrivate p lj t kind
+  known = subst (λ (z : Ledger). (kind : LastKind) × IsOfKind p lj z t goes.0 next.0 kind × (GoesOn kind → z.machine.end ≡ None) × KindTellsPrivate p lj t kind) (sym (steps_last p l t k)) (last_step p lj t goes.0 next.0 knows idle spare goes.3 task_is_at)
 
   pub split : Splits p s l (after p s l (record { worker = w; kind = Ran t (suc k) })) t k
   split = record {
@@ -189,7 +189,7 @@ module _ (p : ProgramText) (s : SettingsValue) (journal : List EntryValue) (w t 
       limit m = step_cases p lj.machine t knows.sound.fork_join (λ m. m.field_limit ≡ lj.machine.field_limit) refl (λ x e i r h. refl) (λ x y store outs i r a b c d e f g h. refl) (λ x o e i r a b c. refl) (λ x g h i r a b. refl)
           (λ o c xp xl xr rl rr a b d e f g h i j k' n q. refl)
 
-  pub split_leaves : ((heap_of lj t).worker ≡ Some w) × (can_step lj.machine t ≡ true) × Knows lj × IdleRest lj
+  pub split_leaves : ((heap_of lj t).worker ≡ Some w) × (can_step lj.machine t ≡ true) × LedgerIsKnown lj × IdleRest lj
       × ((u : ℕ) → (u ≡ t → ⊥) → is_running (slice_get l.machine.tasks u) ≡ true → (after p s l (record { worker = w; kind = Ran t (suc k) })).machine.end ≡ None → Leaves u (rested lj t) (after p s l (record { worker = w; kind = Ran t (suc k) })))
   split_leaves = (steps_worker p s t k l stand.0 ∙ holds, goes.3, knows, idle, leaves)
 

@@ -89,7 +89,7 @@ pub record Leaves (u : ℕ) (l l' : Ledger) : Type 0 where
   pub heap : slice_get l'.heaps u ≡ slice_get l.heaps u
 
 -- what is known of each of them
-pub record Knows (l : Ledger) : Type 0 where
+pub record LedgerIsKnown (l : Ledger) : Type 0 where
   pub sound : SoundLedger l
   pub stored : Closed l.machine.tasks l.machine.store (IsStored l.machine)
   pub rows : length l.machine.store ≡ length l.machine.tasks

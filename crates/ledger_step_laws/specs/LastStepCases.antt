@@ -3,7 +3,7 @@
 use Rattle.std.specs.Prelude.{◌≡◌, ◌⊎◌, ℕ, ℤ, pos, ◌+◌, true, false, Option, Some, None, [], ◌∷◌, ◌++◌, slice_get, slice_set, length}
 use Rattle.std.specs.Option.{option_flatten}
 use Rattle.ledger_step_laws.specs.Common.{Instr, Getr, Geti, Putr, Puti, Cntr, Cnti, Cas, Par, Out, Line, ProgramText, SettingsValue, Name, Object, Frame, Running, Task, End, Done, MachineState, Goes, effect, object_at, put_object, onward, int_in, ref_in, with_int, place_in, same_name, asked, fetched, setting, is_running, result_at, result_of, parents as parents_in, Ledger, Machine, within, is_private, is_due, is_in_need, task_step, task_steps, touched, collecting, heap_of, can_step}
-use Rattle.ledger_step_laws.specs.Accounts.{Knows, Leaves, own, Rests, rested, ArePrivate, StepsAlone, WritesOne}
+use Rattle.ledger_step_laws.specs.Accounts.{LedgerIsKnown, Leaves, own, Rests, rested, ArePrivate, StepsAlone, WritesOne}
 use Rattle.ledger_step_laws.specs.Kinds.{ForksTask, EndsTask, JoinsTasks, TasksCanJoin}
 
 -- no worker holds a task that doesn't run
@@ -49,15 +49,15 @@ pub record ReadsOther (l l' : Ledger) (t : ℕ) (x : Task) (line : Line) : Type 
   pub alone : StepsAlone l l' t
 
 -- how a write changes the object y and the frame: a reference, a number, or a reference in place of the expected one
-abbrev pub Wrote : Task → Instr → Object → Object → Frame → Type 0
-Wrote x (Putr o k v) y y' f =
+abbrev pub ChangesByWrite : Task → Instr → Object → Object → Frame → Type 0
+ChangesByWrite x (Putr o k v) y y' f =
     (i : ℕ) × (place_in (length y.refs) (int_in x.top k) ≡ Some i) × (y.mutable ≡ true) × (y' ≡ record y { refs = slice_set y.refs i (ref_in x.top v) }) × (f ≡ onward x.top)
-Wrote x (Puti o k v) y y' f =
+ChangesByWrite x (Puti o k v) y y' f =
     (i : ℕ) × (place_in (length y.ints) (int_in x.top k) ≡ Some i) × (y.mutable ≡ true) × (y' ≡ record y { ints = slice_set y.ints i (int_in x.top v) }) × (f ≡ onward x.top)
-Wrote x (Cas d o k e v) y y' f =
+ChangesByWrite x (Cas d o k e v) y y' f =
     (i : ℕ) × (place_in (length y.refs) (int_in x.top k) ≡ Some i) × (y.mutable ≡ true) × (y' ≡ record y { refs = slice_set y.refs i (ref_in x.top v) }) × (f ≡ onward (with_int x.top d (pos 1)))
     × (same_name (option_flatten (slice_get y.refs i)) (ref_in x.top e) ≡ true)
-Wrote x _ y y' f = ⊥
+ChangesByWrite x _ y y' f = ⊥
 
 -- it writes one
 pub record WritesOther (l l' : Ledger) (t : ℕ) (x : Task) (line : Line) : Type 0 where
@@ -67,7 +67,7 @@ pub record WritesOther (l l' : Ledger) (t : ℕ) (x : Task) (line : Line) : Type
   pub frame : Frame
   pub touches : touched x.top line.instr ≡ Some name
   pub foreign : own l name ≡ t → ⊥
-  pub wrote : Wrote x line.instr object written frame
+  pub wrote : ChangesByWrite x line.instr object written frame
   pub does : effect (setting l.machine t x) x.top l.machine.store line.instr ≡ Goes frame (put_object l.machine.store name written)
   pub goes : l' ≡ stepped_by l (record l.machine { tasks = slice_set l.machine.tasks t (record x { top = frame }); store = put_object l.machine.store name written })
   pub writes : WritesOne (rested l t) (rested l' t) t name object written
@@ -162,9 +162,9 @@ IsOfKind p l l' t x line Finishing = LastStepEndsRun l l' t x
 IsOfKind p l l' t x line Halting = Halts l l'
 
 -- of any kind but the first, it isn't private
-abbrev pub IsApart : ProgramText → Ledger → ℕ → LastKind → Type 0
-IsApart p l t Private = Unit {0}
-IsApart p l t _ = is_private p l.machine t ≡ false
+abbrev pub KindTellsPrivate : ProgramText → Ledger → ℕ → LastKind → Type 0
+KindTellsPrivate p l t Private = Unit {0}
+KindTellsPrivate p l t _ = is_private p l.machine t ≡ false
 
 -- the run goes on after it
 abbrev pub GoesOn : LastKind → Type 0
@@ -184,13 +184,13 @@ pub record Splits (p : ProgramText) (s : SettingsValue) (l l' : Ledger) (t j : �
   pub after : l' ≡ task_step p (task_steps p l t j) t
   pub kind : LastKind
   pub last : IsOfKind p (task_steps p l t j) l' t task line kind
-  pub apart : IsApart p (task_steps p l t j) t kind
+  pub apart : KindTellsPrivate p (task_steps p l t j) t kind
   pub on : GoesOn kind → l'.machine.end ≡ None
 
 -- an accepted entry of k private steps of t and one more, by the worker w
 pub record RunsPrivateSteps (p : ProgramText) (s : SettingsValue) (l l' : Ledger) (t w k : ℕ) : Type 0 where
-  pub knows : Knows l
-  pub knows_then : Knows l'
+  pub knows : LedgerIsKnown l
+  pub knows_then : LedgerIsKnown l'
   pub task : Task
   pub at : slice_get l.machine.tasks t ≡ Some task
   pub runs : is_running (Some task) ≡ true

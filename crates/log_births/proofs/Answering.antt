@@ -1,5 +1,5 @@
 -- What a check answers at an act is what is so there.
-use Rattle.log_births.proofs.Common.{◌≡◌, ◌↔◌, ◌+◌, ◌∙◌, ℕ, List, length, refl, sym, ap, subst, Option, Some, None, slice_get, same_Some, slice_get_within, GraphTurn, GraphStrand, tasks_in, IsSerialOrder, WalkValue, LogTasks, log_strand, StandsAt, StandsNowhere, Act, Event, event, LineAt, BlockLines, Lifetimes, Finding, DoesToBlock, line_told, DoesToBlockAt, IsLineOf, Know, IsFound, IsAdded, IsDoneOnce, IsScene, AreJustBelow}
+use Rattle.log_births.proofs.Common.{◌≡◌, ◌↔◌, ◌+◌, ◌∙◌, ℕ, List, length, refl, sym, ap, subst, Option, Some, None, slice_get, same_Some, slice_get_within, GraphTurn, GraphStrand, tasks_in, IsSerialOrder, WalkValue, LogTasks, log_strand, StrandStandsAt, StandsNowhere, Act, Event, event, LineAt, BlockLines, Lifetimes, Finding, DoesToBlock, line_told, DoesToBlockAt, IsLineOf, Know, IsFindingAt, IsAdded, IsDoneOnce, IsScene, AreJustBelow}
 use Rattle.log_births.proofs.Standing.{walk_is_serial, one_strand, done_at, at_done}
 use Rattle.log_births.proofs.Adding.{same_finding, answer_found}
 
@@ -43,7 +43,7 @@ module _ (tasks : LogTasks) (events : List Event) (walk : WalkValue) (known : Li
         let all = serial.all v d.attached in
         nowhere all.0 (record { strand = v; at = all.1; known = d.known; is = ap (λ (x : Event). x.strand) same })
 
-    module _ (place : ℕ) (stands : StandsAt tasks walk.order s place) where
+    module _ (place : ℕ) (stands : StrandStandsAt tasks walk.order s place) where
       seen_block : (b : ℕ) (v : GraphStrand) → DoesToBlock sees events tasks b n v → sees a ≡ Some b
       seen_block b v d = ap (λ (x : Event). sees x.act) (same_event n (event s a) (event (log_strand tasks.numbers v) d.act) at d.at) ∙ d.block
 
@@ -65,7 +65,7 @@ module _ (tasks : LogTasks) (events : List Event) (walk : WalkValue) (known : Li
           pub seen : DoesToBlock sees events tasks f.block f.line second
           pub bad : IsBad first second
 
-        sound : (answer : Option Finding) → IsFound Bad (line_told table) (sees a) (record { place = place; line = n }) answer → (f : Finding) → answer ≡ Some f → (f.line ≡ n) × IsSo f
+        sound : (answer : Option Finding) → IsFindingAt Bad (line_told table) (sees a) (record { place = place; line = n }) answer → (f : Finding) → answer ≡ Some f → (f.line ≡ n) × IsSo f
         sound None h f e = absurd (let z : None ≡ Some f = e in cc)
         sound (Some g) h f e = subst (λ (x : Finding). (x.line ≡ n) × IsSo x) (same_Some g f e) (
           h.3,
@@ -81,7 +81,7 @@ module _ (tasks : LogTasks) (events : List Event) (walk : WalkValue) (known : Li
             told : DoesToBlockAt does tasks walk.order events g.block h.0.line h.0.place
             told = told_does does table know once g.block h.0 h.2
 
-        complete : (answer : Option Finding) → IsFound Bad (line_told table) (sees a) (record { place = place; line = n }) answer → (f : Finding) → f.line ≡ n → IsSo f → answer ≡ Some f
+        complete : (answer : Option Finding) → IsFindingAt Bad (line_told table) (sees a) (record { place = place; line = n }) answer → (f : Finding) → f.line ≡ n → IsSo f → answer ≡ Some f
         complete answer h f line so = by_answer answer h
           where
             complete_here : DoesToBlock sees events tasks f.block n so.second
@@ -93,7 +93,7 @@ module _ (tasks : LogTasks) (events : List Event) (walk : WalkValue) (known : Li
             is_bad : Bad told.line.place place
             is_bad = (same told.line.place place so.first so.second told.at (stands.at ∙ ap (λ (v : GraphStrand). Some v) (seen_strand f.block so.second complete_here))).1 so.bad
 
-            by_answer : (o : Option Finding) → IsFound Bad (line_told table) (sees a) (record { place = place; line = n }) o → o ≡ Some f
+            by_answer : (o : Option Finding) → IsFindingAt Bad (line_told table) (sees a) (record { place = place; line = n }) o → o ≡ Some f
             by_answer None none = absurd (none f.block told.line (seen_block f.block so.second complete_here) told.told is_bad)
             by_answer (Some g) one =
                 let block : g.block ≡ f.block = same_Some g.block f.block (sym one.1 ∙ seen_block f.block so.second complete_here) in

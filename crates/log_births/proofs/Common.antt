@@ -2,16 +2,16 @@
 pub use Rattle.ancestor_laws.proofs.Serial.{serial_order_extends, levels_are_few}
 pub use Rattle.ancestor_laws.proofs.Walks.{both}
 pub use Rattle.ancestor_laws.specs.Serial.{IsSerialOrder}
-pub use Rattle.fork_graph.specs.Graph.{tasks_in, strand, Precedes}
+pub use Rattle.fork_graph.specs.Graph.{tasks_in, strand, StrandPrecedes}
 pub use Rattle.fork_graph.specs.declared.fault.Extent.{Extent}
 pub use Rattle.fork_graph.specs.declared.graph.GraphStrand.{GraphStrand}
 pub use Rattle.fork_graph.specs.declared.graph.GraphTurn.{GraphTurn}
 pub use Rattle.log_births.specs.Blocks.{born, released, yielded, used}
-pub use Rattle.log_births.specs.Checks.{IsFound, IsAdded, AreBothWithin, PrecedesAt, IsEarly, IsLate, AreAdded}
+pub use Rattle.log_births.specs.Checks.{IsFindingAt, IsAdded, AreBothWithin, PrecedesAt, IsEarly, IsLate, AreAdded}
 pub use Rattle.log_births.specs.Findings.{DoesToBlock, AreFindings, IsEntangled, IsEntangledRead, IsEntangledUse, IsStaleUse, AreJust}
 pub use Rattle.log_births.specs.Found.{IsDoneOnce, AreJustBelow, IsScene, AreFoundBelow}
 pub use Rattle.log_births.specs.Laws.{UsesTellReads}
-pub use Rattle.log_births.specs.Lines.{line_told, DoesToBlockAt, IsLineOf, Know, IsPart, KnowAll, noted}
+pub use Rattle.log_births.specs.Lines.{line_told, DoesToBlockAt, IsLineOf, Know, IsPart, KnowAll, birth_noted}
 pub use Rattle.log_births.specs.declared.findings.Finding.{Finding}
 pub use Rattle.log_births.specs.declared.findings.Findings.{Findings}
 pub use Rattle.log_births.specs.declared.lines.BlockLines.{BlockLines}
@@ -20,7 +20,7 @@ pub use Rattle.log_births.specs.declared.lines.LineAt.{LineAt}
 pub use Rattle.log_pieces.specs.Pieces.{text_at, acts_in, events_of_pieces, on_strand, acts_of_piece, events_in}
 pub use Rattle.log_pieces.specs.declared.piece.LogPiece.{LogPiece}
 pub use Rattle.log_strands.proofs.Counted.{no_more}
-pub use Rattle.log_strands.specs.Places.{StandsAt, StandsNowhere, IsPlaceOf, ArePiecePlaces, is_up_to, is_known}
+pub use Rattle.log_strands.specs.Places.{StrandStandsAt, StandsNowhere, IsPlaceOf, ArePiecePlaces, is_up_to, is_known}
 pub use Rattle.log_strands.specs.below.log_form.{events_of, log_fault, bears, releases, Event, event}
 pub use Rattle.log_strands.specs.below.log_lines.{Act, Access, Yield, Store, Birth, Release, Work, Spawn, Join, Finish}
 pub use Rattle.log_tasks.proofs.Accepted.{born_once, released_once}

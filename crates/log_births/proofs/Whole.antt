@@ -1,5 +1,5 @@
 -- All that is found.
-use Rattle.log_births.proofs.Common.{◌≡◌, ◌≢◌, ◌↔◌, ◌<◌, ◌+◌, ◌∙◌, ℕ, List, [], length, sym, ap, subst, Option, Some, None, slice_get, arith, IfSome, length-map, same_Some, slice_get_within, get_or_from_slice_get, got_some, GraphTurn, GraphStrand, Extent, tasks_in, strand, Precedes, strand_at, WalkValue, IsWalked, LogPiece, LogTasks, IsLog, IsPlaceOf, ArePiecePlaces, Act, Event, event, events_of, log_fault, LineAt, Lifetimes, Finding, Findings, born, released, yielded, used, DoesToBlock, IsEntangled, IsEntangledRead, IsEntangledUse, IsStaleUse, AreJust, AreFindings, line_told, IsLineOf, KnowAll, AreBothWithin, PrecedesAt, IsEarly, IsLate, AreAdded, IsScene, AreJustBelow, AreFoundBelow}
+use Rattle.log_births.proofs.Common.{◌≡◌, ◌≢◌, ◌↔◌, ◌<◌, ◌+◌, ◌∙◌, ℕ, List, [], length, sym, ap, subst, Option, Some, None, slice_get, arith, IfSome, length-map, same_Some, slice_get_within, get_or_from_slice_get, got_some, GraphTurn, GraphStrand, Extent, tasks_in, strand, StrandPrecedes, strand_at, WalkValue, IsWalked, LogPiece, LogTasks, IsLog, IsPlaceOf, ArePiecePlaces, Act, Event, event, events_of, log_fault, LineAt, Lifetimes, Finding, Findings, born, released, yielded, used, DoesToBlock, IsEntangled, IsEntangledRead, IsEntangledUse, IsStaleUse, AreJust, AreFindings, line_told, IsLineOf, KnowAll, AreBothWithin, PrecedesAt, IsEarly, IsLate, AreAdded, IsScene, AreJustBelow, AreFoundBelow}
 use Rattle.log_births.proofs.Accepted.{one_birth, one_release}
 use Rattle.log_births.proofs.Adding.{none_found}
 use Rattle.log_births.proofs.Answering.{serial, not_seen, added, IsSo}
@@ -8,22 +8,22 @@ use Rattle.log_births.proofs.Answering.{serial, not_seen, added, IsSo}
 
 module _ (tasks : LogTasks) (events : List Event) (walk : WalkValue) (known : Lifetimes) (scene : IsScene tasks events walk known) where
   module _ (p q : ℕ) (u v : GraphStrand) (at_p : slice_get walk.order p ≡ Some u) (at_q : slice_get walk.order q ≡ Some v) where
-    at_strands : PrecedesAt walk p q ≡ Precedes (tasks_in tasks.turns) u v
+    at_strands : PrecedesAt walk p q ≡ StrandPrecedes (tasks_in tasks.turns) u v
     at_strands =
-        ap (λ (rows : List (List GraphTurn)). Precedes (tasks_in rows) (strand_at walk.order p) (strand_at walk.order q)) scene.turns
-        ∙ ap (λ (x : GraphStrand). Precedes (tasks_in tasks.turns) x (strand_at walk.order q)) (get_or_from_slice_get walk.order p u (strand 0 0) at_p)
-        ∙ ap (λ (x : GraphStrand). Precedes (tasks_in tasks.turns) u x) (get_or_from_slice_get walk.order q v (strand 0 0) at_q)
+        ap (λ (rows : List (List GraphTurn)). StrandPrecedes (tasks_in rows) (strand_at walk.order p) (strand_at walk.order q)) scene.turns
+        ∙ ap (λ (x : GraphStrand). StrandPrecedes (tasks_in tasks.turns) x (strand_at walk.order q)) (get_or_from_slice_get walk.order p u (strand 0 0) at_p)
+        ∙ ap (λ (x : GraphStrand). StrandPrecedes (tasks_in tasks.turns) u x) (get_or_from_slice_get walk.order q v (strand 0 0) at_q)
 
-    precedes_by_position : PrecedesAt walk p q → Precedes (tasks_in tasks.turns) u v
+    precedes_by_position : PrecedesAt walk p q → StrandPrecedes (tasks_in tasks.turns) u v
     precedes_by_position h = subst (λ (X : Type 0). X) at_strands h
 
-    back : Precedes (tasks_in tasks.turns) u v → PrecedesAt walk p q
+    back : StrandPrecedes (tasks_in tasks.turns) u v → PrecedesAt walk p q
     back h = subst (λ (X : Type 0). X) (sym at_strands) h
 
-    early : IsEarly walk p q ↔ (Precedes (tasks_in tasks.turns) u v → ⊥)
+    early : IsEarly walk p q ↔ (StrandPrecedes (tasks_in tasks.turns) u v → ⊥)
     early = (λ h e. h (back e), λ h e. h (precedes_by_position e))
 
-    late : IsLate walk p q ↔ ((u ≢ v) × Precedes (tasks_in tasks.turns) u v)
+    late : IsLate walk p q ↔ ((u ≢ v) × StrandPrecedes (tasks_in tasks.turns) u v)
     late = (
       λ h. ((λ e. h.0 ((serial tasks events walk known scene).once p q v (at_p ∙ ap (λ (x : GraphStrand). Some x) e) at_q)), precedes_by_position h.1),
       λ h. ((λ e. h.0 (same_Some u v (sym at_p ∙ ap (slice_get walk.order) e ∙ at_q))), back h.1),
@@ -39,25 +39,25 @@ module _ (tasks : LogTasks) (events : List Event) (walk : WalkValue) (known : Li
     })
     found_by (Some place) stands before after h found = record {
       reads =
-          added tasks events walk known scene n s a at yielded place stands born known.births scene.all.births scene.born_once (IsEarly walk) (λ u v. Precedes (tasks_in tasks.turns) u v → ⊥) early
+          added tasks events walk known scene n s a at yielded place stands born known.births scene.all.births scene.born_once (IsEarly walk) (λ u v. StrandPrecedes (tasks_in tasks.turns) u v → ⊥) early
           (IsEntangledRead events tasks) (λ f. as_early yielded f) before.reads after.reads h.reads found.reads;
       uses =
-          added tasks events walk known scene n s a at used place stands born known.births scene.all.births scene.born_once (IsEarly walk) (λ u v. Precedes (tasks_in tasks.turns) u v → ⊥) early
+          added tasks events walk known scene n s a at used place stands born known.births scene.all.births scene.born_once (IsEarly walk) (λ u v. StrandPrecedes (tasks_in tasks.turns) u v → ⊥) early
           (IsEntangledUse events tasks) (λ f. as_early used f) before.uses after.uses h.uses found.uses;
       stale =
-          added tasks events walk known scene n s a at used place stands released known.releases scene.all.releases scene.released_once (IsLate walk) (λ u v. (u ≢ v) × Precedes (tasks_in tasks.turns) u v) late
+          added tasks events walk known scene n s a at used place stands released known.releases scene.all.releases scene.released_once (IsLate walk) (λ u v. (u ≢ v) × StrandPrecedes (tasks_in tasks.turns) u v) late
           (IsStaleUse events tasks) (λ f. as_late f) before.stale after.stale h.stale found.stale;
     }
       where
         as_early : (sees : Act → Option ℕ) (f : Finding)
-            → IsEntangled sees events tasks f ↔ IsSo tasks events walk known scene n s a at sees place stands born known.births scene.all.births scene.born_once (IsEarly walk) (λ u v. Precedes (tasks_in tasks.turns) u v → ⊥) early f
+            → IsEntangled sees events tasks f ↔ IsSo tasks events walk known scene n s a at sees place stands born known.births scene.all.births scene.born_once (IsEarly walk) (λ u v. StrandPrecedes (tasks_in tasks.turns) u v → ⊥) early f
         as_early sees f = (
           λ is. record { first = is.birth; second = is.strand; done = is.born_there; seen = is.seen_here; bad = is.not_before },
           λ so. record { birth = so.first; strand = so.second; born_there = so.done; seen_here = so.seen; not_before = so.bad },
         )
 
         as_late : (f : Finding)
-            → IsStaleUse events tasks f ↔ IsSo tasks events walk known scene n s a at used place stands released known.releases scene.all.releases scene.released_once (IsLate walk) (λ u v. (u ≢ v) × Precedes (tasks_in tasks.turns) u v) late f
+            → IsStaleUse events tasks f ↔ IsSo tasks events walk known scene n s a at used place stands released known.releases scene.all.releases scene.released_once (IsLate walk) (λ u v. (u ≢ v) × StrandPrecedes (tasks_in tasks.turns) u v) late f
         as_late f = (
           λ is. record { first = is.release; second = is.strand; done = is.released_there; seen = is.used_here; bad = (is.apart, is.before) },
           λ so. record { release = so.first; strand = so.second; released_there = so.done; used_here = so.seen; before = so.bad.1; apart = so.bad.0 },

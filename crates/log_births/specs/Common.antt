@@ -1,8 +1,8 @@
 -- The names of lower crates that these specifications use. Declares nothing.
-pub use Rattle.fork_graph.specs.Graph.{tasks_in, Precedes, IsAttached}
+pub use Rattle.fork_graph.specs.Graph.{tasks_in, StrandPrecedes, IsAttached}
 pub use Rattle.fork_graph.specs.declared.graph.GraphStrand.{GraphStrand}
 pub use Rattle.log_pieces.specs.Pieces.{on_strand}
-pub use Rattle.log_strands.specs.Places.{is_known, StandsAt}
+pub use Rattle.log_strands.specs.Places.{is_known, StrandStandsAt}
 pub use Rattle.log_strands.specs.below.log_form.{Event, event}
 pub use Rattle.log_strands.specs.below.log_lines.{Act}
 pub use Rattle.log_tasks.specs.Numbers.{log_strand}

@@ -1,7 +1,7 @@
 -- Reads and uses of blocks that come too early or too late.
 use Rattle.std.specs.Prelude.{◌≡◌, ◌≢◌, ◌↔◌, ℕ, true, Option, Some, List, map, slice_get}
 use Rattle.std.specs.List.Sorted.{IsStrictlyIncreasing}
-use Rattle.log_births.specs.Common.{In, GraphStrand, tasks_in, Precedes, IsAttached, LogTasks, log_strand, is_known, Act, Event, event}
+use Rattle.log_births.specs.Common.{In, GraphStrand, tasks_in, StrandPrecedes, IsAttached, LogTasks, log_strand, is_known, Act, Event, event}
 use Rattle.log_births.specs.declared.findings.Finding.{Finding}
 use Rattle.log_births.specs.declared.findings.Findings.{Findings}
 use Rattle.log_births.specs.Blocks.{born, released, yielded, used}
@@ -24,7 +24,7 @@ pub record IsEntangled (sees : Act → Option ℕ) (events : List Event) (tasks 
   pub strand : GraphStrand
   pub born_there : DoesToBlock born events tasks f.block f.other birth
   pub seen_here : DoesToBlock sees events tasks f.block f.line strand
-  pub not_before : Precedes (tasks_in tasks.turns) birth strand → ⊥
+  pub not_before : StrandPrecedes (tasks_in tasks.turns) birth strand → ⊥
 
 -- a read that yields the block
 abbrev pub IsEntangledRead : List Event → LogTasks → Finding → Type 0
@@ -40,7 +40,7 @@ pub record IsStaleUse (events : List Event) (tasks : LogTasks) (f : Finding) : T
   pub strand : GraphStrand
   pub released_there : DoesToBlock released events tasks f.block f.other release
   pub used_here : DoesToBlock used events tasks f.block f.line strand
-  pub before : Precedes (tasks_in tasks.turns) release strand
+  pub before : StrandPrecedes (tasks_in tasks.turns) release strand
   pub apart : release ≢ strand
 
 -- just those that are so, each once, in the order of their lines

@@ -1,7 +1,7 @@
 -- What is known of births and releases.
 use Rattle.std.specs.Prelude.{◌≡◌, ◌<◌, ◌++◌, ℕ, Option, Some, None, List, length, slice_get, nat_eq, MatchOption, if◌then◌else◌}
 use Rattle.std.specs.HashMap.{get}
-use Rattle.log_births.specs.Common.{option_is, GraphStrand, on_strand, LogTasks, StandsAt, Act, Event}
+use Rattle.log_births.specs.Common.{option_is, GraphStrand, on_strand, LogTasks, StrandStandsAt, Act, Event}
 use Rattle.log_births.specs.declared.lines.LineAt.{LineAt}
 use Rattle.log_births.specs.declared.lines.BlockLines.{BlockLines}
 use Rattle.log_births.specs.declared.lines.Lifetimes.{Lifetimes}
@@ -11,9 +11,9 @@ abbrev pub line_told : BlockLines → ℕ → Option LineAt
 line_told known b = get nat_eq known.lines b
 
 -- what is known of block b after an act that does something to a block
-abbrev pub noted : Option ℕ → Option ℕ → ℕ → ℕ → Option LineAt → Option LineAt
-noted block None line b before = before
-noted block (Some place) line b before = if option_is block b then Some (record { place = place; line = line }) else before
+abbrev pub birth_noted : Option ℕ → Option ℕ → ℕ → ℕ → Option LineAt → Option LineAt
+birth_noted block None line b before = before
+birth_noted block (Some place) line b before = if option_is block b then Some (record { place = place; line = line }) else before
 
 -- these acts of strand s are those of the log from one on
 pub record IsPart (events : List Event) (first : ℕ) (s : GraphStrand) (acts : List Act) : Type 0 where
@@ -27,7 +27,7 @@ pub record DoesToBlockAt (does : Act → Option ℕ) (tasks : LogTasks) (order :
   pub event : Event
   pub at : slice_get events n ≡ Some event
   pub block : does event.act ≡ Some b
-  pub stands : StandsAt tasks order event.strand place
+  pub stands : StrandStandsAt tasks order event.strand place
 
 -- of the acts below n one that does something to the block, if there is one
 abbrev pub IsLineOf : (Act → Option ℕ) → LogTasks → List GraphStrand → List Event → ℕ → ℕ → Option LineAt → Type 0

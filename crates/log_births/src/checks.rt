@@ -3,7 +3,7 @@
 ghost use Rattle.std.specs.Prelude.{◌≡◌, ◌<◌, ◌++◌, OnOk, IfSome, length, option_to_list};
 ghost use Rattle.log_births.specs.Blocks.{yielded, used};
 ghost use Rattle.log_births.specs.Lines.{line_told};
-ghost use Rattle.log_births.specs.Checks.{AreWithin, AreBothWithin, IsEarly, IsLate, IsFound, IsAdded, AreAdded};
+ghost use Rattle.log_births.specs.Checks.{LinesAreWithin, AreBothWithin, IsEarly, IsLate, IsFindingAt, IsAdded, AreAdded};
 
 use crate::acts::{used, yielded};
 use crate::findings::{Finding, Findings};
@@ -16,8 +16,8 @@ use std::alloc::AllocError;
 // What is found where an act sees a block: that the block's birth doesn't happen before it.
 fn early(walk: &SerialWalk, births: &BlockLines, block: Option<u64>, at: LineAt) -> Option<Finding>
     requires place { at.place < length walk.now.order }
-    requires within { AreWithin walk.now births.now }
-    ensures { IsFound (IsEarly walk.now) (line_told births.now) block at result }
+    requires within { LinesAreWithin walk.now births.now }
+    ensures { IsFindingAt (IsEarly walk.now) (line_told births.now) block at result }
 {
     let block = block?;
     let birth = births.line(block)?;
@@ -34,8 +34,8 @@ fn early(walk: &SerialWalk, births: &BlockLines, block: Option<u64>, at: LineAt)
 // What is found where an act uses a block: that the block's release happens before it, on another strand.
 fn late(walk: &SerialWalk, releases: &BlockLines, block: Option<u64>, at: LineAt) -> Option<Finding>
     requires place { at.place < length walk.now.order }
-    requires within { AreWithin walk.now releases.now }
-    ensures { IsFound (IsLate walk.now) (line_told releases.now) block at result }
+    requires within { LinesAreWithin walk.now releases.now }
+    ensures { IsFindingAt (IsLate walk.now) (line_told releases.now) block at result }
 {
     let block = block?;
     let release = releases.line(block)?;

@@ -7,7 +7,7 @@ ghost use Rattle.log_tasks.specs.declared.tasks.LogTasks.{LogTasks};
 ghost use Rattle.log_strands.specs.Places.{IsPlaceOf, ArePiecePlaces};
 ghost use Rattle.log_strands.specs.below.log_form.{Event};
 ghost use Rattle.log_births.specs.Blocks.{born, released};
-ghost use Rattle.log_births.specs.Lines.{line_told, noted, IsPart, KnowAll};
+ghost use Rattle.log_births.specs.Lines.{line_told, birth_noted, IsPart, KnowAll};
 
 use crate::acts::{born, released};
 use log_pieces::LogPiece;
@@ -38,7 +38,7 @@ impl BlockLines {
         place: Option<usize>,
         line: u32,
     ) -> Result<(), AllocError>
-        ensures { OnOk result ((b : ℕ) → line_told self.new b ≡ noted block place line b (line_told self.old b)) }
+        ensures { OnOk result ((b : ℕ) → line_told self.new b ≡ birth_noted block place line b (line_told self.old b)) }
     {
         match (block, place) {
             (Some(block), Some(place)) => {
@@ -67,8 +67,8 @@ pub(crate) struct Lifetimes {
 impl Lifetimes {
     // An act, by the place of its strand.
     fn take_act(&mut self, act: Act, place: Option<usize>, line: u32) -> Result<(), AllocError>
-        ensures births { OnOk result ((b : ℕ) → line_told self.new.births b ≡ noted (born act) place line b (line_told self.old.births b)) }
-        ensures releases { OnOk result ((b : ℕ) → line_told self.new.releases b ≡ noted (released act) place line b (line_told self.old.releases b)) }
+        ensures births { OnOk result ((b : ℕ) → line_told self.new.births b ≡ birth_noted (born act) place line b (line_told self.old.births b)) }
+        ensures releases { OnOk result ((b : ℕ) → line_told self.new.releases b ≡ birth_noted (released act) place line b (line_told self.old.releases b)) }
     {
         self.births.note(born(act), place, line)?;
         self.releases.note(released(act), place, line)

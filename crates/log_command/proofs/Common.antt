@@ -2,7 +2,7 @@
 pub use Rattle.io_traits.specs.Fault.{HasRisen}
 pub use Rattle.log_command.specs.Call.{AnswersLog, ShowsInputs}
 pub use Rattle.log_command.specs.Files.{AreInputsOf, HasTakenFiles, HasReadFiles, most_file_bytes, reads_file, AreFirstInputs, HasTakenFirst, HasReadFirst}
-pub use Rattle.log_command.specs.Words.{Asked, Usage, Check, asked, asked_by, files_for, Nothing}
+pub use Rattle.log_command.specs.Words.{Asked, Usage, Check, asked_of_log, asked_by, files_for, Nothing}
 pub use Rattle.log_form.specs.Text.{text_of, texts_of, is_zero}
 pub use Rattle.log_replies.specs.Shown.{ShowsLog}
 pub use Rattle.log_request.specs.Request.{is_usage, log_request}
@@ -17,7 +17,7 @@ pub use Rattle.std.specs.declared.alloc.AllocError.{AllocError}
 pub use Rattle.text_lines.proofs.Runs.{position_at, position_end}
 pub use Rattle.whole_call.proofs.Calls.{call_with_input, call_without_input, call_without_memory, gives_ends, silent_without_input, silent_without_memory, some_input}
 pub use Rattle.whole_call.specs.Input.{SourceState, ReadsUpTo, IsInputOf, HasTaken, HasRead}
-pub use Rattle.whole_call.specs.Streams.{Streams, Ends, WritesReply}
+pub use Rattle.whole_call.specs.Streams.{Streams, EndsWithReply, WritesReply}
 pub use Rattle.whole_call.specs.declared.reply.Reply.{Reply}
 pub use Rattle.whole_call.specs.declared.status.CallStatus.{CallStatus}
 pub use Rattle.whole_call.specs.declared.status.CallStatus.TheVariants.{ReadFault, WriteFault, NoMemory}

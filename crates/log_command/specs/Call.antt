@@ -5,7 +5,7 @@ use Rattle.whole_call.specs.declared.status.AnswerStatus.TheVariants.{Done, Word
 use Rattle.whole_call.specs.declared.reply.Reply.{Reply}
 use Rattle.whole_call.specs.Input.{SourceState}
 use Rattle.whole_call.specs.Output.{Says}
-use Rattle.whole_call.specs.Streams.{Streams, Ends}
+use Rattle.whole_call.specs.Streams.{Streams, EndsWithReply}
 use Rattle.whole_call.specs.Call.{IsCallWith}
 use Rattle.log_form.specs.Text.{texts_of}
 use Rattle.log_replies.specs.Shown.{ShowsLog}
@@ -21,4 +21,4 @@ ShowsInputs (Check view names) inputs = ShowsLog names (texts_of inputs) view
 -- a whole call that asks for this, of a source and the streams; `WriteFails` says that writing failed
 abbrev pub AnswersLog : Asked → CallStatus → SourceState → SourceState → Streams → Streams → Type 0 → Type 0
 AnswersLog a status source left before after WriteFails =
-    IsCallWith (AreInputsOf (files_for a) source) (λ inputs. Ends (ShowsInputs a inputs) status before after) (files_for a ≡ []) (HasTakenFiles (files_for a) source left) WriteFails status source left
+    IsCallWith (AreInputsOf (files_for a) source) (λ inputs. EndsWithReply (ShowsInputs a inputs) status before after) (files_for a ≡ []) (HasTakenFiles (files_for a) source left) WriteFails status source left

@@ -13,8 +13,8 @@ abbrev pub asked_by : Option (LogView × List (List ℕ)) → Asked
 asked_by None = Nothing
 asked_by (Some c) = Check c.0 c.1
 
-abbrev pub asked : List (List ℕ) → Asked
-asked words = if is_usage words then Usage else asked_by (log_request words)
+abbrev pub asked_of_log : List (List ℕ) → Asked
+asked_of_log words = if is_usage words then Usage else asked_by (log_request words)
 
 -- the files that are read
 abbrev pub files_for : Asked → List (List ℕ)

@@ -2,7 +2,7 @@
 
 ghost use Rattle.std.specs.Prelude.{◌⊎◌, map, string_bytes};
 ghost use Rattle.io_traits.specs.Fault.{HasRisen};
-ghost use Rattle.log_command.specs.Words.{Check, asked};
+ghost use Rattle.log_command.specs.Words.{Check, asked_of_log};
 ghost use Rattle.log_command.specs.Call.{AnswersLog};
 
 use crate::read::read_texts;
@@ -43,7 +43,7 @@ pub fn check<S: Source, K: Sink, E: Sink>(
     out: &mut K,
     error: &mut E,
 ) -> CallStatus
-    ensures { AnswersLog (asked (map string_bytes words.now)) result (record { left = S.left source.old; named = S.named source.old; faults = S.faults source.old }) (record { left = S.left source.new; named = S.named source.new; faults = S.faults source.new }) (record { out = K.written out.old; error = E.written error.old }) (record { out = K.written out.new; error = E.written error.new }) (HasRisen (K.faults out.old) (K.faults out.new) ⊎ HasRisen (E.faults error.old) (E.faults error.new)) }
+    ensures { AnswersLog (asked_of_log (map string_bytes words.now)) result (record { left = S.left source.old; named = S.named source.old; faults = S.faults source.old }) (record { left = S.left source.new; named = S.named source.new; faults = S.faults source.new }) (record { out = K.written out.old; error = E.written error.old }) (record { out = K.written out.new; error = E.written error.new }) (HasRisen (K.faults out.old) (K.faults out.new) ⊎ HasRisen (E.faults error.old) (E.faults error.new)) }
 {
     if is_usage(words) {
         return give(usage(alloc), out, error);

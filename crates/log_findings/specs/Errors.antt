@@ -28,8 +28,8 @@ of_cost costs.TooMuchWork = TooMuchWork
 of_cost costs.NoMemory = NoMemory
 
 -- the log is too large in this way
-abbrev pub IsTooLarge : List (List ℕ) → LogTasks → ReportError → Type 0
-IsTooLarge texts tasks TooLong = (2 ^ 32 < length (order_of tasks)) ⊎ (2 ^ 32 ≤ length (events_of texts))
-IsTooLarge texts tasks TooManyStretches = AreOver (regions_of_events (events_of texts)) (2 ^ 64 - 1)
-IsTooLarge texts tasks TooMuchWork = 2 ^ 64 ≤ sum (weights_of (events_of texts) tasks (order_of tasks))
-IsTooLarge texts tasks NoMemory = Unit {0}
+abbrev pub LogIsTooLarge : List (List ℕ) → LogTasks → ReportError → Type 0
+LogIsTooLarge texts tasks TooLong = (2 ^ 32 < length (order_of tasks)) ⊎ (2 ^ 32 ≤ length (events_of texts))
+LogIsTooLarge texts tasks TooManyStretches = AreOver (regions_of_events (events_of texts)) (2 ^ 64 - 1)
+LogIsTooLarge texts tasks TooMuchWork = 2 ^ 64 ≤ sum (weights_of (events_of texts) tasks (order_of tasks))
+LogIsTooLarge texts tasks NoMemory = Unit {0}

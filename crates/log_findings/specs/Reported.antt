@@ -15,7 +15,7 @@ use Rattle.log_left.specs.below.log_form.{events_of}
 use Rattle.log_left.specs.below.log_tasks.{LogTasks}
 use Rattle.log_report.specs.declared.told.ToldRace.{ToldRace}
 use Rattle.log_report.specs.declared.told.LogReport.{LogReport}
-use Rattle.log_report.specs.Told.{place_of}
+use Rattle.log_report.specs.Told.{first_place}
 use Rattle.log_told.specs.declared.telling.ToldFindings.{ToldFindings}
 use Rattle.log_told.specs.Told.{told_findings}
 use Rattle.log_told.specs.below.race_scan.{FoundRace}
@@ -28,7 +28,7 @@ abbrev pub walk_of : LogTasks → WalkValue
 walk_of tasks = record { tasks = tasks.turns; order = order_of tasks }
 
 -- what is told of the log's races, just those, and of its entangled and stale lines, just those
-pub record IsFound (texts : List (List ℕ)) (tasks : LogTasks) (told : ToldFindings) : Type 0 where
+pub record AreFindingsOf (texts : List (List ℕ)) (tasks : LogTasks) (told : ToldFindings) : Type 0 where
   pub races : List FoundRace
   pub findings : Findings
   pub are_races : AreVerdicts (walk_of tasks) (touches_of (events_of texts) tasks (order_of tasks)) races
@@ -38,7 +38,7 @@ pub record IsFound (texts : List (List ℕ)) (tasks : LogTasks) (told : ToldFind
 -- the same races, in ascending order of their blocks and locations
 pub record IsToldInOrder (races sorted : List ToldRace) : Type 0 where
   pub same : IsPermutation races sorted
-  pub ascending : IsNonDecreasingBy place_of sorted
+  pub ascending : IsNonDecreasingBy first_place sorted
 
 -- the log's work and span
 pub record HasCost (texts : List (List ℕ)) (tasks : LogTasks) (work span : ℕ) : Type 0 where
@@ -53,7 +53,7 @@ IsLeftOutIf true texts tasks left = (n : ℕ) × (left ≡ Some n) × HasLeftOut
 -- the report of a log with these texts and tasks, which was cut off or wasn't
 pub record IsReportOf (texts : List (List ℕ)) (tasks : LogTasks) (cut : Bool) (report : LogReport) : Type 0 where
   pub told : ToldFindings
-  pub found : IsFound texts tasks told
+  pub found : AreFindingsOf texts tasks told
   pub races : IsToldInOrder told.races report.races
   pub reads : report.entangled_reads ≡ told.entangled_reads
   pub uses : report.entangled_uses ≡ told.entangled_uses

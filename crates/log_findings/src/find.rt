@@ -5,8 +5,8 @@ ghost use Rattle.log_left.specs.below.fork_graph.{Extent};
 ghost use Rattle.log_left.specs.below.log_form.{events_of, log_fault};
 ghost use Rattle.log_left.specs.below.log_pieces.{events_of_pieces};
 ghost use Rattle.log_left.specs.below.log_tasks.{IsLog};
-ghost use Rattle.log_findings.specs.Errors.{IsTooLarge};
-ghost use Rattle.log_findings.specs.Reported.{walk_of, order_of, IsFound, HasCost, IsLeftOutIf, IsReportOf, IsToldInOrder};
+ghost use Rattle.log_findings.specs.Errors.{LogIsTooLarge};
+ghost use Rattle.log_findings.specs.Reported.{walk_of, order_of, AreFindingsOf, HasCost, IsLeftOutIf, IsReportOf, IsToldInOrder};
 
 use crate::error::ReportError;
 use log_births::find_uses;
@@ -34,8 +34,8 @@ fn found(
     requires whole { log_fault texts.now ≡ None }
     requires tasks { (extent : Extent) × IsLog (events_of texts.now) extent tasks.now }
     requires walk { walk.now ≡ walk_of tasks.now }
-    ensures found { IfOk result (IsFound texts.now tasks.now) }
-    ensures refused { IfErr result (IsTooLarge texts.now tasks.now) }
+    ensures found { IfOk result (AreFindingsOf texts.now tasks.now) }
+    ensures refused { IfErr result (LogIsTooLarge texts.now tasks.now) }
 {
     let scan = log_races(alloc, texts, pieces, tasks, walk, MOST_STRETCHES)?;
     let findings = find_uses(alloc, texts, pieces, tasks, walk)?;
@@ -97,7 +97,7 @@ fn report_walk(
     requires tasks { (extent : Extent) × IsLog (events_of texts.now) extent tasks.now }
     requires walk { walk.now ≡ walk_of tasks.now }
     ensures report { IfOk result (IsReportOf texts.now tasks.now is_cut) }
-    ensures refused { IfErr result (IsTooLarge texts.now tasks.now) }
+    ensures refused { IfErr result (LogIsTooLarge texts.now tasks.now) }
 {
     let cost = work_and_span(alloc, texts, pieces, tasks, walk)?;
     let left = left_out_if(alloc, texts, pieces, tasks, walk, is_cut)?;
@@ -117,7 +117,7 @@ pub fn report_log(
     requires whole { log_fault texts.now ≡ None }
     requires tasks { (extent : Extent) × IsLog (events_of texts.now) extent tasks.now }
     ensures report { IfOk result (IsReportOf texts.now tasks.now is_cut) }
-    ensures refused { IfErr result (IsTooLarge texts.now tasks.now) }
+    ensures refused { IfErr result (LogIsTooLarge texts.now tasks.now) }
 {
     let walk = SerialWalk::new(alloc, &tasks.turns)?;
     report_walk(alloc, texts, pieces, tasks, &walk, is_cut)

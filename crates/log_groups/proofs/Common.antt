@@ -2,7 +2,7 @@
 pub use Rattle.indexmap.specs.IndexSet.{insert_key}
 pub use Rattle.log_groups.specs.Gathered.{with_item, keys_of, AreBelow}
 pub use Rattle.log_groups.specs.Groups.{same_key, alike, total_of, groups_of, group_of}
-pub use Rattle.log_groups.specs.Laws.{IsFirst, IsItemGrouping, GroupsAreExact}
+pub use Rattle.log_groups.specs.Laws.{IsFirstOfKey, IsItemGrouping, ItemGroupsAreExact}
 pub use Rattle.log_groups.specs.declared.item.Group.{Group}
 pub use Rattle.log_groups.specs.declared.item.GroupKey.{GroupKey}
 pub use Rattle.log_groups.specs.declared.item.Item.{Item}

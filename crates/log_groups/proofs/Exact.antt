@@ -1,5 +1,5 @@
 -- Each finding is counted in exactly one group.
-use Rattle.log_groups.proofs.Common.{◌≡◌, ℕ, zero, suc, ◌+◌, ◌<◌, Bool, true, false, cond, List, [], ◌∷◌, ◌++◌, filter, inl, inr, arith, refl, ap, sym, subst, ◌∙◌, true≢false, Option, Some, not, sum_by, slice_get, sum_by-cons, In, in_kept, in_from_kept, got_in, Item, Group, same_key, alike, total_of, groups_of, IsFirst, IsItemGrouping, GroupsAreExact}
+use Rattle.log_groups.proofs.Common.{◌≡◌, ℕ, zero, suc, ◌+◌, ◌<◌, Bool, true, false, cond, List, [], ◌∷◌, ◌++◌, filter, inl, inr, arith, refl, ap, sym, subst, ◌∙◌, true≢false, Option, Some, not, sum_by, slice_get, sum_by-cons, In, in_kept, in_from_kept, got_in, Item, Group, same_key, alike, total_of, groups_of, IsFirstOfKey, IsItemGrouping, ItemGroupsAreExact}
 use Rattle.log_groups.proofs.Gathering.{key_is, key_itself, same_left, elsewhere}
 
 unless : (b : Bool) → not b ≡ true → b ≡ false
@@ -42,12 +42,12 @@ module _ (x y : Item) (xs : List Item) where
   total_other e = ap (λ b. sum_by (λ (z : Item). z.size) (cond b (y ∷ filter (alike x) xs) (filter (alike x) xs))) (sym e)
 
 abbrev Counts : List Item → Group → Type 0
-Counts xs g = IsFirst xs g.first × (g.total ≡ total_of g.first xs)
+Counts xs g = IsFirstOfKey xs g.first × (g.total ≡ total_of g.first xs)
 
 none_before : (x y : Item) → In [] y → alike x y ≡ false
 none_before x y i = absurd i
 
-first_later : (x y : Item) (xs : List Item) → alike y x ≡ false → IsFirst xs y → IsFirst (x ∷ xs) y
+first_later : (x y : Item) (xs : List Item) → alike y x ≡ false → IsFirstOfKey xs y → IsFirstOfKey (x ∷ xs) y
 first_later x y xs e is = record {
   before = x ∷ is.before;
   after = is.after;
@@ -95,7 +95,7 @@ apart_at (x ∷ gs) zero (suc k) g h a lt e f =
     ap (λ (y : Group). alike y.first h.first) (sym d) ∙ a.0 h (got_in gs k h f)
 apart_at (x ∷ gs) (suc j) (suc k) g h a lt e f = apart_at gs j k g h a.1 (omega (arith, lt)) e f
 
-pub exact : GroupsAreExact
+pub exact : ItemGroupsAreExact
 exact xs = record {
   every = every_in xs;
   each = each_in xs;

@@ -11,17 +11,17 @@ use Rattle.log_form.specs.Events.{Event, event}
 use Rattle.log_pieces.specs.declared.piece.LogPiece.{LogPiece}
 use Rattle.log_pieces.specs.Pieces.{on_strand, acts_of_piece, events_in, events_of_pieces}
 use Rattle.log_tasks.specs.declared.tasks.LogTasks.{LogTasks}
-use Rattle.log_strands.specs.Places.{StandsAt, StandsNowhere, IsPlaceOf, ArePiecePlaces}
-use Rattle.log_left.specs.Left.{code_of, IsLeftOut, AreLeftOut, HasLeftOut, is_left, code_if, left_codes}
+use Rattle.log_strands.specs.Places.{StrandStandsAt, StandsNowhere, IsPlaceOf, ArePiecePlaces}
+use Rattle.log_left.specs.Left.{code_of, IsLeftOut, AreLeftOut, HasLeftOut, is_left_out, code_if, left_codes}
 
 -- ALONG THE PIECES
 
 module _ (texts : List (List ℕ)) (pieces : List LogPiece) (places : List (Option ℕ)) where
   pub codes_next : (k : ℕ) (piece : LogPiece) (place : Option ℕ) (codes more : List ℕ) → k < length pieces → k < length places → piece ≡ get_or pieces k piece → place ≡ get_or places k place
-      → more ≡ codes ++ code_if (is_left (acts_of_piece texts piece) place) piece.strand
+      → more ≡ codes ++ code_if (is_left_out (acts_of_piece texts piece) place) piece.strand
       → more ++ left_codes texts (drop (k + 1) pieces) (drop (k + 1) places) ≡ codes ++ left_codes texts (drop k pieces) (drop k places)
   codes_next k piece place codes more lt below is at e =
-      let here = code_if (is_left (acts_of_piece texts piece) place) piece.strand in
+      let here = code_if (is_left_out (acts_of_piece texts piece) place) piece.strand in
       let ps : drop k pieces ≡ piece ∷ drop (k + 1) pieces = drop-cons pieces k piece lt ∙ ap (λ (p : LogPiece). p ∷ drop (suc k) pieces) (sym is) ∙ rw add-one refl in
       let qs : drop k places ≡ place ∷ drop (k + 1) places = drop-cons places k place below ∙ ap (λ (q : Option ℕ). q ∷ drop (suc k) places) (sym at) ∙ rw add-one refl in
       ap (λ (xs : List ℕ). xs ++ left_codes texts (drop (k + 1) pieces) (drop (k + 1) places)) e
@@ -49,17 +49,17 @@ module _ (texts : List (List ℕ)) (tasks : LogTasks) (order : List GraphStrand)
   Left events s = IsLeftOut events tasks order s
 
   -- of one piece
-  code_left : (p : LogPiece) (acts : List Act) (place : Option ℕ) (n : ℕ) → IsPlaceOf tasks order p.strand place → In (code_if (is_left acts place) p.strand) n
+  code_left : (p : LogPiece) (acts : List Act) (place : Option ℕ) (n : ℕ) → IsPlaceOf tasks order p.strand place → In (code_if (is_left_out acts place) p.strand) n
       → (s : GraphStrand) × (n ≡ code_of s) × Left (on_strand p.strand acts) s
   code_left p acts (Some at) n is h = absurd h
   code_left p [] None n is h = absurd h
   code_left p (a ∷ acts) None n is (inl e) = (p.strand, sym e, record { act = a; does = first_on p.strand a acts; nowhere = is })
   code_left p (a ∷ acts) None n is (inr h) = absurd h
 
-  left_code : (p : LogPiece) (acts : List Act) (place : Option ℕ) (s : GraphStrand) → IsPlaceOf tasks order p.strand place → Left (on_strand p.strand acts) s → In (code_if (is_left acts place) p.strand) (code_of s)
+  left_code : (p : LogPiece) (acts : List Act) (place : Option ℕ) (s : GraphStrand) → IsPlaceOf tasks order p.strand place → Left (on_strand p.strand acts) s → In (code_if (is_left_out acts place) p.strand) (code_of s)
   left_code p acts (Some at) s is left =
       let r = on_strand_in p.strand acts s left.act left.does in
-      absurd (left.nowhere at (subst (λ (u : GraphStrand). StandsAt tasks order u at) (sym r.0) is))
+      absurd (left.nowhere at (subst (λ (u : GraphStrand). StrandStandsAt tasks order u at) (sym r.0) is))
   left_code p [] None s is left = absurd (on_strand_in p.strand [] s left.act left.does).1
   left_code p (a ∷ acts) None s is left = let r = on_strand_in p.strand (a ∷ acts) s left.act left.does in inl (ap code_of (sym r.0))
 
@@ -69,10 +69,10 @@ module _ (texts : List (List ℕ)) (tasks : LogTasks) (order : List GraphStrand)
   codes_left [] qs n is h = absurd h
   codes_left (p ∷ ps) [] n is h = absurd h
   codes_left (p ∷ ps) (q ∷ qs) n is h =
-      codes_left_by_cases (λ later. codes_left ps qs n (λ k x place at there. is (suc k) x place at there) later) (in_append_cases (code_if (is_left (acts_of_piece texts p) q) p.strand) (left_codes texts ps qs) n h)
+      codes_left_by_cases (λ later. codes_left ps qs n (λ k x place at there. is (suc k) x place at there) later) (in_append_cases (code_if (is_left_out (acts_of_piece texts p) q) p.strand) (left_codes texts ps qs) n h)
     where
       codes_left_by_cases : (In (left_codes texts ps qs) n → (s : GraphStrand) × (n ≡ code_of s) × Left (events_of_pieces texts ps) s)
-          → In (code_if (is_left (acts_of_piece texts p) q) p.strand) n ⊎ In (left_codes texts ps qs) n → (s : GraphStrand) × (n ≡ code_of s) × Left (events_of_pieces texts (p ∷ ps)) s
+          → In (code_if (is_left_out (acts_of_piece texts p) q) p.strand) n ⊎ In (left_codes texts ps qs) n → (s : GraphStrand) × (n ≡ code_of s) × Left (events_of_pieces texts (p ∷ ps)) s
       codes_left_by_cases rest (inl here) =
           let r = code_left p (acts_of_piece texts p) q n (is 0 p q refl refl) here in
           (r.0, r.1, record { act = r.2.act; does = in_append_left (events_in texts p) (events_of_pieces texts ps) _ r.2.does; nowhere = r.2.nowhere })
@@ -88,10 +88,10 @@ module _ (texts : List (List ℕ)) (tasks : LogTasks) (order : List GraphStrand)
     where
       left_codes_have_by_cases : (Left (events_of_pieces texts ps) s → In (left_codes texts ps qs) (code_of s)) → In (events_in texts p) (event s left.act) ⊎ In (events_of_pieces texts ps) (event s left.act) → In (left_codes texts (p ∷ ps) (q ∷ qs)) (code_of s)
       left_codes_have_by_cases rest (inl here) =
-          in_append_left (code_if (is_left (acts_of_piece texts p) q) p.strand) (left_codes texts ps qs) (code_of s)
+          in_append_left (code_if (is_left_out (acts_of_piece texts p) q) p.strand) (left_codes texts ps qs) (code_of s)
           (left_code p (acts_of_piece texts p) q s (is 0 p q refl refl) (record { act = left.act; does = here; nowhere = left.nowhere }))
       left_codes_have_by_cases rest (inr later) =
-          in_append_right (code_if (is_left (acts_of_piece texts p) q) p.strand) (left_codes texts ps qs) (code_of s)
+          in_append_right (code_if (is_left_out (acts_of_piece texts p) q) p.strand) (left_codes texts ps qs) (code_of s)
           (rest (record { act = left.act; does = later; nowhere = left.nowhere }))
 
   pub left_are : (pieces : List LogPiece) (places : List (Option ℕ)) (events : List Event) (codes sorted : List ℕ) → events_of_pieces texts pieces ≡ events → ArePiecePlaces tasks order pieces places → codes ≡ left_codes texts pieces places

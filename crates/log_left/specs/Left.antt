@@ -33,10 +33,10 @@ HasLeftOut events tasks order n = (codes : List ℕ) × AreLeftOut events tasks 
 -- PIECE BY PIECE
 
 -- acts are there, of a strand that has no place
-abbrev pub is_left : List Act → Option ℕ → Bool
-is_left acts (Some place) = false
-is_left [] None = false
-is_left (a ∷ acts) None = true
+abbrev pub is_left_out : List Act → Option ℕ → Bool
+is_left_out acts (Some place) = false
+is_left_out [] None = false
+is_left_out (a ∷ acts) None = true
 
 abbrev pub code_if : Bool → GraphStrand → List ℕ
 code_if true s = code_of s ∷ []
@@ -46,4 +46,4 @@ code_if false s = []
 abbrev pub left_codes : List (List ℕ) → List LogPiece → List (Option ℕ) → List ℕ
 left_codes texts [] places = []
 left_codes texts (p ∷ ps) [] = []
-left_codes texts (p ∷ ps) (place ∷ places) = code_if (is_left (acts_of_piece texts p) place) p.strand ++ left_codes texts ps places
+left_codes texts (p ∷ ps) (place ∷ places) = code_if (is_left_out (acts_of_piece texts p) place) p.strand ++ left_codes texts ps places

@@ -4,7 +4,7 @@ ghost use Rattle.std.specs.Prelude.{◌≡◌, ◌<◌, ◌++◌, [], ℕ, IfOk,
 ghost use Rattle.std.specs.List.Sorted.{IsStrictlyIncreasing};
 ghost use Rattle.log_form.specs.Events.{events_of};
 ghost use Rattle.log_pieces.specs.Pieces.{acts_of_piece, events_of_pieces};
-ghost use Rattle.log_left.specs.Left.{code_of, is_left, code_if, left_codes, HasLeftOut};
+ghost use Rattle.log_left.specs.Left.{code_of, is_left_out, code_if, left_codes, HasLeftOut};
 
 use fork_graph::GraphStrand;
 use log_pieces::LogPiece;
@@ -21,8 +21,8 @@ fn code_of(strand: GraphStrand) -> u64
 }
 
 // Whether a piece says what a strand does that has no place.
-fn is_left(texts: &[Listed<u8>], piece: LogPiece, place: Option<usize>) -> bool
-    ensures { result ≡ is_left (acts_of_piece texts.now piece) place }
+fn is_left_out(texts: &[Listed<u8>], piece: LogPiece, place: Option<usize>) -> bool
+    ensures { result ≡ is_left_out (acts_of_piece texts.now piece) place }
 {
     match place {
         Some(_) => false,
@@ -31,10 +31,10 @@ fn is_left(texts: &[Listed<u8>], piece: LogPiece, place: Option<usize>) -> bool
 }
 
 // Adds the number of a piece's strand, if it is left out.
-fn add_left(codes: &mut Vec<u64>, strand: GraphStrand, is_left: bool) -> Result<(), AllocError>
-    ensures { OnOk result (codes.new.items ≡ codes.old.items ++ code_if is_left strand) }
+fn add_left(codes: &mut Vec<u64>, strand: GraphStrand, is_left_out: bool) -> Result<(), AllocError>
+    ensures { OnOk result (codes.new.items ≡ codes.old.items ++ code_if is_left_out strand) }
 {
-    if is_left {
+    if is_left_out {
         codes.push(code_of(strand))?;
     }
     Ok(())
@@ -53,7 +53,7 @@ fn left_codes(
     let mut codes = Vec::new(alloc);
     for k in 0..pieces.len() {
         let piece = pieces[k];
-        let left = is_left(texts, piece, places[k]);
+        let left = is_left_out(texts, piece, places[k]);
         add_left(&mut codes, piece.strand, left)?;
     }
     Ok(codes)

@@ -1,12 +1,12 @@
 -- A line that is written is read again.
-use Rattle.log_lines.proofs.Common.{◌≡◌, ◌<◌, ◌≤◌, ◌+◌, ◌*◌, ◌^◌, ◌==◌, ℕ, zero, suc, Bool, true, false, not, List, [], ◌∷◌, ◌++◌, length, get_or, cond, arith, refl, ap, sym, ◌∙◌, Option, Some, None, Result, Ok, Err, nat_lt, nat_le, inl, inr, ◌&&◌, codes, digit_value, is_ascii_digit, decimal, All, AllByRecursion, slice_split, all_ascii_digits, AllDigits, digits_value, cases_lt, nat_tests, decimal_is_IsNumeral, decimal_digit, decimal_nonempty, length-decimal-le, first_decimal, mul_comm, le-mul_of_pos_right, All-from_recursion, slice_split_at, slice_split_none, LogCause, LogPlace, AccessKind, Access, Reference, Act, LogLine, is_space, words_of, has_length, has_leading_zero, digits_number, number_of, is_site, site_at, IsNumber, IsPlace, IsSite, IsAccess, IsReference, IsAct, IsLine, access_limit, location_limit, place_end, is_small, place_at, act_of_access, reference_of, line_of_words, line_of, spaced, site_words, place_words, reference_words, access_word, act_words, line_words, line_bytes}
+use Rattle.log_lines.proofs.Common.{◌≡◌, ◌<◌, ◌≤◌, ◌+◌, ◌*◌, ◌^◌, ◌==◌, ℕ, zero, suc, Bool, true, false, not, List, [], ◌∷◌, ◌++◌, length, get_or, cond, arith, refl, ap, sym, ◌∙◌, Option, Some, None, Result, Ok, Err, nat_lt, nat_le, inl, inr, ◌&&◌, codes, digit_value, is_ascii_digit, decimal, All, AllByRecursion, slice_split, all_ascii_digits, AllDigits, digits_value, cases_lt, nat_tests, decimal_is_IsNumeral, decimal_digit, decimal_nonempty, length-decimal-le, first_decimal, mul_comm, le-mul_of_pos_right, All-from_recursion, slice_split_at, slice_split_none, LogCause, LogPlace, AccessKind, Access, Reference, Act, LogLine, is_space, words_of, has_length, has_leading_zero, digits_number, numeral_value, is_site, site_at, IsLogNumber, IsLogPlace, IsSite, IsAccess, IsLogReference, IsAct, IsLine, access_limit, location_limit, place_end, is_small, place_at, act_of_access, reference_of, line_of_words, line_of, spaced, site_words, place_words, reference_words, access_word, act_words, line_words, line_bytes}
 use Rattle.log_lines.specs.declared.line.AccessKind.TheVariants as kinds
 use Rattle.log_lines.specs.declared.line.Act.TheVariants as acts
 use Rattle.log_lines.specs.declared.line.LogLine.TheVariants as lines
 
 -- NUMBERS
 
-wide : (n : ℕ) → IsNumber n → n < 2 ^ 64
+wide : (n : ℕ) → IsLogNumber n → n < 2 ^ 64
 wide n h = omega (arith, h)
 
 is_digit : (c : ℕ) → digit_value c < 10 → is_ascii_digit c ≡ true
@@ -16,7 +16,7 @@ pass_digits : (ds : List ℕ) → AllDigits 10 ds → all_ascii_digits ds ≡ tr
 pass_digits [] h = refl
 pass_digits (c ∷ cs) h = rw (is_digit c h.0) (pass_digits cs h.1)
 
-digits_again : (n : ℕ) → IsNumber n → digits_number (decimal n) ≡ Some n
+digits_again : (n : ℕ) → IsLogNumber n → digits_number (decimal n) ≡ Some n
 digits_again n h = let d = decimal_is_IsNumeral n (wide n h) in rw (pass_digits (decimal n) d.0.1) (ap Some d.1)
 
 long_enough : (w : List ℕ) → 0 < length w → length w ≤ 18 → has_length w ≡ true
@@ -31,10 +31,10 @@ no_zero (c ∷ d ∷ ds) h = let above : 48 < c = h in grind (arith, nat_tests, 
 zero_alone : (n : ℕ) → n < 1 → has_leading_zero (decimal n) ≡ false
 zero_alone n h = rw (decimal_digit n (omega (arith, h))) refl
 
-no_leading : (n : ℕ) → IsNumber n → has_leading_zero (decimal n) ≡ false
+no_leading : (n : ℕ) → IsLogNumber n → has_leading_zero (decimal n) ≡ false
 no_leading n h = elim (cases_lt n 1) [ inl lt ↦ zero_alone n lt | inr ge ↦ no_zero (decimal n) (first_decimal n (omega (arith, ge)) (wide n h)) ]
 
-pub number_again : (n : ℕ) → IsNumber n → number_of (decimal n) ≡ Some n
+pub number_again : (n : ℕ) → IsLogNumber n → numeral_value (decimal n) ≡ Some n
 number_again n h =
     let few = length-decimal-le 18 n (omega arith) h (wide n h) in
     rw (long_enough (decimal n) (decimal_nonempty n (wide n h)) few, no_leading n h) (digits_again n h)
@@ -44,7 +44,7 @@ no_site_by : (w : List ℕ) → AllDigits 10 w → is_site w ≡ false
 no_site_by [] h = refl
 no_site_by (c ∷ cs) h = let d = h.0 in grind (arith, nat_tests, d)
 
-no_site : (n : ℕ) → IsNumber n → is_site (decimal n) ≡ false
+no_site : (n : ℕ) → IsLogNumber n → is_site (decimal n) ≡ false
 no_site n h = no_site_by (decimal n) (decimal_is_IsNumeral n (wide n h)).0.1
 
 -- WORDS
@@ -76,7 +76,7 @@ clear_digits : (ds : List ℕ) → AllDigits 10 ds → IsClear ds
 clear_digits [] h = tt
 clear_digits (c ∷ cs) h = (clear_digit c h.0, clear_digits cs h.1)
 
-clear : (n : ℕ) → IsNumber n → IsClear (decimal n)
+clear : (n : ℕ) → IsLogNumber n → IsClear (decimal n)
 clear n h = clear_digits (decimal n) (decimal_is_IsNumeral n (wide n h)).0.1
 
 -- a line whose first word begins with no number sign says what its words say
@@ -86,13 +86,13 @@ as_words c cs (v ∷ ws) e h g = rw e (ap line_of_words (words_spaced (c ∷ cs)
 
 -- PLACES AND SITES
 
-short : (m n : ℕ) → 1 ≤ n → m * n ≤ access_limit → IsNumber m
+short : (m n : ℕ) → 1 ≤ n → m * n ≤ access_limit → IsLogNumber m
 short m n h few = let a : m ≤ m * n = le-mul_of_pos_right m h in omega (arith, a, few)
 
-short_too : (m n : ℕ) → 1 ≤ m → m * n ≤ access_limit → IsNumber n
+short_too : (m n : ℕ) → 1 ≤ m → m * n ≤ access_limit → IsLogNumber n
 short_too m n h few = let a : n ≤ n * m = le-mul_of_pos_right n h in let e = mul_comm m n in omega (arith, a, e, few)
 
-small_again : (p : LogPlace) → IsPlace p → is_small p ≡ true
+small_again : (p : LogPlace) → IsLogPlace p → is_small p ≡ true
 small_again p h =
     let l = h.length in let r = h.runs in let f = h.few in let w = h.within in
     let a : nat_le 1 p.length ≡ true = grind (arith, nat_tests, l) in
@@ -101,13 +101,13 @@ small_again p h =
     let d : nat_le (place_end p) location_limit ≡ true = grind (arith, nat_tests, w) in
     rw (a, b, c, d) refl
 
-apart_again : (p : LogPlace) → IsPlace p → nat_le p.length p.apart ≡ true
+apart_again : (p : LogPlace) → IsLogPlace p → nat_le p.length p.apart ≡ true
 apart_again p h = let d = h.distinct in grind (arith, nat_tests, d)
 
-place_again : (p : LogPlace) (ws : List (List ℕ)) → IsPlace p → place_at (place_words p ws) ≡ Ok (p, ws)
+place_again : (p : LogPlace) (ws : List (List ℕ)) → IsLogPlace p → place_at (place_words p ws) ≡ Ok (p, ws)
 place_again p ws h =
-    let l : IsNumber p.length = short p.length p.runs h.runs h.few in
-    let r : IsNumber p.runs = short_too p.length p.runs h.length h.few in
+    let l : IsLogNumber p.length = short p.length p.runs h.runs h.few in
+    let r : IsLogNumber p.runs = short_too p.length p.runs h.length h.few in
     rw (number_again p.block h.block, number_again p.offset h.offset, no_site p.length l, number_again p.length l, no_site p.runs r, number_again p.runs r, number_again p.apart h.apart, small_again p h, apart_again p h) refl
 
 site_again : (site : Option ℕ) → IsSite site → site_at (site_words site) ≡ Ok site
@@ -118,7 +118,7 @@ clear_site : (site : Option ℕ) → IsSite site → AreClear (site_words site)
 clear_site None h = tt
 clear_site (Some n) h = ((refl, clear n h), tt)
 
-clear_place : (p : LogPlace) (ws : List (List ℕ)) → IsPlace p → AreClear ws → AreClear (place_words p ws)
+clear_place : (p : LogPlace) (ws : List (List ℕ)) → IsLogPlace p → AreClear ws → AreClear (place_words p ws)
 clear_place p ws h g =
     (clear p.block h.block, (clear p.offset h.offset, (clear p.length (short p.length p.runs h.runs h.few), (clear p.runs (short_too p.length p.runs h.length h.few), (clear p.apart h.apart, g)))))
 
@@ -139,13 +139,13 @@ access_said kinds.Write ws act e = rw e refl
 access_said kinds.AtomicRead ws act e = rw e refl
 access_said kinds.AtomicWrite ws act e = rw e refl
 
-reference_again : (r : Reference) → IsReference r → reference_of (reference_words r) ≡ Ok r
+reference_again : (r : Reference) → IsLogReference r → reference_of (reference_words r) ≡ Ok r
 reference_again r h = rw (number_again r.block h.block, number_again r.offset h.offset, number_again r.target h.target, site_again r.site h.site) refl
 
-clear_reference : (r : Reference) → IsReference r → AreClear (reference_words r)
+clear_reference : (r : Reference) → IsLogReference r → AreClear (reference_words r)
 clear_reference r h = (clear r.block h.block, (clear r.offset h.offset, (clear r.target h.target, clear_site r.site h.site)))
 
-task_number : (t : ℕ) → t < 2 ^ 32 → IsNumber t
+task_number : (t : ℕ) → t < 2 ^ 32 → IsLogNumber t
 task_number t h = omega (arith, h)
 
 task_passes : (t : ℕ) → t < 2 ^ 32 → nat_lt t (2 ^ 32) ≡ true
@@ -169,10 +169,10 @@ act_again acts.Finish h = as_words 46 [] [] refl (refl, tt) tt
 
 -- LINES
 
-strand_number : (s : ℕ) → s < 2 ^ 31 → IsNumber s
+strand_number : (s : ℕ) → s < 2 ^ 31 → IsLogNumber s
 strand_number s h = omega (arith, h)
 
-one : IsNumber 1
+one : IsLogNumber 1
 one = omega arith
 
 pub line_again : (l : LogLine) → IsLine l → line_of (line_bytes l) ≡ Ok l

@@ -1,8 +1,8 @@
 -- The names of lower crates and of the specifications that these proofs use. Declares nothing.
 pub use Rattle.log_lines.specs.Grammar.{is_small, place_at, act_of_access, reference_of, line_of_words, line_of, checked_place, place_of_runs, place_of_run, place_of_length, act_of_birth, number_alone, below, task_alone, line_of_strand, name_behind, line_of_name, line_of_version, verb_of, act_by, line_by, line_behind}
-pub use Rattle.log_lines.specs.Limits.{IsNumber, IsPlace, IsSite, IsAccess, IsReference, IsAct, IsLine, access_limit, location_limit, place_end, task_limit, strand_limit}
+pub use Rattle.log_lines.specs.Limits.{IsLogNumber, IsLogPlace, IsSite, IsAccess, IsLogReference, IsAct, IsLine, access_limit, location_limit, place_end, task_limit, strand_limit}
 pub use Rattle.log_lines.specs.Rest.{operands}
-pub use Rattle.log_lines.specs.Words.{is_space, words_of, has_length, has_leading_zero, digits_number, number_of, is_site, site_at, is_left, ◌>>=◌, or_bad, number_at, nothing_left, goes_on}
+pub use Rattle.log_lines.specs.Words.{is_space, words_of, has_length, has_leading_zero, digits_number, numeral_value, is_site, site_at, has_word, ◌>>=◌, or_bad, number_at, nothing_left, goes_on}
 pub use Rattle.log_lines.specs.Writing.{spaced, site_words, place_words, reference_words, access_word, act_words, line_words, line_bytes}
 pub use Rattle.log_lines.specs.declared.cause.LogCause.{LogCause}
 pub use Rattle.log_lines.specs.declared.line.Access.{Access}

@@ -1,5 +1,5 @@
 -- The first word of a line and the words behind it.
-use Rattle.log_lines.proofs.Common.{◌≡◌, ◌<◌, ◌≤◌, ◌+◌, ◌-◌, ◌==◌, ℕ, zero, suc, Bool, true, false, List, [], ◌∷◌, length, take, not, drop, drop-cons, get_or, arith, refl, ap, sym, ◌∙◌, cond, ◌⊎◌, inl, inr, cases_lt, take_all, drop_all, length-drop, slice_split, onto_first, position_or_len, slice_split_first, split_last, is_space, words_of, is_left, operands}
+use Rattle.log_lines.proofs.Common.{◌≡◌, ◌<◌, ◌≤◌, ◌+◌, ◌-◌, ◌==◌, ℕ, zero, suc, Bool, true, false, List, [], ◌∷◌, length, take, not, drop, drop-cons, get_or, arith, refl, ap, sym, ◌∙◌, cond, ◌⊎◌, inl, inr, cases_lt, take_all, drop_all, length-drop, slice_split, onto_first, position_or_len, slice_split_first, split_last, is_space, words_of, has_word, operands}
 
 operands_behind : (text : List ℕ) (end : ℕ) → end < length text → operands (drop end text) ≡ words_of (drop (end + 1) text)
 operands_behind text end lt = rw (drop-cons text end 0 lt) (ap (λ k. words_of (drop k text)) (let e : suc end ≡ end + 1 = omega arith in e))
@@ -16,17 +16,17 @@ first_by text end e (inr ge) le =
 pub first_word_of : (text : List ℕ) (end : ℕ) → end ≡ position_or_len is_space text → end ≤ length text → words_of text ≡ take end text ∷ operands (drop end text)
 first_word_of text end e le = first_by text end e (cases_lt end (length text)) le
 
-some_word_by : (b : Bool) (c : ℕ) (ps : List (List ℕ)) → is_left (cond b ([] ∷ ps) (onto_first c ps)) ≡ true
+some_word_by : (b : Bool) (c : ℕ) (ps : List (List ℕ)) → has_word (cond b ([] ∷ ps) (onto_first c ps)) ≡ true
 some_word_by true c ps = refl
 some_word_by false c [] = refl
 some_word_by false c (p ∷ ps) = refl
 
-some_word : (text : List ℕ) → is_left (words_of text) ≡ true
+some_word : (text : List ℕ) → has_word (words_of text) ≡ true
 some_word [] = refl
 some_word (c ∷ cs) = some_word_by (is_space c) c (words_of cs)
 
 -- behind a space there is a word
-pub left_by : (rest : List ℕ) → not (length rest == 0) ≡ is_left (operands rest)
+pub left_by : (rest : List ℕ) → not (length rest == 0) ≡ has_word (operands rest)
 left_by [] = refl
 left_by (c ∷ cs) = let e : (length (c ∷ cs) == 0) ≡ false = grind arith in rw e (sym (some_word cs))
 

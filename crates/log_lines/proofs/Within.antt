@@ -1,5 +1,5 @@
 -- What is read is within the limits.
-use Rattle.log_lines.proofs.Common.{◌≡◌, ◌<◌, ◌≤◌, ◌+◌, ◌*◌, ◌^◌, ◌==◌, ℕ, zero, suc, Bool, true, false, List, [], ◌∷◌, length, drop, not, cond, arith, refl, ap, sym, ◌∙◌, inl, inr, Option, Some, None, Result, Ok, Err, IfOk, IfSome, nat_lt, nat_le, ◌&&◌, digit_value, is_ascii_digit, all_ascii_digits, AllDigits, digits_value, and_parts, cases_Bool, nat_tests, digits_value-lt, LogCause, LogPlace, AccessKind, Reference, Act, LogLine, LogVerb, ActVerb, ◌>>=◌, words_of, has_length, has_leading_zero, digits_number, number_of, or_bad, number_at, is_left, nothing_left, is_site, site_at, goes_on, IsNumber, IsPlace, IsSite, IsAccess, IsReference, IsAct, IsLine, task_limit, strand_limit, access_limit, location_limit, place_end, is_small, checked_place, place_of_runs, place_of_run, place_of_length, place_at, act_of_access, reference_of, act_of_birth, number_alone, below, task_alone, line_of_strand, name_behind, line_of_name, line_of_version, verb_of, act_by, line_by, line_behind, line_of_words, line_of}
+use Rattle.log_lines.proofs.Common.{◌≡◌, ◌<◌, ◌≤◌, ◌+◌, ◌*◌, ◌^◌, ◌==◌, ℕ, zero, suc, Bool, true, false, List, [], ◌∷◌, length, drop, not, cond, arith, refl, ap, sym, ◌∙◌, inl, inr, Option, Some, None, Result, Ok, Err, IfOk, IfSome, nat_lt, nat_le, ◌&&◌, digit_value, is_ascii_digit, all_ascii_digits, AllDigits, digits_value, and_parts, cases_Bool, nat_tests, digits_value-lt, LogCause, LogPlace, AccessKind, Reference, Act, LogLine, LogVerb, ActVerb, ◌>>=◌, words_of, has_length, has_leading_zero, digits_number, numeral_value, or_bad, number_at, has_word, nothing_left, is_site, site_at, goes_on, IsLogNumber, IsLogPlace, IsSite, IsAccess, IsLogReference, IsAct, IsLine, task_limit, strand_limit, access_limit, location_limit, place_end, is_small, checked_place, place_of_runs, place_of_run, place_of_length, place_at, act_of_access, reference_of, act_of_birth, number_alone, below, task_alone, line_of_strand, name_behind, line_of_name, line_of_version, verb_of, act_by, line_by, line_behind, line_of_words, line_of}
 use Rattle.log_lines.specs.declared.cause.LogCause.TheVariants as causes
 use Rattle.log_lines.specs.declared.line.Act.TheVariants as acts
 use Rattle.log_lines.specs.declared.line.LogLine.TheVariants as lines
@@ -36,44 +36,44 @@ few_digits : (ds : List ℕ) → has_length ds ≡ true → length ds ≤ 18
 few_digits [] e = omega arith
 few_digits (c ∷ cs) e = grind (arith, nat_tests, e)
 
-digits_below : (ds : List ℕ) (b : Bool) → all_ascii_digits ds ≡ b → has_length ds ≡ true → IfSome (cond b (Some (digits_value 10 ds)) None) IsNumber
+digits_below : (ds : List ℕ) (b : Bool) → all_ascii_digits ds ≡ b → has_length ds ≡ true → IfSome (cond b (Some (digits_value 10 ds)) None) IsLogNumber
 digits_below ds true e few = let a = digits_value-lt 10 ds (are_digits ds e) in let b = longer_is_more (length ds) (few_digits ds few) in let n : digits_value 10 ds < 10 ^ 18 = omega (arith, a, b) in n
 digits_below ds false e few = tt
 
-number_by : (w : List ℕ) (b : Bool) → (has_length w && not (has_leading_zero w)) ≡ b → IfSome (cond b (digits_number w) None) IsNumber
+number_by : (w : List ℕ) (b : Bool) → (has_length w && not (has_leading_zero w)) ≡ b → IfSome (cond b (digits_number w) None) IsLogNumber
 number_by w true e = digits_below w (all_ascii_digits w) refl (and_parts (has_length w) (not (has_leading_zero w)) e).0
 number_by w false e = tt
 
-number_below : (w : List ℕ) → IfSome (number_of w) IsNumber
+number_below : (w : List ℕ) → IfSome (numeral_value w) IsLogNumber
 number_below w = number_by w (has_length w && not (has_leading_zero w)) refl
 
-bad_below : (n : Option ℕ) → IfSome n IsNumber → IfOk (or_bad n) IsNumber
+bad_below : (n : Option ℕ) → IfSome n IsLogNumber → IfOk (or_bad n) IsLogNumber
 bad_below (Some n) h = h
 bad_below None h = tt
 
-word_below : (w : List ℕ) → IfOk (or_bad (number_of w)) IsNumber
-word_below w = bad_below (number_of w) (number_below w)
+word_below : (w : List ℕ) → IfOk (or_bad (numeral_value w)) IsLogNumber
+word_below w = bad_below (numeral_value w) (number_below w)
 
 -- the number of the next word
 abbrev IsFirst : ℕ × List (List ℕ) → Type 0
-IsFirst x = IsNumber x.0
+IsFirst x = IsLogNumber x.0
 
 next_below : (ws : List (List ℕ)) → IfOk (number_at ws) IsFirst
 next_below [] = tt
-next_below (w ∷ ws) = bind_ok IsNumber IsFirst (or_bad (number_of w)) (λ n. Ok (n, ws)) (word_below w) (λ n h. h)
+next_below (w ∷ ws) = bind_ok IsLogNumber IsFirst (or_bad (numeral_value w)) (λ n. Ok (n, ws)) (word_below w) (λ n h. h)
 
 site_below : (ws : List (List ℕ)) → IfOk (site_at ws) IsSite
 site_below [] = tt
 site_below (w ∷ ws) =
-    if_ok IsSite (is_site w) (or_bad (number_of (drop 1 w)) >>= λ site. nothing_left ws >>= λ none. Ok (Some site)) (Err causes.WrongCount)
-    (bind_ok IsNumber IsSite (or_bad (number_of (drop 1 w))) (λ site. nothing_left ws >>= λ none. Ok (Some site)) (word_below (drop 1 w))
+    if_ok IsSite (is_site w) (or_bad (numeral_value (drop 1 w)) >>= λ site. nothing_left ws >>= λ none. Ok (Some site)) (Err causes.WrongCount)
+    (bind_ok IsLogNumber IsSite (or_bad (numeral_value (drop 1 w))) (λ site. nothing_left ws >>= λ none. Ok (Some site)) (word_below (drop 1 w))
     (λ site h. bind_ok (λ x. Unit {0}) IsSite (nothing_left ws) (λ none. Ok (Some site)) (any_ok (nothing_left ws)) (λ none g. h)))
     tt
 
 -- POSITIONS
 
 abbrev IsFirstPlace : LogPlace × List (List ℕ) → Type 0
-IsFirstPlace x = IsPlace x.0
+IsFirstPlace x = IsLogPlace x.0
 
 record Small (p : LogPlace) : Type 0 where
   pub length : 1 ≤ p.length
@@ -89,35 +89,35 @@ small_place p e =
     let c0 = c.0 in let c1 = c.1 in let b1 = b.1 in let a1 = a.1 in
     record { length = grind (arith, nat_tests, c0); runs = grind (arith, nat_tests, c1); few = grind (arith, nat_tests, b1); within = grind (arith, nat_tests, a1) }
 
-place_passes : (p : LogPlace) → IsNumber p.block → IsNumber p.offset → IsNumber p.apart → is_small p ≡ true → nat_le p.length p.apart ≡ true → IsPlace p
+place_passes : (p : LogPlace) → IsLogNumber p.block → IsLogNumber p.offset → IsLogNumber p.apart → is_small p ≡ true → nat_le p.length p.apart ≡ true → IsLogPlace p
 place_passes p b o a e f =
     let s = small_place p e in
     record { block = b; offset = o; length = s.length; runs = s.runs; apart = a; few = s.few; within = s.within; distinct = grind (arith, nat_tests, f) }
 
-place_by : (p : LogPlace) → IsNumber p.block → IsNumber p.offset → IsNumber p.apart → (b : Bool) → is_small p ≡ b → IfOk (cond b (cond (nat_le p.length p.apart) (Ok p) (Err causes.RunsOverlap)) (Err causes.OverLimit)) IsPlace
-place_by p b o a true e = guard_ok IsPlace (nat_le p.length p.apart) p causes.RunsOverlap (place_passes p b o a e)
+place_by : (p : LogPlace) → IsLogNumber p.block → IsLogNumber p.offset → IsLogNumber p.apart → (b : Bool) → is_small p ≡ b → IfOk (cond b (cond (nat_le p.length p.apart) (Ok p) (Err causes.RunsOverlap)) (Err causes.OverLimit)) IsLogPlace
+place_by p b o a true e = guard_ok IsLogPlace (nat_le p.length p.apart) p causes.RunsOverlap (place_passes p b o a e)
 place_by p b o a false e = tt
 
-checked_below : (p : LogPlace) → IsNumber p.block → IsNumber p.offset → IsNumber p.apart → IfOk (checked_place p) IsPlace
+checked_below : (p : LogPlace) → IsLogNumber p.block → IsLogNumber p.offset → IsLogNumber p.apart → IfOk (checked_place p) IsLogPlace
 checked_below p b o a = place_by p b o a (is_small p) refl
 
-runs_below : (block offset length : ℕ) (ws : List (List ℕ)) → IsNumber block → IsNumber offset → IfOk (place_of_runs block offset length ws) IsFirstPlace
+runs_below : (block offset length : ℕ) (ws : List (List ℕ)) → IsLogNumber block → IsLogNumber offset → IfOk (place_of_runs block offset length ws) IsFirstPlace
 runs_below block offset length ws b o =
     bind_ok IsFirst IsFirstPlace (number_at ws) _ (next_below ws)
     (λ runs h. bind_ok IsFirst IsFirstPlace (number_at runs.1) _ (next_below runs.1)
-    (λ apart g. bind_ok IsPlace IsFirstPlace (checked_place (record { block = block; offset = offset; length = length; runs = runs.0; apart = apart.0 })) _ (checked_below (record { block = block; offset = offset; length = length; runs = runs.0; apart = apart.0 }) b o g) (λ p f. f)))
+    (λ apart g. bind_ok IsLogPlace IsFirstPlace (checked_place (record { block = block; offset = offset; length = length; runs = runs.0; apart = apart.0 })) _ (checked_below (record { block = block; offset = offset; length = length; runs = runs.0; apart = apart.0 }) b o g) (λ p f. f)))
 
-run_below : (block offset length : ℕ) (ws : List (List ℕ)) → IsNumber block → IsNumber offset → IsNumber length → IfOk (place_of_run block offset length ws) IsFirstPlace
+run_below : (block offset length : ℕ) (ws : List (List ℕ)) → IsLogNumber block → IsLogNumber offset → IsLogNumber length → IfOk (place_of_run block offset length ws) IsFirstPlace
 run_below block offset length ws b o l =
-    bind_ok IsPlace IsFirstPlace (checked_place (record { block = block; offset = offset; length = length; runs = 1; apart = length })) _
+    bind_ok IsLogPlace IsFirstPlace (checked_place (record { block = block; offset = offset; length = length; runs = 1; apart = length })) _
     (checked_below (record { block = block; offset = offset; length = length; runs = 1; apart = length }) b o l) (λ p f. f)
 
-length_below : (block offset : ℕ) (ws : List (List ℕ)) → IsNumber block → IsNumber offset → IfOk (place_of_length block offset ws) IsFirstPlace
+length_below : (block offset : ℕ) (ws : List (List ℕ)) → IsLogNumber block → IsLogNumber offset → IfOk (place_of_length block offset ws) IsFirstPlace
 length_below block offset ws b o =
     bind_ok IsFirst IsFirstPlace (number_at ws) _ (next_below ws)
     (λ x l. if_ok IsFirstPlace (goes_on x.1) (place_of_runs block offset x.0 x.1) (place_of_run block offset x.0 x.1) (runs_below block offset x.0 x.1 b o) (run_below block offset x.0 x.1 b o l))
 
-one_below : IsNumber 1
+one_below : IsLogNumber 1
 one_below = omega arith
 
 place_below : (ws : List (List ℕ)) → IfOk (place_at ws) IsFirstPlace
@@ -133,12 +133,12 @@ access_below kind ws =
     bind_ok IsFirstPlace IsAct (place_at ws) _ (place_below ws)
     (λ p hp. bind_ok IsSite IsAct (site_at p.1) _ (site_below p.1) (λ s hs. record { place = hp; site = hs }))
 
-reference_below : (ws : List (List ℕ)) → IfOk (reference_of ws) IsReference
+reference_below : (ws : List (List ℕ)) → IfOk (reference_of ws) IsLogReference
 reference_below ws =
-    bind_ok IsFirst IsReference (number_at ws) _ (next_below ws)
-    (λ b hb. bind_ok IsFirst IsReference (number_at b.1) _ (next_below b.1)
-    (λ o ho. bind_ok IsFirst IsReference (number_at o.1) _ (next_below o.1)
-    (λ t ht. bind_ok IsSite IsReference (site_at t.1) _ (site_below t.1) (λ s hs. record { block = hb; offset = ho; target = ht; site = hs }))))
+    bind_ok IsFirst IsLogReference (number_at ws) _ (next_below ws)
+    (λ b hb. bind_ok IsFirst IsLogReference (number_at b.1) _ (next_below b.1)
+    (λ o ho. bind_ok IsFirst IsLogReference (number_at o.1) _ (next_below o.1)
+    (λ t ht. bind_ok IsSite IsLogReference (site_at t.1) _ (site_below t.1) (λ s hs. record { block = hb; offset = ho; target = ht; site = hs }))))
 
 birth_below : (ws : List (List ℕ)) → IfOk (act_of_birth ws) IsAct
 birth_below ws =
@@ -146,24 +146,24 @@ birth_below ws =
     (λ b hb. bind_ok IsFirst IsAct (number_at b.1) _ (next_below b.1)
     (λ l hl. bind_ok (λ x. Unit {0}) IsAct (nothing_left l.1) _ (any_ok (nothing_left l.1)) (λ none g. (hb, hl))))
 
-alone_below : (ws : List (List ℕ)) → IfOk (number_alone ws) IsNumber
+alone_below : (ws : List (List ℕ)) → IfOk (number_alone ws) IsLogNumber
 alone_below ws =
-    bind_ok IsFirst IsNumber (number_at ws) _ (next_below ws)
-    (λ n h. bind_ok (λ x. Unit {0}) IsNumber (nothing_left n.1) _ (any_ok (nothing_left n.1)) (λ none g. h))
+    bind_ok IsFirst IsLogNumber (number_at ws) _ (next_below ws)
+    (λ n h. bind_ok (λ x. Unit {0}) IsLogNumber (nothing_left n.1) _ (any_ok (nothing_left n.1)) (λ none g. h))
 
 limited : (limit n : ℕ) → IfOk (below limit n) (λ m. m < limit)
 limited limit n = guard_ok (λ m. m < limit) (nat_lt n limit) n causes.OverLimit (λ e. grind (arith, nat_tests, e))
 
 task_below : (ws : List (List ℕ)) → IfOk (task_alone ws) (λ t. t < task_limit)
-task_below ws = bind_ok IsNumber (λ t. t < task_limit) (number_alone ws) (below task_limit) (alone_below ws) (λ n h. limited task_limit n)
+task_below ws = bind_ok IsLogNumber (λ t. t < task_limit) (number_alone ws) (below task_limit) (alone_below ws) (λ n h. limited task_limit n)
 
 act_below : (verb : ActVerb) (ws : List (List ℕ)) → IfOk (act_by verb ws) IsAct
 act_below (act_verbs.Access kind) ws = access_below kind ws
-act_below act_verbs.Yield ws = bind_ok IsReference IsAct (reference_of ws) _ (reference_below ws) (λ r h. h)
-act_below act_verbs.Store ws = bind_ok IsReference IsAct (reference_of ws) _ (reference_below ws) (λ r h. h)
+act_below act_verbs.Yield ws = bind_ok IsLogReference IsAct (reference_of ws) _ (reference_below ws) (λ r h. h)
+act_below act_verbs.Store ws = bind_ok IsLogReference IsAct (reference_of ws) _ (reference_below ws) (λ r h. h)
 act_below act_verbs.Birth ws = birth_below ws
-act_below act_verbs.Release ws = bind_ok IsNumber IsAct (number_alone ws) _ (alone_below ws) (λ n h. h)
-act_below act_verbs.Work ws = bind_ok IsNumber IsAct (number_alone ws) _ (alone_below ws) (λ n h. h)
+act_below act_verbs.Release ws = bind_ok IsLogNumber IsAct (number_alone ws) _ (alone_below ws) (λ n h. h)
+act_below act_verbs.Work ws = bind_ok IsLogNumber IsAct (number_alone ws) _ (alone_below ws) (λ n h. h)
 act_below act_verbs.Spawn ws = bind_ok (λ t. t < task_limit) IsAct (task_alone ws) _ (task_below ws) (λ n h. h)
 act_below act_verbs.Join ws = bind_ok (λ t. t < task_limit) IsAct (task_alone ws) _ (task_below ws) (λ n h. h)
 act_below act_verbs.Finish ws = bind_ok (λ x. Unit {0}) IsAct (nothing_left ws) _ (any_ok (nothing_left ws)) (λ none g. tt)
@@ -173,18 +173,18 @@ act_below act_verbs.Finish ws = bind_ok (λ x. Unit {0}) IsAct (nothing_left ws)
 strand_below : (ws : List (List ℕ)) → IfOk (line_of_strand ws) IsLine
 strand_below ws =
     bind_ok IsFirst IsLine (number_at ws) _ (next_below ws)
-    (λ t ht. bind_ok IsNumber IsLine (number_alone t.1) _ (alone_below t.1)
+    (λ t ht. bind_ok IsLogNumber IsLine (number_alone t.1) _ (alone_below t.1)
     (λ s hs. bind_ok (λ n. n < task_limit) IsLine (below task_limit t.0) _ (limited task_limit t.0)
     (λ u hu. bind_ok (λ n. n < strand_limit) IsLine (below strand_limit s) _ (limited strand_limit s) (λ v hv. (hu, hv)))))
 
 name_below : (ws : List (List ℕ)) → IfOk (line_of_name ws) IsLine
 name_below ws =
     bind_ok IsFirst IsLine (number_at ws) _ (next_below ws)
-    (λ s hs. guard_ok IsLine (is_left s.1) (lines.Name s.0) causes.WrongCount (λ e. hs))
+    (λ s hs. guard_ok IsLine (has_word s.1) (lines.Name s.0) causes.WrongCount (λ e. hs))
 
 version_below : (ws : List (List ℕ)) → IfOk (line_of_version ws) IsLine
 version_below ws =
-    bind_ok IsNumber IsLine (number_alone ws) _ (alone_below ws)
+    bind_ok IsLogNumber IsLine (number_alone ws) _ (alone_below ws)
     (λ n h. guard_ok IsLine (n == 1) lines.Version causes.UnknownVersion (λ e. tt))
 
 verb_below : (verb : LogVerb) (ws : List (List ℕ)) → IfOk (line_by verb ws) IsLine

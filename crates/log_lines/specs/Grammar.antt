@@ -15,7 +15,7 @@ use Rattle.log_lines.specs.declared.verb.LogVerb.{LogVerb}
 use Rattle.log_lines.specs.declared.verb.LogVerb.TheVariants as verbs
 use Rattle.log_lines.specs.declared.verb.ActVerb.{ActVerb}
 use Rattle.log_lines.specs.declared.verb.ActVerb.TheVariants as act_verbs
-use Rattle.log_lines.specs.Words.{◌>>=◌, words_of, number_at, is_left, nothing_left, site_at, goes_on}
+use Rattle.log_lines.specs.Words.{◌>>=◌, words_of, number_at, has_word, nothing_left, site_at, goes_on}
 use Rattle.log_lines.specs.Limits.{task_limit, strand_limit, access_limit, location_limit, place_end}
 
 -- POSITIONS
@@ -106,7 +106,7 @@ line_of_strand ws = do
   Ok (lines.Strand t s)
 
 abbrev pub name_behind : ℕ → List (List ℕ) → Result LogLine LogCause
-name_behind site ws = if is_left ws then Ok (lines.Name site) else Err causes.WrongCount
+name_behind site ws = if has_word ws then Ok (lines.Name site) else Err causes.WrongCount
 
 -- behind a site's number its name follows, which may have spaces in it
 abbrev pub line_of_name : List (List ℕ) → Result LogLine LogCause

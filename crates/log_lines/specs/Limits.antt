@@ -9,8 +9,8 @@ use Rattle.log_lines.specs.declared.line.LogLine.{LogLine}
 use Rattle.log_lines.specs.declared.line.LogLine.TheVariants as lines
 
 -- each number of a log is below this
-abbrev pub IsNumber : ℕ → Type 0
-IsNumber n = n < 10 ^ 18
+abbrev pub IsLogNumber : ℕ → Type 0
+IsLogNumber n = n < 10 ^ 18
 
 -- tasks, and the strands of a task
 abbrev pub task_limit : ℕ
@@ -31,37 +31,37 @@ location_limit = 2 ^ 60
 abbrev pub place_end : LogPlace → ℕ
 place_end p = p.offset + (p.runs - 1) * p.apart + p.length
 
-pub record IsPlace (p : LogPlace) : Type 0 where
-  pub block : IsNumber p.block
-  pub offset : IsNumber p.offset
+pub record IsLogPlace (p : LogPlace) : Type 0 where
+  pub block : IsLogNumber p.block
+  pub offset : IsLogNumber p.offset
   pub length : 1 ≤ p.length
   pub runs : 1 ≤ p.runs
-  pub apart : IsNumber p.apart
+  pub apart : IsLogNumber p.apart
   pub few : p.length * p.runs ≤ access_limit
   pub within : place_end p ≤ location_limit
   pub distinct : p.length ≤ p.apart
 
 abbrev pub IsSite : Option ℕ → Type 0
 IsSite None = Unit {0}
-IsSite (Some n) = IsNumber n
+IsSite (Some n) = IsLogNumber n
 
 pub record IsAccess (a : Access) : Type 0 where
-  pub place : IsPlace a.place
+  pub place : IsLogPlace a.place
   pub site : IsSite a.site
 
-pub record IsReference (r : Reference) : Type 0 where
-  pub block : IsNumber r.block
-  pub offset : IsNumber r.offset
-  pub target : IsNumber r.target
+pub record IsLogReference (r : Reference) : Type 0 where
+  pub block : IsLogNumber r.block
+  pub offset : IsLogNumber r.offset
+  pub target : IsLogNumber r.target
   pub site : IsSite r.site
 
 abbrev pub IsAct : Act → Type 0
 IsAct (acts.Access a) = IsAccess a
-IsAct (acts.Yield r) = IsReference r
-IsAct (acts.Store r) = IsReference r
-IsAct (acts.Birth block length) = IsNumber block × IsNumber length
-IsAct (acts.Release block) = IsNumber block
-IsAct (acts.Work units) = IsNumber units
+IsAct (acts.Yield r) = IsLogReference r
+IsAct (acts.Store r) = IsLogReference r
+IsAct (acts.Birth block length) = IsLogNumber block × IsLogNumber length
+IsAct (acts.Release block) = IsLogNumber block
+IsAct (acts.Work units) = IsLogNumber units
 IsAct (acts.Spawn task) = task < task_limit
 IsAct (acts.Join task) = task < task_limit
 IsAct acts.Finish = Unit {0}
@@ -70,6 +70,6 @@ abbrev pub IsLine : LogLine → Type 0
 IsLine lines.Version = Unit {0}
 IsLine (lines.Strand task strand) = (task < task_limit) × (strand < strand_limit)
 IsLine (lines.Act a) = IsAct a
-IsLine (lines.Name site) = IsNumber site
+IsLine (lines.Name site) = IsLogNumber site
 IsLine lines.Comment = Unit {0}
 IsLine lines.End = Unit {0}

@@ -32,8 +32,8 @@ has_leading_zero (c ∷ d ∷ ds) = c == 48
 abbrev pub digits_number : List ℕ → Option ℕ
 digits_number ds = if all_ascii_digits ds then Some (digits_value 10 ds) else None
 
-abbrev pub number_of : List ℕ → Option ℕ
-number_of w = if has_length w && not (has_leading_zero w) then digits_number w else None
+abbrev pub numeral_value : List ℕ → Option ℕ
+numeral_value w = if has_length w && not (has_leading_zero w) then digits_number w else None
 
 abbrev pub or_bad : Option ℕ → Result ℕ LogCause
 or_bad (Some n) = Ok n
@@ -42,15 +42,15 @@ or_bad None = Err BadNumber
 -- the next word's number, and the words behind it
 abbrev pub number_at : List (List ℕ) → Result (ℕ × List (List ℕ)) LogCause
 number_at [] = Err WrongCount
-number_at (w ∷ ws) = or_bad (number_of w) >>= λ n. Ok (n, ws)
+number_at (w ∷ ws) = or_bad (numeral_value w) >>= λ n. Ok (n, ws)
 
 -- a word is left
-abbrev pub is_left : List (List ℕ) → Bool
-is_left [] = false
-is_left (w ∷ ws) = true
+abbrev pub has_word : List (List ℕ) → Bool
+has_word [] = false
+has_word (w ∷ ws) = true
 
 abbrev pub nothing_left : List (List ℕ) → Result (Unit {0}) LogCause
-nothing_left ws = if is_left ws then Err WrongCount else Ok tt
+nothing_left ws = if has_word ws then Err WrongCount else Ok tt
 
 -- a site is written with an at sign before its number
 abbrev pub is_site : List ℕ → Bool
@@ -61,7 +61,7 @@ is_site (c ∷ cs) = c == 64
 abbrev pub site_at : List (List ℕ) → Result (Option ℕ) LogCause
 site_at [] = Ok None
 site_at (w ∷ ws) =
-    if is_site w then (or_bad (number_of (drop 1 w)) >>= λ site. nothing_left ws >>= λ _. Ok (Some site))
+    if is_site w then (or_bad (numeral_value (drop 1 w)) >>= λ site. nothing_left ws >>= λ _. Ok (Some site))
     else Err WrongCount
 
 -- a word is left that is no site

@@ -2,8 +2,8 @@
 
 ghost use Rattle.std.specs.Prelude.{◌≡◌, ◌<◌, ◌≤◌, length, IfSome};
 ghost use Rattle.std.specs.Char.{is_ascii_digit};
-ghost use Rattle.log_lines.specs.Words.{number_of, has_length, has_leading_zero, digits_number};
-ghost use Rattle.log_lines.specs.Limits.{IsNumber};
+ghost use Rattle.log_lines.specs.Words.{numeral_value, has_length, has_leading_zero, digits_number};
+ghost use Rattle.log_lines.specs.Limits.{IsLogNumber};
 
 /// A number has at most so many digits.
 const MOST_DIGITS: usize = 18;
@@ -19,7 +19,7 @@ fn is_digit(byte: u8) -> bool
 fn read_digits(digits: &[u8]) -> Option<u64>
     requires { length digits.now ≤ 18 }
     ensures number { result ≡ digits_number digits.now }
-    ensures below { IfSome result IsNumber }
+    ensures below { IfSome result IsLogNumber }
 {
     let mut number: u64 = 0;
     for byte in digits {
@@ -47,8 +47,8 @@ fn has_leading_zero(word: &[u8]) -> bool
 
 /// The number that a word writes, if it writes one.
 pub(crate) fn read_number(word: &[u8]) -> Option<u64>
-    ensures number { result ≡ number_of word.now }
-    ensures below { IfSome result IsNumber }
+    ensures number { result ≡ numeral_value word.now }
+    ensures below { IfSome result IsLogNumber }
 {
     if !has_length(word) || has_leading_zero(word) {
         return None;

@@ -2,7 +2,7 @@
 
 ghost use Rattle.std.specs.Prelude.{◌≡◌, ◌<◌, ◌^◌, IfOk};
 ghost use Rattle.log_lines.specs.Grammar.{is_small, checked_place, place_of_runs, place_of_run, place_of_length, place_at};
-ghost use Rattle.log_lines.specs.Limits.{IsNumber, IsPlace};
+ghost use Rattle.log_lines.specs.Limits.{IsLogNumber, IsLogPlace};
 ghost use Rattle.log_lines.specs.Rest.{operands, ReadsAs};
 
 use crate::cause::LogCause;
@@ -15,7 +15,7 @@ const LOCATION_LIMIT: u64 = 1 << 60;
 
 // Whether a place is within the limits.
 fn is_small(place: LogPlace) -> bool
-    requires { IsNumber place.offset }
+    requires { IsLogNumber place.offset }
     ensures { result ≡ is_small place }
 {
     if place.length == 0 || place.runs == 0 {
@@ -34,7 +34,7 @@ fn is_small(place: LogPlace) -> bool
 
 // The place itself, where it is within the limits and its runs don't overlap.
 fn checked_place(place: LogPlace) -> Result<LogPlace, LogCause>
-    requires { IsNumber place.offset }
+    requires { IsLogNumber place.offset }
     ensures { result ≡ checked_place place }
 {
     if !is_small(place) {
@@ -53,7 +53,7 @@ fn place_of_runs(
     length: u64,
     rest: &[u8],
 ) -> Result<(LogPlace, &[u8]), LogCause>
-    requires { IsNumber offset }
+    requires { IsLogNumber offset }
     ensures { ReadsAs (λ x. (x.0, operands x.1.now)) result (place_of_runs block offset length (operands rest.now)) }
 {
     let (runs, rest) = number_at(rest)?;
@@ -75,7 +75,7 @@ fn place_of_run(
     length: u64,
     rest: &[u8],
 ) -> Result<(LogPlace, &[u8]), LogCause>
-    requires { IsNumber offset }
+    requires { IsLogNumber offset }
     ensures { ReadsAs (λ x. (x.0, operands x.1.now)) result (place_of_run block offset length (operands rest.now)) }
 {
     let place = checked_place(LogPlace {
@@ -90,7 +90,7 @@ fn place_of_run(
 
 // A place whose length is read.
 fn place_of_length(block: u64, offset: u64, rest: &[u8]) -> Result<(LogPlace, &[u8]), LogCause>
-    requires { IsNumber offset }
+    requires { IsLogNumber offset }
     ensures { ReadsAs (λ x. (x.0, operands x.1.now)) result (place_of_length block offset (operands rest.now)) }
 {
     let (length, rest) = number_at(rest)?;

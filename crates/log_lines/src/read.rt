@@ -9,7 +9,7 @@ use crate::cause::LogCause;
 use crate::line::{Access, AccessKind, Act, LogLine, Reference};
 use crate::place::place_at;
 use crate::verb::{ActVerb, LogVerb, verb_of};
-use crate::words::{first_word, is_left, nothing_left, number_at, site_at};
+use crate::words::{first_word, has_word, nothing_left, number_at, site_at};
 
 const TASK_LIMIT: u64 = 1 << 32;
 
@@ -94,7 +94,7 @@ fn line_of_name(rest: &[u8]) -> Result<LogLine, LogCause>
     ensures { result ≡ line_of_name (operands rest.now) }
 {
     let (site, rest) = number_at(rest)?;
-    if is_left(rest) {
+    if has_word(rest) {
         Ok(LogLine::Name(site))
     } else {
         Err(LogCause::WrongCount)

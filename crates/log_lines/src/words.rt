@@ -2,8 +2,8 @@
 
 ghost use Rattle.std.specs.Prelude.{◌≡◌, ◌≤◌, ◌<◌, ◌+◌, ◌^◌, [], ◌∷◌, length, drop, MatchOption, IfOk, IfSome, option_map};
 ghost use Rattle.std.specs.List.{position_or_len};
-ghost use Rattle.log_lines.specs.Words.{is_space, words_of, number_of, or_bad, number_at, is_left, nothing_left, site_at, goes_on, is_site};
-ghost use Rattle.log_lines.specs.Limits.{IsNumber, IsSite};
+ghost use Rattle.log_lines.specs.Words.{is_space, words_of, numeral_value, or_bad, number_at, has_word, nothing_left, site_at, goes_on, is_site};
+ghost use Rattle.log_lines.specs.Limits.{IsLogNumber, IsSite};
 ghost use Rattle.log_lines.specs.Rest.{operands, ReadsAs};
 
 use crate::cause::LogCause;
@@ -42,8 +42,8 @@ fn next_word(rest: &[u8]) -> Option<(&[u8], &[u8])>
 
 // The number of a word.
 fn number(word: &[u8]) -> Result<u64, LogCause>
-    ensures number { result ≡ or_bad (number_of word.now) }
-    ensures below { IfOk result IsNumber }
+    ensures number { result ≡ or_bad (numeral_value word.now) }
+    ensures below { IfOk result IsLogNumber }
 {
     read_number(word).ok_or(LogCause::BadNumber)
 }
@@ -51,7 +51,7 @@ fn number(word: &[u8]) -> Result<u64, LogCause>
 /// The next word's number, and the rest.
 pub(crate) fn number_at(rest: &[u8]) -> Result<(u64, &[u8]), LogCause>
     ensures read { ReadsAs (λ x. (x.0, operands x.1.now)) result (number_at (operands rest.now)) }
-    ensures below { IfOk result (λ x. IsNumber x.0) }
+    ensures below { IfOk result (λ x. IsLogNumber x.0) }
 {
     let Some((word, rest)) = next_word(rest) else {
         return Err(LogCause::WrongCount);
@@ -61,8 +61,8 @@ pub(crate) fn number_at(rest: &[u8]) -> Result<(u64, &[u8]), LogCause>
 }
 
 /// Whether a word is left.
-pub(crate) fn is_left(rest: &[u8]) -> bool
-    ensures { result ≡ is_left (operands rest.now) }
+pub(crate) fn has_word(rest: &[u8]) -> bool
+    ensures { result ≡ has_word (operands rest.now) }
 {
     !rest.is_empty()
 }
@@ -71,7 +71,7 @@ pub(crate) fn is_left(rest: &[u8]) -> bool
 pub(crate) fn nothing_left(rest: &[u8]) -> Result<(), LogCause>
     ensures { result ≡ nothing_left (operands rest.now) }
 {
-    if is_left(rest) {
+    if has_word(rest) {
         Err(LogCause::WrongCount)
     } else {
         Ok(())

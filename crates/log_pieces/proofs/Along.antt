@@ -1,5 +1,5 @@
 -- How far the walk has come along the lines of a text.
-use Rattle.log_pieces.proofs.Common.{◌≡◌, ◌<◌, ◌≤◌, ◌+◌, ℕ, List, [], ◌∷◌, length, drop, refl, ap, sym, subst, ◌∙◌, slice_range, arith, Option, Some, None, option_map, line_of, GraphStrand, LogFault, lines_in, Spot, spot_behind_said, spot_behind_all, line_fault, fault_from, found_at, OpenStrand, LineWalk, LogPiece, IsAtSpot, place_of, cut_of, cut_behind_said, with_piece, text_at, events_of_pieces, Cuts, IsLineAt}
+use Rattle.log_pieces.proofs.Common.{◌≡◌, ◌<◌, ◌≤◌, ◌+◌, ℕ, List, [], ◌∷◌, length, drop, refl, ap, sym, subst, ◌∙◌, slice_range, arith, Option, Some, None, option_map, line_of, GraphStrand, LogFault, lines_in, Spot, spot_behind_said, spot_behind_all, line_fault, fault_from, found_at, OpenStrand, LineWalk, LogPiece, IsAtSpot, open_place, cut_of, cut_behind_said, with_piece, text_at, events_of_pieces, Cuts, IsLineAt}
 use Rattle.log_pieces.proofs.Whole.{lines_from}
 use Rattle.log_pieces.proofs.Steps.{closed_events, line_step}
 
@@ -11,7 +11,7 @@ pub record Reaches (old now : LineWalk) (text : List ℕ) (from at : ℕ) (first
   pub ends : spot_behind_all first (lines_in (drop from text)) ≡ spot_behind_all spot (lines_in (drop at text))
   pub cuts : (texts : List (List ℕ)) → text_at texts old.file ≡ text → Cuts texts text (cut_of old) from first.events → Cuts texts text (cut_of now) at spot.events
 
-same_place : (here : Option OpenStrand) (strand : Option GraphStrand) → option_map (λ o. o.strand) here ≡ strand → option_map (λ p. p.0) (option_map place_of here) ≡ strand
+same_place : (here : Option OpenStrand) (strand : Option GraphStrand) → option_map (λ o. o.strand) here ≡ strand → option_map (λ p. p.0) (option_map open_place here) ≡ strand
 same_place None strand e = e
 same_place (Some o) strand e = e
 

@@ -11,7 +11,7 @@ pub use Rattle.log_lines.specs.declared.cause.LogCause.{LogCause}
 pub use Rattle.log_lines.specs.declared.line.Act.{Act}
 pub use Rattle.log_lines.specs.declared.line.LogLine.{LogLine}
 pub use Rattle.log_pieces.specs.Claims.{ClaimsHold, is_pair, is_that}
-pub use Rattle.log_pieces.specs.LineWalk.{IsAtSpot, place_of, cut_of, cut_behind_said, with_piece, Cut, turned, cut_behind_act, cut_behind, IsSmall}
+pub use Rattle.log_pieces.specs.LineWalk.{IsAtSpot, open_place, cut_of, cut_behind_said, with_piece, Cut, turned, cut_behind_act, cut_behind, OpenStrandIsSmall}
 pub use Rattle.log_pieces.specs.Pieces.{text_at, events_of_pieces, Cuts, IsLineAt, act_said, acts_in, on_strand, events_in, events_open, BeginsLine, IsBegun}
 pub use Rattle.log_pieces.specs.declared.claims.Claims.{Claims}
 pub use Rattle.log_pieces.specs.declared.piece.LogPiece.{LogPiece}

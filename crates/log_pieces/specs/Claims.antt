@@ -20,5 +20,5 @@ pub record ClaimsHold (claims : Claims) (events : List Event) : Type 0 where
   pub released : (b : ℕ) → contains nat_eq claims.released b ≡ is_released events b
 
 -- the strand, if there is one, has a number within the limit
-abbrev pub IsWithin : Option GraphStrand → Type 0
-IsWithin strand = IfSome strand (λ u. u.index < strand_limit)
+abbrev pub StrandIsWithin : Option GraphStrand → Type 0
+StrandIsWithin strand = IfSome strand (λ u. u.index < strand_limit)

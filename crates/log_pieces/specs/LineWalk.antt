@@ -15,19 +15,19 @@ pub record IsAtSpot (walk : LineWalk) (spot : Spot) : Type 0 where
   pub knows : ClaimsHold walk.claims spot.events
 
 -- the open strand's number is within the limit
-abbrev pub IsSmall : Option OpenStrand → Type 0
-IsSmall here = IfSome here (λ o. o.strand.index < strand_limit)
+abbrev pub OpenStrandIsSmall : Option OpenStrand → Type 0
+OpenStrandIsSmall here = IfSome here (λ o. o.strand.index < strand_limit)
 
 -- the strand of the next line and where its piece begins, and the pieces that have ended
 pub record Cut : Type 0 where
   pub place : Option (GraphStrand × ℕ)
   pub pieces : List LogPiece
 
-abbrev pub place_of : OpenStrand → GraphStrand × ℕ
-place_of o = (o.strand, o.begin)
+abbrev pub open_place : OpenStrand → GraphStrand × ℕ
+open_place o = (o.strand, o.begin)
 
 abbrev pub cut_of : LineWalk → Cut
-cut_of walk = record { place = option_map place_of walk.here; pieces = walk.pieces }
+cut_of walk = record { place = option_map open_place walk.here; pieces = walk.pieces }
 
 -- with the piece of the open strand, unless it is empty
 abbrev pub with_piece : ℕ → Option (GraphStrand × ℕ) → ℕ → List LogPiece → List LogPiece

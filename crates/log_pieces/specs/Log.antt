@@ -5,6 +5,6 @@ use Rattle.log_pieces.specs.declared.log.LogError.{LogError}
 use Rattle.log_pieces.specs.declared.log.LogError.TheVariants.{Refused, NoMemory}
 
 -- a log that was refused has that fault first
-abbrev pub IsRefused : Option LocatedFault → LogError → Type 0
-IsRefused fault (Refused found) = fault ≡ Some found
-IsRefused fault NoMemory = Unit {0}
+abbrev pub IsRefusedLog : Option LocatedFault → LogError → Type 0
+IsRefusedLog fault (Refused found) = fault ≡ Some found
+IsRefusedLog fault NoMemory = Unit {0}

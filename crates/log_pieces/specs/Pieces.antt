@@ -61,6 +61,6 @@ pub record Cuts (texts : List (List ℕ)) (text : List ℕ) (cut : Cut) (at : �
   pub begun : IsBegun text cut.place at
 
 -- what a walk answers: the first fault, or, where there is none, whether the log was cut off
-abbrev pub Tells : Result Bool LocatedFault → Option LocatedFault → Bool → Type 0
-Tells (Ok cut) fault is_cut = (fault ≡ None) × (cut ≡ is_cut)
-Tells (Err found) fault is_cut = fault ≡ Some found
+abbrev pub WalkTells : Result Bool LocatedFault → Option LocatedFault → Bool → Type 0
+WalkTells (Ok cut) fault is_cut = (fault ≡ None) × (cut ≡ is_cut)
+WalkTells (Err found) fault is_cut = fault ≡ Some found

@@ -5,7 +5,7 @@ ghost use Rattle.std.specs.HashSet.{contains};
 ghost use Rattle.log_lines.specs.Limits.{strand_limit};
 ghost use Rattle.log_form.specs.Events.{Event, event, has_ended, strand_behind};
 ghost use Rattle.log_form.specs.Faults.{claim_fault, turn_fault};
-ghost use Rattle.log_pieces.specs.Claims.{ClaimsHold, IsWithin, is_pair, is_that};
+ghost use Rattle.log_pieces.specs.Claims.{ClaimsHold, StrandIsWithin, is_pair, is_that};
 
 use fork_graph::GraphStrand;
 use log_form::LogFault;
@@ -174,7 +174,7 @@ impl Claims {
         act: Act,
     ) -> Result<Option<LogFault>, AllocError>
         requires { strand.index < strand_limit }
-        ensures within { IfOk result (λ fault. fault ≡ None → IsWithin (strand_behind strand act)) }
+        ensures within { IfOk result (λ fault. fault ≡ None → StrandIsWithin (strand_behind strand act)) }
         ensures fault { IfOk result (λ fault. (events : List Event) → ClaimsHold self.old events → fault ≡ claim_fault events strand act) }
         ensures after { IfOk result (λ fault. fault ≡ None → (events : List Event) → ClaimsHold self.old events → ClaimsHold self.new (events ++ event strand act ∷ [])) }
     {

@@ -6,8 +6,8 @@ ghost use Rattle.log_form.specs.Text.{lines_in};
 ghost use Rattle.log_form.specs.Events.{Event, Spot, spot_behind_all, file_begin, file_end, events_of, is_cut};
 ghost use Rattle.log_form.specs.Faults.{first_fault, fault_from, fault_of_lines, log_fault};
 ghost use Rattle.log_pieces.specs.Claims.{ClaimsHold};
-ghost use Rattle.log_pieces.specs.LineWalk.{IsAtSpot, IsSmall, cut_of};
-ghost use Rattle.log_pieces.specs.Pieces.{text_at, events_of_pieces, IsLineAt, Cuts, Tells};
+ghost use Rattle.log_pieces.specs.LineWalk.{IsAtSpot, OpenStrandIsSmall, cut_of};
+ghost use Rattle.log_pieces.specs.Pieces.{text_at, events_of_pieces, IsLineAt, Cuts, WalkTells};
 
 use crate::walk::LineWalk;
 use log_form::{LocatedFault, LogFault, LogPosition};
@@ -60,7 +60,7 @@ fn found(file: usize, line: usize, fault: LogFault) -> LocatedFault
 impl LineWalk {
     // Goes along the lines of a text from a place on, that of its second line.
     fn take_lines(&mut self, text: &[u8], from: usize) -> Result<Option<LocatedFault>, AllocError>
-        requires small { IsSmall self.old.here }
+        requires small { OpenStrandIsSmall self.old.here }
         requires from { (1 ≤ from) × (from ≤ length text.now) }
         ensures found { IfOk result (λ found. (spot : Spot) → IsAtSpot self.old spot → found ≡ fault_from self.old.file spot 2 (lines_in (drop from text.now))) }
         ensures after { IfOk result (λ found. found ≡ None → (spot : Spot) → IsAtSpot self.old spot → IsAtSpot self.new (spot_behind_all spot (lines_in (drop from text.now)))) }
@@ -111,7 +111,7 @@ impl LineWalk {
     ) -> Result<Result<bool, LocatedFault>, AllocError>
         requires knows { ClaimsHold self.old.claims [] }
         requires pieces { self.old.pieces ≡ [] }
-        ensures found { IfOk result (λ read. Tells read (log_fault texts.now) (is_cut texts.now)) }
+        ensures found { IfOk result (λ read. WalkTells read (log_fault texts.now) (is_cut texts.now)) }
         ensures pieces { IfOk result (λ read. OnOk read (events_of_pieces texts.now self.new.pieces ≡ events_of texts.now)) }
     {
         let mut cut = false;

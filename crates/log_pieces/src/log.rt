@@ -4,7 +4,7 @@ ghost use Rattle.std.specs.Prelude.{◌≡◌, IfOk, IfErr, None};
 ghost use Rattle.log_form.specs.Events.{events_of, is_cut};
 ghost use Rattle.log_form.specs.Faults.{log_fault};
 ghost use Rattle.log_pieces.specs.Pieces.{events_of_pieces};
-ghost use Rattle.log_pieces.specs.Log.{IsRefused};
+ghost use Rattle.log_pieces.specs.Log.{IsRefusedLog};
 
 use crate::piece::LogPiece;
 use crate::walk::LineWalk;
@@ -46,7 +46,7 @@ pub fn cut_log(alloc: Global, texts: &[Listed<u8>]) -> Result<CutLog, LogError>
     ensures whole { IfOk result (λ log. log_fault texts.now ≡ None) }
     ensures cut { IfOk result (λ log. log.is_cut ≡ is_cut texts.now) }
     ensures pieces { IfOk result (λ log. events_of_pieces texts.now log.pieces ≡ events_of texts.now) }
-    ensures refused { IfErr result (IsRefused (log_fault texts.now)) }
+    ensures refused { IfErr result (IsRefusedLog (log_fault texts.now)) }
 {
     let mut walk = LineWalk::new(alloc);
     match walk.take_files(texts)? {

@@ -5,8 +5,8 @@ ghost use Rattle.log_lines.specs.Grammar.{line_of};
 ghost use Rattle.log_lines.specs.Limits.{strand_limit, IsLine};
 ghost use Rattle.log_form.specs.Events.{Event, Spot, has_ended, spot_behind, spot_behind_act, spot_behind_said, is_last, strand_behind};
 ghost use Rattle.log_form.specs.Faults.{act_fault, said_fault, line_fault};
-ghost use Rattle.log_pieces.specs.Claims.{ClaimsHold, IsWithin};
-ghost use Rattle.log_pieces.specs.LineWalk.{IsAtSpot, IsSmall, place_of, cut_of, cut_behind_act, cut_behind, cut_behind_said, turned, open_behind, with_piece};
+ghost use Rattle.log_pieces.specs.Claims.{ClaimsHold, StrandIsWithin};
+ghost use Rattle.log_pieces.specs.LineWalk.{IsAtSpot, OpenStrandIsSmall, open_place, cut_of, cut_behind_act, cut_behind, cut_behind_said, turned, open_behind, with_piece};
 
 use crate::claims::Claims;
 use crate::piece::LogPiece;
@@ -91,7 +91,7 @@ impl LineWalk {
     // A strand is open from a place on.
     fn begin_strand(&mut self, strand: GraphStrand, begin: usize)
         ensures rest { self.new ≡ record self.old { here = self.new.here } }
-        ensures place { option_map place_of self.new.here ≡ Some (strand, begin) }
+        ensures place { option_map open_place self.new.here ≡ Some (strand, begin) }
         ensures here { (events : List Event) → ClaimsHold self.old.claims events → self.new.here ≡ Some (record { strand = strand; ended = has_ended events strand; begin = begin }) }
     {
         let ended = self.claims.has_ended(strand);
@@ -111,7 +111,7 @@ impl LineWalk {
     ) -> Result<(), AllocError>
         requires { strand.index < strand_limit }
         ensures after { OnOk result ((spot : Spot) → IsAtSpot self.old spot → IsAtSpot self.new (record { here = Some strand; closed = spot.closed; events = spot.events })) }
-        ensures small { OnOk result (IsSmall self.new.here) }
+        ensures small { OnOk result (OpenStrandIsSmall self.new.here) }
         ensures cut { OnOk result (cut_of self.new ≡ record { place = Some (strand, end); pieces = with_piece self.old.file (cut_of self.old).place begin self.old.pieces }) }
         ensures file { self.new.file ≡ self.old.file }
     {
@@ -123,9 +123,9 @@ impl LineWalk {
     // The strand has acted, up to a place; where the act was its last one, another strand follows, or none.
     fn turn(&mut self, strand: GraphStrand, act: Act, end: usize) -> Result<(), AllocError>
         requires strand { strand.index < strand_limit }
-        requires behind { IsWithin (strand_behind strand act) }
-        requires small { IsSmall self.old.here }
-        ensures small { OnOk result (IsSmall self.new.here) }
+        requires behind { StrandIsWithin (strand_behind strand act) }
+        requires small { OpenStrandIsSmall self.old.here }
+        ensures small { OnOk result (OpenStrandIsSmall self.new.here) }
         ensures cut { OnOk result (cut_of self.new ≡ (if is_last act then turned self.old.file (cut_of self.old) strand act end else cut_of self.old)) }
         ensures here { OnOk result ((events : List Event) → ClaimsHold self.old.claims events → self.new.here ≡ (if is_last act then open_behind events strand act end else self.old.here)) }
         ensures rest { self.new ≡ record self.old { here = self.new.here; pieces = self.new.pieces } }
@@ -152,8 +152,8 @@ impl LineWalk {
 
     // An act; why it may not be.
     fn take_act(&mut self, act: Act, end: usize) -> Result<Option<LogFault>, AllocError>
-        requires { IsSmall self.old.here }
-        ensures small { IfOk result (λ fault. fault ≡ None → IsSmall self.new.here) }
+        requires { OpenStrandIsSmall self.old.here }
+        ensures small { IfOk result (λ fault. fault ≡ None → OpenStrandIsSmall self.new.here) }
         ensures fault { IfOk result (λ fault. (spot : Spot) → IsAtSpot self.old spot → fault ≡ act_fault spot.events spot.here act) }
         ensures after { IfOk result (λ fault. fault ≡ None → (spot : Spot) → IsAtSpot self.old spot → IsAtSpot self.new (spot_behind_act spot spot.here act)) }
         ensures cut { IfOk result (λ fault. fault ≡ None → cut_of self.new ≡ cut_behind_act self.old.file (cut_of self.old) (cut_of self.old).place act end) }
@@ -179,9 +179,9 @@ impl LineWalk {
         begin: usize,
         end: usize,
     ) -> Result<Option<LogFault>, AllocError>
-        requires small { IsSmall self.old.here }
+        requires small { OpenStrandIsSmall self.old.here }
         requires line { IsLine line }
-        ensures small { IfOk result (λ fault. fault ≡ None → IsSmall self.new.here) }
+        ensures small { IfOk result (λ fault. fault ≡ None → OpenStrandIsSmall self.new.here) }
         ensures fault { IfOk result (λ fault. (spot : Spot) → IsAtSpot self.old spot → fault ≡ said_fault spot (Ok line)) }
         ensures after { IfOk result (λ fault. fault ≡ None → (spot : Spot) → IsAtSpot self.old spot → IsAtSpot self.new (spot_behind spot line)) }
         ensures cut { IfOk result (λ fault. fault ≡ None → cut_of self.new ≡ cut_behind self.old.file (cut_of self.old) line begin end) }
@@ -215,8 +215,8 @@ impl LineWalk {
         begin: usize,
         end: usize,
     ) -> Result<Option<LogFault>, AllocError>
-        requires { IsSmall self.old.here }
-        ensures small { IfOk result (λ fault. fault ≡ None → IsSmall self.new.here) }
+        requires { OpenStrandIsSmall self.old.here }
+        ensures small { IfOk result (λ fault. fault ≡ None → OpenStrandIsSmall self.new.here) }
         ensures fault { IfOk result (λ fault. (spot : Spot) → IsAtSpot self.old spot → fault ≡ line_fault spot (line_of line.now)) }
         ensures after { IfOk result (λ fault. fault ≡ None → (spot : Spot) → IsAtSpot self.old spot → IsAtSpot self.new (spot_behind_said spot (line_of line.now))) }
         ensures cut { IfOk result (λ fault. fault ≡ None → cut_of self.new ≡ cut_behind_said self.old.file (cut_of self.old) (line_of line.now) begin end) }

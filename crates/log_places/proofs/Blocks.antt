@@ -1,5 +1,5 @@
 -- The slots of a block, page after page.
-use Rattle.log_places.proofs.Common.{◌≡◌, ◌<◌, ◌≤◌, ◌+◌, ◌-◌, ◌*◌, ◌/◌, ◌==◌, ◌++◌, ◌∷◌, ◌∙◌, ℕ, zero, suc, Bool, true, false, cond, List, [], length, drop, get_or, slice_get, append-nil, Some, None, inl, inr, refl, sym, ap, subst, arith, sum_by, eqb-true, eq-eqb, append_assoc, length-drop, same_Some, slice_get_within, In, got_in, in_append_left, in_append_right, in_append_cases, none_some, in_got, Stretch, PageKey, Region, LocationSlot, Ascending, at, found, page_key, same_page, IsFirst, PlacesValue, firsts_from, stretch_count, stretches_before, IsSlot, AreDifferent, AreMarked, slots_of_page, slots_on, slots_of_block, next_page, SlotsDiffer}
+use Rattle.log_places.proofs.Common.{◌≡◌, ◌<◌, ◌≤◌, ◌+◌, ◌-◌, ◌*◌, ◌/◌, ◌==◌, ◌++◌, ◌∷◌, ◌∙◌, ℕ, zero, suc, Bool, true, false, cond, List, [], length, drop, get_or, slice_get, append-nil, Some, None, inl, inr, refl, sym, ap, subst, arith, sum_by, eqb-true, eq-eqb, append_assoc, length-drop, same_Some, slice_get_within, In, got_in, in_append_left, in_append_right, in_append_cases, none_some, in_got, Stretch, PageKey, Region, LocationSlot, Ascending, at, found, page_key, same_page, IsFirstPage, PlacesValue, firsts_from, stretch_count, stretches_before, IsSlot, AreDifferent, AreMarked, slots_of_page, slots_on, slots_of_block, next_page, SlotsDiffer}
 use Rattle.log_places.proofs.Marking.{ascending_in}
 use Rattle.log_places.proofs.Finding.{places, same_keys, same_itself}
 use Rattle.log_places.proofs.Numbering.{below_all, found_got, item_got, number_is}
@@ -326,7 +326,7 @@ is_not : (b : Bool) → (b ≡ true → ⊥) → b ≡ false
 is_not true never = absurd (never refl)
 is_not false never = refl
 
-first_of : (ks : List PageKey) (i : ℕ) (k : PageKey) → AreDifferent ks → slice_get ks i ≡ Some k → IsFirst ks k i
+first_of : (ks : List PageKey) (i : ℕ) (k : PageKey) → AreDifferent ks → slice_get ks i ≡ Some k → IsFirstPage ks k i
 first_of [] i k d e = none_some (sym (none_there i) ∙ e)
 first_of (x ∷ xs) zero k d e = subst (λ (y : PageKey). same_page y x ≡ true) (same_Some x k e) (same_itself x)
 first_of (x ∷ xs) (suc i) k d e = (
@@ -334,7 +334,7 @@ first_of (x ∷ xs) (suc i) k d e = (
   first_of xs i k d.1 e,
 )
 
-got_first : (ks : List PageKey) (i : ℕ) (k : PageKey) → IsFirst ks k i → slice_get ks i ≡ Some k
+got_first : (ks : List PageKey) (i : ℕ) (k : PageKey) → IsFirstPage ks k i → slice_get ks i ≡ Some k
 got_first [] i k f = absurd f
 got_first (x ∷ xs) zero k f = ap (λ (y : PageKey). Some y) (sym (same_keys k x f))
 got_first (x ∷ xs) (suc i) k f = got_first xs i k f.1
@@ -366,7 +366,7 @@ module _ (v : PlacesValue) (block : ℕ) (whole : AreWhole v) where
           page = m.page;
           place = m.on.place;
           stretches = m.stretches;
-          of_page = subst (λ (k : PageKey). IsFirst v.keys k m.page) same first;
+          of_page = subst (λ (k : PageKey). IsFirstPage v.keys k m.page) same first;
           there = m.there;
           at = m.on.at;
           is = (let e = m.on.number in omega (arith, e));

@@ -1,10 +1,10 @@
 -- The names of lower crates and of the specifications that these proofs use. Declares nothing.
 pub use Rattle.indexmap.specs.IndexSet.{insert_key}
-pub use Rattle.log_places.specs.Blocks.{slots_of_page, slots_on, slots_of_block, next_page, SlotsDiffer, AreNear}
+pub use Rattle.log_places.specs.Blocks.{slots_of_page, slots_on, slots_of_block, next_page, SlotsDiffer, PagesAreInRange}
 pub use Rattle.log_places.specs.Counting.{IsAccessed, IsEdge, HasEdge, AreCutAlong, AreMarked, AreDifferent, BeginsStretch, HaveStretches}
 pub use Rattle.log_places.specs.Laws.{MarkedAreThere, StretchesAreWhole, NumbersAreDistinct, SlotsAreOne}
-pub use Rattle.log_places.specs.Numbers.{firsts_from, stretch_count, stretches_before, IsSlot, IsNumber, IsSlotAt}
-pub use Rattle.log_places.specs.Places.{at, found, page_key, run_start, same_page, Covers, IsRegionCut, PlacesValue, IsFirst, IsRunCut, KeepsCuts, IsIn}
+pub use Rattle.log_places.specs.Numbers.{firsts_from, stretch_count, stretches_before, IsSlot, IsStretchNumber, IsSlotAt}
+pub use Rattle.log_places.specs.Places.{at, found, page_key, run_start, same_page, Covers, IsRegionCut, PlacesValue, IsFirstPage, IsRunCut, KeepsCuts, IsIn}
 pub use Rattle.log_places.specs.Runs.{first_on, end_on, IsRunMarked}
 pub use Rattle.log_places.specs.Stretches.{marked, Ascending, pieces, rest_from, AreWith, Has, AreCut, tiles, piece, is_gap}
 pub use Rattle.log_places.specs.declared.numbers.LocationSlot.{LocationSlot}

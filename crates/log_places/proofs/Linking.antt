@@ -1,5 +1,5 @@
 -- Links from page to page of a block, as the code makes them.
-use Rattle.log_places.proofs.Common.{◌≡◌, ◌<◌, ◌≤◌, ◌+◌, ◌-◌, ◌*◌, ◌^◌, ◌==◌, ◌++◌, ◌∷◌, ◌∙◌, ℕ, zero, suc, Bool, true, false, cond, List, [], length, drop, slice_get, slice_set, Option, Some, None, IfSome, inl, inr, refl, sym, ap, subst, arith, list_any, cases_lt, length-drop, same_Some, insert_key, got_other, none_some, got_set, PageKey, same_page, next_page, AreNear}
+use Rattle.log_places.proofs.Common.{◌≡◌, ◌<◌, ◌≤◌, ◌+◌, ◌-◌, ◌*◌, ◌^◌, ◌==◌, ◌++◌, ◌∷◌, ◌∙◌, ℕ, zero, suc, Bool, true, false, cond, List, [], length, drop, slice_get, slice_set, Option, Some, None, IfSome, inl, inr, refl, sym, ap, subst, arith, list_any, cases_lt, length-drop, same_Some, insert_key, got_other, none_some, got_set, PageKey, same_page, next_page, PagesAreInRange}
 
 -- WHERE THE NEXT PAGE STANDS
 
@@ -75,19 +75,19 @@ link_set keys nexts place x next size at is lt before k q le here =
 
 -- PAGES THAT ARE NEAR
 
-near_push : (ks : List PageKey) (k : PageKey) → k.page * 4096 ≤ 2 ^ 60 → AreNear ks → AreNear (ks ++ k ∷ [])
+near_push : (ks : List PageKey) (k : PageKey) → k.page * 4096 ≤ 2 ^ 60 → PagesAreInRange ks → PagesAreInRange (ks ++ k ∷ [])
 near_push [] k le near = (le, tt)
 near_push (x ∷ xs) k le near = (near.0, near_push xs k le near.1)
 
-near_by : (b : Bool) (ks : List PageKey) (k : PageKey) → k.page * 4096 ≤ 2 ^ 60 → AreNear ks → AreNear (cond b ks (ks ++ k ∷ []))
+near_by : (b : Bool) (ks : List PageKey) (k : PageKey) → k.page * 4096 ≤ 2 ^ 60 → PagesAreInRange ks → PagesAreInRange (cond b ks (ks ++ k ∷ []))
 near_by true ks k le near = near
 near_by false ks k le near = near_push ks k le near
 
 -- one page more
-pub near_more : (xs ys : List PageKey) (k : PageKey) → ys ≡ insert_key same_page xs k → k.page * 4096 ≤ 2 ^ 60 → AreNear xs → AreNear ys
-near_more xs ys k is le near = subst (λ (l : List PageKey). AreNear l) (sym is) (near_by (list_any (same_page k) xs) xs k le near)
+pub near_more : (xs ys : List PageKey) (k : PageKey) → ys ≡ insert_key same_page xs k → k.page * 4096 ≤ 2 ^ 60 → PagesAreInRange xs → PagesAreInRange ys
+near_more xs ys k is le near = subst (λ (l : List PageKey). PagesAreInRange l) (sym is) (near_by (list_any (same_page k) xs) xs k le near)
 
-pub near_at : (ks : List PageKey) (i : ℕ) (k : PageKey) → slice_get ks i ≡ Some k → AreNear ks → k.page * 4096 ≤ 2 ^ 60
+pub near_at : (ks : List PageKey) (i : ℕ) (k : PageKey) → slice_get ks i ≡ Some k → PagesAreInRange ks → k.page * 4096 ≤ 2 ^ 60
 near_at [] i k e near = none_some e
 near_at (x ∷ xs) zero k e near = subst (λ (y : PageKey). y.page * 4096 ≤ 2 ^ 60) (same_Some x k e) near.0
 near_at (x ∷ xs) (suc i) k e near = near_at xs i k e near.1

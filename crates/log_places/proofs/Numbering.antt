@@ -1,15 +1,15 @@
 -- Numbers of stretches.
-use Rattle.log_places.proofs.Common.{◌≡◌, ℕ, zero, suc, ◌+◌, ◌-◌, ◌*◌, ◌/◌, ◌%◌, min, ◌<◌, ◌≤◌, Bool, true, false, cond, not, nat_lt, Option, Some, None, IfSome, IfNone, List, [], ◌∷◌, length, get_or, slice_get, refl, ap, sym, subst, ◌∙◌, arith, position, sum_by, ltb-true, ltb-false, false≢true, sum_by-cons, slice_get_within, same_Some, slice_get-get_or, In, got_in, Stretch, PageKey, LocationSlot, Ascending, Has, at, found, page_key, same_page, IsFirst, IsIn, IsRunCut, PlacesValue, firsts_from, stretch_count, stretches_before, IsNumber, IsSlot, IsSlotAt, NumbersAreDistinct, SlotsAreOne}
+use Rattle.log_places.proofs.Common.{◌≡◌, ℕ, zero, suc, ◌+◌, ◌-◌, ◌*◌, ◌/◌, ◌%◌, min, ◌<◌, ◌≤◌, Bool, true, false, cond, not, nat_lt, Option, Some, None, IfSome, IfNone, List, [], ◌∷◌, length, get_or, slice_get, refl, ap, sym, subst, ◌∙◌, arith, position, sum_by, ltb-true, ltb-false, false≢true, sum_by-cons, slice_get_within, same_Some, slice_get-get_or, In, got_in, Stretch, PageKey, LocationSlot, Ascending, Has, at, found, page_key, same_page, IsFirstPage, IsIn, IsRunCut, PlacesValue, firsts_from, stretch_count, stretches_before, IsStretchNumber, IsSlot, IsSlotAt, NumbersAreDistinct, SlotsAreOne}
 use Rattle.log_places.proofs.Finding.{behind_first, place, places, same_keys}
 
 -- ---- the place of a page
 
-found_step : (k x : PageKey) (xs : List PageKey) (b : Bool) → same_page k x ≡ b → (place k xs < length xs → IsFirst xs k (place k xs))
-    → cond (not b) (1 + place k xs) 0 < length (x ∷ xs) → IsFirst (x ∷ xs) k (cond (not b) (1 + place k xs) 0)
+found_step : (k x : PageKey) (xs : List PageKey) (b : Bool) → same_page k x ≡ b → (place k xs < length xs → IsFirstPage xs k (place k xs))
+    → cond (not b) (1 + place k xs) 0 < length (x ∷ xs) → IsFirstPage (x ∷ xs) k (cond (not b) (1 + place k xs) 0)
 found_step k x xs true is more lt = is
 found_step k x xs false is more lt = behind_first k x xs (place k xs) is (more (omega arith))
 
-place_first : (k : PageKey) (xs : List PageKey) → place k xs < length xs → IsFirst xs k (place k xs)
+place_first : (k : PageKey) (xs : List PageKey) → place k xs < length xs → IsFirstPage xs k (place k xs)
 place_first k [] lt = absurd (omega arith)
 place_first k (x ∷ xs) lt = found_step k x xs (same_page k x) refl (place_first k xs) lt
 
@@ -23,7 +23,7 @@ place_none k [] ps le = refl
 place_none k (x ∷ xs) [] le = refl
 place_none k (x ∷ xs) (p ∷ ps) le = absent_step k x xs p ps (same_page k x) (place_none k xs ps) le
 
-some_step : (k : PageKey) (xs : List PageKey) (b : Bool) → nat_lt (place k xs) (length xs) ≡ b → IfSome (cond b (Some (place k xs)) None) (λ i. IsFirst xs k i)
+some_step : (k : PageKey) (xs : List PageKey) (b : Bool) → nat_lt (place k xs) (length xs) ≡ b → IfSome (cond b (Some (place k xs)) None) (λ i. IsFirstPage xs k i)
 some_step k xs true lt = place_first k xs (ltb-true (place k xs) (length xs) lt)
 some_step k xs false ge = tt
 
@@ -31,10 +31,10 @@ none_step : (k : PageKey) (xs : List PageKey) (ps : List (List Stretch)) (b : Bo
 none_step k xs ps true lt = tt
 none_step k xs ps false ge = place_none k xs ps (ltb-false (place k xs) (length xs) ge)
 
-pub page_found : (v : PlacesValue) (xs : List PageKey) (ps : List (List Stretch)) (k : PageKey) (r : Option ℕ) → places xs ps ≡ v → r ≡ position (same_page k) xs → IfSome r (λ i. IsFirst v.keys k i)
+pub page_found : (v : PlacesValue) (xs : List PageKey) (ps : List (List Stretch)) (k : PageKey) (r : Option ℕ) → places xs ps ≡ v → r ≡ position (same_page k) xs → IfSome r (λ i. IsFirstPage v.keys k i)
 page_found v xs ps k r view is =
-    subst (λ (w : PlacesValue). IfSome r (λ i. IsFirst w.keys k i)) view
-    (subst (λ (o : Option ℕ). IfSome o (λ i. IsFirst xs k i)) (sym is) (some_step k xs (nat_lt (place k xs) (length xs)) refl))
+    subst (λ (w : PlacesValue). IfSome r (λ i. IsFirstPage w.keys k i)) view
+    (subst (λ (o : Option ℕ). IfSome o (λ i. IsFirstPage xs k i)) (sym is) (some_step k xs (nat_lt (place k xs) (length xs)) refl))
 
 pub page_absent : (v : PlacesValue) (xs : List PageKey) (ps : List (List Stretch)) (k : PageKey) (r : Option ℕ) → places xs ps ≡ v → r ≡ position (same_page k) xs → IfNone r (at v k ≡ [])
 page_absent v xs ps k r view is =
@@ -111,13 +111,13 @@ module _ (v : PlacesValue) (xs : List PageKey) (ps : List (List Stretch)) (fs : 
 
 -- ---- slots
 
-pub found_got : (xs : List PageKey) (ps : List (List Stretch)) (k : PageKey) (i : ℕ) (p : List Stretch) → IsFirst xs k i → slice_get ps i ≡ Some p → found xs ps k ≡ p
+pub found_got : (xs : List PageKey) (ps : List (List Stretch)) (k : PageKey) (i : ℕ) (p : List Stretch) → IsFirstPage xs k i → slice_get ps i ≡ Some p → found xs ps k ≡ p
 found_got [] ps k i p f got = absurd f
 found_got (x ∷ xs) [] k i p f got = absurd cc
 found_got (x ∷ xs) (q ∷ ps) k zero p f got = ap (λ b. cond b q (found xs ps k)) f ∙ same_Some q p got
 found_got (x ∷ xs) (q ∷ ps) k (suc i) p f got = ap (λ b. cond b q (found xs ps k)) f.0 ∙ found_got xs ps k i p f.1 got
 
-pub slot_of : (v : PlacesValue) (block location i : ℕ) (slot : LocationSlot) → IsFirst v.keys (page_key block (location / 4096)) i
+pub slot_of : (v : PlacesValue) (block location i : ℕ) (slot : LocationSlot) → IsFirstPage v.keys (page_key block (location / 4096)) i
     → IsSlotAt v.pages i (location / 4096 * 4096) (location % 4096) slot → IsSlot v block location slot
 slot_of v block location i slot first s =
     let here : at v (page_key block (location / 4096)) ≡ s.stretches = found_got v.keys v.pages (page_key block (location / 4096)) i s.stretches first s.there in
@@ -135,7 +135,7 @@ got_some [] i lt = absurd (omega arith)
 got_some (p ∷ ps) zero lt = (p, refl)
 got_some (p ∷ ps) (suc i) lt = got_some ps i (omega arith)
 
-pub none_of : (v : PlacesValue) (block location i : ℕ) → IsFirst v.keys (page_key block (location / 4096)) i → i < length v.pages
+pub none_of : (v : PlacesValue) (block location i : ℕ) → IsFirstPage v.keys (page_key block (location / 4096)) i → i < length v.pages
     → ((ss : List Stretch) → slice_get v.pages i ≡ Some ss → (s : Stretch) → In ss s → Has s (location % 4096) → ⊥) → (s : Stretch) → IsIn v block location s → ⊥
 none_of v block location i first lt none s is =
     let g = got_some v.pages i lt in
@@ -158,7 +158,7 @@ one_place (r ∷ ps) (suc i) (suc j) k l p q gp gq lp lq e =
     let o = one_place ps i j k l p q gp gq lp lq (omega arith) in
     record { page = ap suc o.page; place = o.place }
 
-same_first : (xs : List PageKey) (k l : PageKey) (i : ℕ) → IsFirst xs k i → IsFirst xs l i → k ≡ l
+same_first : (xs : List PageKey) (k l : PageKey) (i : ℕ) → IsFirstPage xs k i → IsFirstPage xs l i → k ≡ l
 same_first [] k l i f g = absurd f
 same_first (x ∷ xs) k l zero f g = same_keys k x f ∙ sym (same_keys l x g)
 same_first (x ∷ xs) k l (suc i) f g = same_first xs k l i f.1 g.1
@@ -168,7 +168,7 @@ numbers_are_distinct v k l s t n a b =
     let o = one_place v.pages a.page b.page a.place b.place a.stretches b.stretches a.there b.there
     (slice_get_within a.stretches a.place s a.at) (slice_get_within b.stretches b.place t b.at) (sym a.is ∙ b.is) in
     let pages : a.stretches ≡ b.stretches = same_Some a.stretches b.stretches (sym a.there ∙ (ap (slice_get v.pages) o.page ∙ b.there)) in (
-      same_first v.keys k l b.page (subst (λ (i : ℕ). IsFirst v.keys k i) o.page a.of_page) b.of_page,
+      same_first v.keys k l b.page (subst (λ (i : ℕ). IsFirstPage v.keys k i) o.page a.of_page) b.of_page,
       same_Some s t (sym a.at ∙ (ap (λ p. slice_get p a.place) pages ∙ (ap (slice_get b.stretches) o.place ∙ b.at))),
     )
 
@@ -205,7 +205,7 @@ same_place (r ∷ rs) low (suc k) zero x s t up a b h g =
     absurd (omega arith)
 same_place (r ∷ rs) low (suc k) (suc l) x s t up a b h g = ap suc (same_place rs r.end k l x s t up.2 a b h g)
 
-first_once : (xs : List PageKey) (k : PageKey) (i j : ℕ) → IsFirst xs k i → IsFirst xs k j → i ≡ j
+first_once : (xs : List PageKey) (k : PageKey) (i j : ℕ) → IsFirstPage xs k i → IsFirstPage xs k j → i ≡ j
 first_once [] k i j f g = absurd f
 first_once (x ∷ xs) k zero zero f g = refl
 first_once (x ∷ xs) k zero (suc j) f g = absurd (false≢true (sym g.0 ∙ f))
@@ -288,7 +288,7 @@ module _ (v : PlacesValue) (block start end location : ℕ) (s : LocationSlot) (
         stretch = a.stretch;
         among = record { among = subst (λ (p : ℕ). In (at v (page_key block p)) a.stretch) page a.among.among; has = (omega arith, omega arith) };
         ordered = subst (λ (p : ℕ). Ascending 0 (at v (page_key block p))) page a.ordered;
-        number = subst (λ (p : ℕ). IsNumber v (page_key block p) a.stretch s.number) page a.number;
+        number = subst (λ (p : ℕ). IsStretchNumber v (page_key block p) a.stretch s.number) page a.number;
         start = a.start ∙ ap (λ p. p * 4096 + a.stretch.start) page;
         end = a.end ∙ ap (λ p. p * 4096 + a.stretch.end) page;
       }
@@ -303,7 +303,7 @@ slot_counted v block location s a =
 same_slot : (v : PlacesValue) (block other x y : ℕ) (s t : LocationSlot) → IsSlot v block x s → IsSlot v other y t → s.number ≡ t.number → (block ≡ other) × (s ≡ t)
 same_slot v block other x y s t a b e =
     let d = numbers_are_distinct v (page_key block (x / 4096)) (page_key other (y / 4096)) a.stretch b.stretch s.number a.number
-    (subst (λ (n : ℕ). IsNumber v (page_key other (y / 4096)) b.stretch n) (sym e) b.number) in
+    (subst (λ (n : ℕ). IsStretchNumber v (page_key other (y / 4096)) b.stretch n) (sym e) b.number) in
     let page : x / 4096 ≡ y / 4096 = ap (λ (k : PageKey). k.page) d.0 in
     let start : s.start ≡ t.start = a.start ∙ (ap (λ p. p * 4096 + a.stretch.start) page ∙ (ap (λ (z : Stretch). y / 4096 * 4096 + z.start) d.1 ∙ sym b.start)) in
     let end : s.end ≡ t.end = a.end ∙ (ap (λ p. p * 4096 + a.stretch.end) page ∙ (ap (λ (z : Stretch). y / 4096 * 4096 + z.end) d.1 ∙ sym b.end)) in (

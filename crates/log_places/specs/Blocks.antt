@@ -44,9 +44,9 @@ pub record ArePageLinks (keys : List PageKey) (links : PageLinks) : Type 0 where
   pub nexts : (k : ℕ) (x : PageKey) → slice_get keys k ≡ Some x → slice_get links.nexts k ≡ Some (next_page x.block (k + 1) (drop (k + 1) keys))
 
 -- no page lies behind the last location that there may be
-abbrev pub AreNear : List PageKey → Type 0
-AreNear [] = Unit {0}
-AreNear (k ∷ ks) = (k.page * 4096 ≤ 2 ^ 60) × AreNear ks
+abbrev pub PagesAreInRange : List PageKey → Type 0
+PagesAreInRange [] = Unit {0}
+PagesAreInRange (k ∷ ks) = (k.page * 4096 ≤ 2 ^ 60) × PagesAreInRange ks
 
 -- the slots of the page at a place were added
 abbrev pub AddsPage : PlacesValue → ℕ → List LocationSlot → List LocationSlot → Type 0

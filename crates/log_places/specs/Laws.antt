@@ -4,7 +4,7 @@ use Rattle.log_places.specs.declared.stretch.Stretch.{Stretch}
 use Rattle.log_places.specs.declared.region.Region.{Region}
 use Rattle.log_places.specs.declared.page.PageKey.{PageKey}
 use Rattle.log_places.specs.declared.numbers.LocationSlot.{LocationSlot}
-use Rattle.log_places.specs.Numbers.{stretch_count, IsNumber, IsSlot}
+use Rattle.log_places.specs.Numbers.{stretch_count, IsStretchNumber, IsSlot}
 use Rattle.log_places.specs.Places.{Covers, IsIn, IsRegionCut, IsRunCut, PlacesValue}
 
 -- once a region is marked, it has all locations of a stretch or none
@@ -21,7 +21,7 @@ MarkedAreThere =
 -- no two stretches have one number
 abbrev pub NumbersAreDistinct : Type 0
 NumbersAreDistinct =
-    (v : PlacesValue) (k l : PageKey) (s t : Stretch) (number : ℕ) → IsNumber v k s number → IsNumber v l t number → (k ≡ l) × (s ≡ t)
+    (v : PlacesValue) (k l : PageKey) (s t : Stretch) (number : ℕ) → IsStretchNumber v k s number → IsStretchNumber v l t number → (k ≡ l) × (s ≡ t)
 
 -- slots are apart: a location has one, and no two have one number
 pub record SlotsAreOne : Type 0 where

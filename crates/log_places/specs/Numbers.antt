@@ -4,7 +4,7 @@ use Rattle.log_places.specs.declared.stretch.Stretch.{Stretch}
 use Rattle.log_places.specs.declared.page.PageKey.{PageKey}
 use Rattle.log_places.specs.declared.numbers.LocationSlot.{LocationSlot}
 use Rattle.log_places.specs.Stretches.{Ascending, Has}
-use Rattle.log_places.specs.Places.{at, page_key, IsFirst, IsIn, PlacesValue}
+use Rattle.log_places.specs.Places.{at, page_key, IsFirstPage, IsIn, PlacesValue}
 
 -- how many stretches there are
 abbrev pub stretch_count : PlacesValue → ℕ
@@ -22,11 +22,11 @@ firsts_from n [] = []
 firsts_from n (p ∷ ps) = n ∷ firsts_from (n + length p) ps
 
 -- the number of a page's stretch
-pub record IsNumber (v : PlacesValue) (key : PageKey) (s : Stretch) (number : ℕ) : Type 0 where
+pub record IsStretchNumber (v : PlacesValue) (key : PageKey) (s : Stretch) (number : ℕ) : Type 0 where
   pub page : ℕ
   pub place : ℕ
   pub stretches : List Stretch
-  pub of_page : IsFirst v.keys key page
+  pub of_page : IsFirstPage v.keys key page
   pub there : slice_get v.pages page ≡ Some stretches
   pub at : slice_get stretches place ≡ Some s
   pub is : number ≡ stretches_before v.pages page + place
@@ -36,7 +36,7 @@ pub record IsSlot (v : PlacesValue) (block location : ℕ) (slot : LocationSlot)
   pub stretch : Stretch
   pub among : IsIn v block location stretch
   pub ordered : Ascending 0 (at v (page_key block (location / 4096)))
-  pub number : IsNumber v (page_key block (location / 4096)) stretch slot.number
+  pub number : IsStretchNumber v (page_key block (location / 4096)) stretch slot.number
   pub start : slot.start ≡ location / 4096 * 4096 + stretch.start
   pub end : slot.end ≡ location / 4096 * 4096 + stretch.end
 

@@ -15,10 +15,10 @@ abbrev pub same_page : PageKey → PageKey → Bool
 same_page k x = (k.block == x.block) && (k.page == x.page)
 
 -- the first of the keys that is this page stands here
-abbrev pub IsFirst : List PageKey → PageKey → ℕ → Type 0
-IsFirst [] k i = ⊥
-IsFirst (x ∷ xs) k zero = same_page k x ≡ true
-IsFirst (x ∷ xs) k (suc i) = (same_page k x ≡ false) × IsFirst xs k i
+abbrev pub IsFirstPage : List PageKey → PageKey → ℕ → Type 0
+IsFirstPage [] k i = ⊥
+IsFirstPage (x ∷ xs) k zero = same_page k x ≡ true
+IsFirstPage (x ∷ xs) k (suc i) = (same_page k x ≡ false) × IsFirstPage xs k i
 
 abbrev pub found : List PageKey → List (List Stretch) → PageKey → List Stretch
 found [] ps k = []

@@ -135,14 +135,14 @@ impl Model for Numbers {
     ghost use Rattle.std.specs.Prelude.{◌≡◌, length, sum_by};
     ghost use Rattle.log_places.specs.Places.{PlacesValue};
     ghost use Rattle.log_places.specs.Numbers.{firsts_from};
-    ghost use Rattle.log_places.specs.Blocks.{ArePageLinks, AreNear};
+    ghost use Rattle.log_places.specs.Blocks.{ArePageLinks, PagesAreInRange};
 
     ghost Value = { PlacesValue };
 
     ghost view = { λ n. record { keys = n.known.keys; pages = n.pages.items } };
 
     ghost invariant = { λ n. (length n.known.keys ≡ length n.pages.items) × (n.firsts.items ≡ firsts_from 0 n.pages.items)
-        × (n.count ≡ sum_by length n.pages.items) × ArePageLinks n.known.keys n.links × AreNear n.known.keys };
+        × (n.count ≡ sum_by length n.pages.items) × ArePageLinks n.known.keys n.links × PagesAreInRange n.known.keys };
 }
 
 impl Numbers {
@@ -151,9 +151,9 @@ impl Numbers {
     ghost use Rattle.log_places.specs.declared.page.PageKey.{PageKey};
     ghost use Rattle.log_places.specs.declared.stretch.Stretch.{Stretch};
     ghost use Rattle.log_places.specs.Stretches.{Has};
-    ghost use Rattle.log_places.specs.Places.{at, IsFirst, IsIn};
+    ghost use Rattle.log_places.specs.Places.{at, IsFirstPage, IsIn};
     ghost use Rattle.log_places.specs.Numbers.{stretch_count, IsSlot, IsSlotAt};
-    ghost use Rattle.log_places.specs.Blocks.{next_page, slots_of_block, AddsPage, AreNear};
+    ghost use Rattle.log_places.specs.Blocks.{next_page, slots_of_block, AddsPage, PagesAreInRange};
 
     // Numbers the stretches of pages.
     pub(crate) fn new(
@@ -163,7 +163,7 @@ impl Numbers {
         limit: usize,
     ) -> Result<Numbers, NumberError>
         requires size { length known.keys ≡ length pages.items }
-        requires near { AreNear known.keys }
+        requires near { PagesAreInRange known.keys }
         ensures value { IfOk result (λ n. n ≡ record { keys = known.keys; pages = pages.items }) }
         ensures within { OnOk result (stretch_count (record { keys = known.keys; pages = pages.items }) ≤ limit) }
         ensures over { result ≡ Err NumberError.OverLimit
@@ -200,7 +200,7 @@ impl Numbers {
 
     // The place of a page.
     fn page(&self, key: PageKey) -> Option<usize>
-        ensures some { IfSome result (λ i. IsFirst self.now.keys key i) }
+        ensures some { IfSome result (λ i. IsFirstPage self.now.keys key i) }
         ensures there { IfSome result (λ i. i < length self.now.pages) }
         ensures none { IfNone result (at self.now key ≡ []) }
     {

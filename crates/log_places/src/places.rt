@@ -20,13 +20,13 @@ pub struct Places {
 impl Model for Places {
     ghost use Rattle.std.specs.Prelude.{◌≡◌, length};
     ghost use Rattle.log_places.specs.Places.{PlacesValue};
-    ghost use Rattle.log_places.specs.Blocks.{AreNear};
+    ghost use Rattle.log_places.specs.Blocks.{PagesAreInRange};
 
     ghost Value = { PlacesValue };
 
     ghost view = { λ p. record { keys = p.known.keys; pages = p.pages.items } };
 
-    ghost invariant = { λ p. (length p.known.keys ≡ length p.pages.items) × AreNear p.known.keys };
+    ghost invariant = { λ p. (length p.known.keys ≡ length p.pages.items) × PagesAreInRange p.known.keys };
 }
 
 impl Places {
@@ -36,7 +36,7 @@ impl Places {
     ghost use Rattle.log_places.specs.declared.region.Region.{Region};
     ghost use Rattle.log_places.specs.Numbers.{stretch_count};
     ghost use Rattle.log_places.specs.Counting.{AreDifferent, AreMarked, HaveStretches};
-    ghost use Rattle.log_places.specs.Places.{at, page_key, same_page, IsFirst, IsRegion, IsRegionCut, IsRunCut, KeepsCuts};
+    ghost use Rattle.log_places.specs.Places.{at, page_key, same_page, IsFirstPage, IsRegion, IsRegionCut, IsRunCut, KeepsCuts};
     ghost use Rattle.log_places.specs.Runs.{first_on, end_on, IsRunMarked};
 
     /// No location is accessed yet.
@@ -55,7 +55,7 @@ impl Places {
     // The number of a page, which is made if it isn't there.
     fn page(&mut self, key: PageKey) -> Result<usize, AllocError>
         requires { key.page * 4096 ≤ 2 ^ 60 }
-        ensures ok { IfOk result (λ i. IsFirst self.new.keys key i) }
+        ensures ok { IfOk result (λ i. IsFirstPage self.new.keys key i) }
         ensures kept { (k : PageKey) → at self.new k ≡ at self.old k }
         ensures different { OnOk result (AreDifferent self.old.keys → AreDifferent self.new.keys) }
     {

@@ -15,7 +15,7 @@ IsTooLargeFor events limit TooLong = most_acts < length events
 IsTooLargeFor events limit NoMemory = Unit {0}
 
 -- or its strands are too many, which stand in their serial order
-abbrev pub IsTooLarge : List Event → List GraphStrand → ℕ → RacesError → Type 0
-IsTooLarge events order limit TooManyStretches = AreOver (regions_of_events events) limit
-IsTooLarge events order limit TooLong = (most_acts < length order) ⊎ (most_acts < length events)
-IsTooLarge events order limit NoMemory = Unit {0}
+abbrev pub RacesAreTooMany : List Event → List GraphStrand → ℕ → RacesError → Type 0
+RacesAreTooMany events order limit TooManyStretches = AreOver (regions_of_events events) limit
+RacesAreTooMany events order limit TooLong = (most_acts < length order) ⊎ (most_acts < length events)
+RacesAreTooMany events order limit NoMemory = Unit {0}

@@ -9,7 +9,7 @@ ghost use Rattle.log_touches.specs.Chains.{firsts_from};
 ghost use Rattle.log_touches.specs.Limits.{most_acts};
 ghost use Rattle.log_touches.specs.below.log_places.{AreMarked};
 ghost use Rattle.log_races.specs.Touches.{touches_of};
-ghost use Rattle.log_races.specs.Limits.{IsTooLarge, IsTooLargeFor};
+ghost use Rattle.log_races.specs.Limits.{RacesAreTooMany, IsTooLargeFor};
 
 use crate::strands::scan_walk;
 use log_pieces::LogPiece;
@@ -54,7 +54,7 @@ pub fn log_races(
 ) -> Result<RaceScan, RacesError>
     requires { events_of_pieces texts.now pieces.now ≡ events_of texts.now }
     ensures races { IfOk result (λ scan. AreVerdicts walk.now (touches_of (events_of texts.now) tasks.now walk.now.order) scan.races) }
-    ensures refused { IfErr result (IsTooLarge (events_of texts.now) walk.now.order limit) }
+    ensures refused { IfErr result (RacesAreTooMany (events_of texts.now) walk.now.order limit) }
 {
     if walk.order().len() > MOST_STRANDS {
         return Err(RacesError::TooLong);

@@ -2,7 +2,7 @@
 
 ghost use Rattle.std.specs.Prelude.{◌≡◌, ◌<◌, ◌≤◌, ◌++◌, true, List, IfOk, OnOk, length};
 ghost use Rattle.log_pieces.specs.Pieces.{events_of_pieces};
-ghost use Rattle.log_tasks.specs.Numbers.{number_of};
+ghost use Rattle.log_tasks.specs.Numbers.{told_number};
 ghost use Rattle.log_touches.specs.Strands.{regions_of_events};
 ghost use Rattle.log_touches.specs.Limits.{most_acts};
 ghost use Rattle.log_touches.specs.below.log_places.{stretch_count, AreMarked};
@@ -19,8 +19,8 @@ use plain_vec::Listed;
 use std::alloc::{AllocError, Global};
 
 // The log's number of a task.
-fn number_of(numbers: &Listed<u32>, task: u32) -> u32
-    ensures { result ≡ number_of numbers.now task }
+fn told_number(numbers: &Listed<u32>, task: u32) -> u32
+    ensures { result ≡ told_number numbers.now task }
 {
     match numbers.get(task as usize) {
         Some(number) => *number,
@@ -37,7 +37,7 @@ fn told_strand(tasks: &LogTasks, strand: GraphStrand) -> Option<GraphStrand>
         return None;
     }
     Some(GraphStrand {
-        task: number_of(&tasks.numbers, strand.task),
+        task: told_number(&tasks.numbers, strand.task),
         index: strand.index,
     })
 }

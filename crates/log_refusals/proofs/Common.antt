@@ -8,7 +8,7 @@ pub use Rattle.log_lines.specs.declared.cause.LogCause.{LogCause}
 pub use Rattle.log_lines.specs.declared.line.Act.{Act}
 pub use Rattle.log_lines.specs.declared.line.LogLine.{LogLine}
 pub use Rattle.log_refusals.specs.Placed.{Placed, position, placed_act, placed_said, placed_lines, placed_files, here_behind_act, here_behind, EventsHaveLines, later_of}
-pub use Rattle.log_refusals.specs.Search.{strand_of, IsUpTo}
+pub use Rattle.log_refusals.specs.Search.{open_strand, IsUpTo}
 pub use Rattle.log_refusals.specs.Texts.{place_text}
 pub use Rattle.std.proofs.Common.{◌≡◌, ◌∙◌, ℕ, ◌+◌, List, [], ◌∷◌, ◌++◌, map, refl, ap, sym, append-nil, append_assoc, Option, Some, None, Result, Ok, Err, ◌<◌, suc, length, drop, drop-cons, add-one, get_or, subst, fold, arith, false, codes, slice_index_or, ◌^◌, ◌≤◌, Bor, option_map, string_bytes, Global}
 pub use Rattle.std.proofs.lemmas.List.{map-append, drop_all}

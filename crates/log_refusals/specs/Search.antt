@@ -4,8 +4,8 @@ use Rattle.fork_graph.specs.declared.graph.GraphStrand.{GraphStrand}
 use Rattle.fork_graph.specs.Graph.{strand}
 use Rattle.log_refusals.specs.declared.search.Open.{Open}
 
-abbrev pub strand_of : Open → GraphStrand
-strand_of o = strand o.task o.index
+abbrev pub open_strand : Open → GraphStrand
+open_strand o = strand o.task o.index
 
 abbrev pub is_here : GraphStrand → GraphStrand → Bool
 is_here u v = (v.task == u.task) && (v.index == u.index)

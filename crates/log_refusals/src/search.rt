@@ -5,7 +5,7 @@ ghost use Rattle.log_lines.specs.Grammar.{line_of};
 ghost use Rattle.log_form.specs.Text.{lines_in};
 ghost use Rattle.log_form.specs.Events.{strand_behind};
 ghost use Rattle.log_refusals.specs.Placed.{placed_act, placed_said, placed_lines, here_behind_act, here_behind, later_of, last_line};
-ghost use Rattle.log_refusals.specs.Search.{strand_of, is_here, IsUpTo};
+ghost use Rattle.log_refusals.specs.Search.{open_strand, is_here, IsUpTo};
 
 use fork_graph::GraphStrand;
 use log_form::LogPosition;
@@ -32,7 +32,7 @@ pub(crate) struct Search {
 // The strand that is open behind an act of the one that is open.
 fn strand_behind(here: Open, act: Act) -> Option<Open>
     requires { here.index < 2 ^ 63 + 2 ^ 62 }
-    ensures behind { option_map strand_of result ≡ strand_behind (strand_of here) act }
+    ensures behind { option_map open_strand result ≡ strand_behind (open_strand here) act }
     ensures next { IfSome result (λ h. h.index ≤ here.index + 1) }
 {
     match act {
@@ -52,7 +52,7 @@ fn strand_behind(here: Open, act: Act) -> Option<Open>
 
 // Whether this is the strand.
 fn is_here(strand: GraphStrand, here: Open) -> bool
-    ensures { result ≡ is_here strand (strand_of here) }
+    ensures { result ≡ is_here strand (open_strand here) }
 {
     here.task == strand.task && here.index == strand.index as u64
 }
@@ -61,9 +61,9 @@ impl Search {
     // The open strand acts.
     fn take_act(&mut self, at: LogPosition, here: Open, act: Act)
         requires { here.index < 2 ^ 63 + 2 ^ 62 }
-        ensures here { option_map strand_of self.new.here ≡ strand_behind (strand_of here) act }
+        ensures here { option_map open_strand self.new.here ≡ strand_behind (open_strand here) act }
         ensures next { IfSome self.new.here (λ h. h.index ≤ here.index + 1) }
-        ensures found { self.new.found ≡ (if is_here self.old.strand (strand_of here) then Some at else self.old.found) }
+        ensures found { self.new.found ≡ (if is_here self.old.strand (open_strand here) then Some at else self.old.found) }
         ensures strand { self.new.strand ≡ self.old.strand }
     {
         if is_here(self.strand, here) {
@@ -75,9 +75,9 @@ impl Search {
     // The open strand acts, if one is open.
     fn take_open(&mut self, at: LogPosition, act: Act)
         requires { IsUpTo (2 ^ 63 + 2 ^ 61) self.old.here }
-        ensures here { option_map strand_of self.new.here ≡ here_behind_act (option_map strand_of self.old.here) act }
+        ensures here { option_map open_strand self.new.here ≡ here_behind_act (option_map open_strand self.old.here) act }
         ensures next { (n : ℕ) → IsUpTo n self.old.here → IsUpTo (n + 1) self.new.here }
-        ensures found { self.new.found ≡ fold (later_of self.old.strand) self.old.found (placed_act at (option_map strand_of self.old.here) act) }
+        ensures found { self.new.found ≡ fold (later_of self.old.strand) self.old.found (placed_act at (option_map open_strand self.old.here) act) }
         ensures strand { self.new.strand ≡ self.old.strand }
     {
         match self.here {
@@ -99,9 +99,9 @@ impl Search {
     // A line.
     fn take_line(&mut self, at: LogPosition, line: &[u8])
         requires { IsUpTo (2 ^ 63 + 2 ^ 61) self.old.here }
-        ensures here { option_map strand_of self.new.here ≡ here_behind (option_map strand_of self.old.here) (line_of line.now) }
+        ensures here { option_map open_strand self.new.here ≡ here_behind (option_map open_strand self.old.here) (line_of line.now) }
         ensures next { (n : ℕ) → 2 ^ 31 ≤ n → IsUpTo n self.old.here → IsUpTo (n + 1) self.new.here }
-        ensures found { self.new.found ≡ fold (later_of self.old.strand) self.old.found (placed_said at (option_map strand_of self.old.here) (line_of line.now)) }
+        ensures found { self.new.found ≡ fold (later_of self.old.strand) self.old.found (placed_said at (option_map open_strand self.old.here) (line_of line.now)) }
         ensures strand { self.new.strand ≡ self.old.strand }
     {
         match read_line(line) {

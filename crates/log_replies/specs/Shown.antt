@@ -15,7 +15,7 @@ use Rattle.log_request.specs.declared.view.ReportForm.TheVariants.{Lines, Json}
 use Rattle.log_request.specs.declared.view.LogView.{LogView}
 use Rattle.log_findings.specs.declared.error.ReportError.{ReportError}
 use Rattle.log_findings.specs.declared.error.ReportError.TheVariants.{TooLong, TooManyStretches, TooMuchWork, NoMemory}
-use Rattle.log_findings.specs.Errors.{IsTooLarge}
+use Rattle.log_findings.specs.Errors.{LogIsTooLarge}
 use Rattle.log_findings.specs.Reported.{IsReportOf}
 use Rattle.log_findings.specs.below.fork_graph.{Cut, Extent, Whole}
 use Rattle.log_findings.specs.below.log_form.{LocatedFault, events_of, is_cut, log_fault}
@@ -72,7 +72,7 @@ pub record RefusesSize (texts : List (List ℕ)) (reply : Reply) : Type 0 where
   pub are : IsLog (events_of texts) (log_extent texts) tasks
   pub cause : ReportError
   pub no_memory : cause ≢ NoMemory
-  pub too_large : IsTooLarge texts tasks cause
+  pub too_large : LogIsTooLarge texts tasks cause
   pub says : Says Trace (size_line cause) reply
 
 -- no task is at fault, and it is reported

@@ -4,7 +4,7 @@ pub use Rattle.log_report.specs.Ends.{hundredths, hundredths_text, counts_text, 
 pub use Rattle.log_report.specs.Labels.{Names}
 pub use Rattle.log_report.specs.Locations.{location_line, lines_from, location_lines}
 pub use Rattle.log_report.specs.Races.{follows, run_end, race_item, race_items, group_line}
-pub use Rattle.log_report.specs.Told.{racing_locations, locations_of, place_of}
+pub use Rattle.log_report.specs.Told.{racing_locations, locations_of, first_place}
 pub use Rattle.log_report.specs.Uses.{use_item, use_items, use_group_line}
 pub use Rattle.log_report.specs.declared.told.ToldRace.{ToldRace}
 pub use Rattle.log_report.specs.declared.told.ToldUse.{ToldUse}

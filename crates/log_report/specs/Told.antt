@@ -35,5 +35,5 @@ abbrev pub racing_locations : List ToldRace → ℕ
 racing_locations races = sum_by locations_of races
 
 -- the place of its first location among those of all blocks
-abbrev pub place_of : ToldRace → ℕ
-place_of r = r.block * 2 ^ 64 + r.start
+abbrev pub first_place : ToldRace → ℕ
+first_place r = r.block * 2 ^ 64 + r.start

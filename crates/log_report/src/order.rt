@@ -2,14 +2,14 @@
 
 ghost use Rattle.std.specs.Prelude.{◌≡◌};
 ghost use Rattle.std.specs.List.Sorted.{IsPermutation, IsNonDecreasingBy};
-ghost use Rattle.log_report.specs.Told.{place_of};
+ghost use Rattle.log_report.specs.Told.{first_place};
 
 use crate::told::ToldRace;
 use plain_vec::Listed;
 
 // The place of a race's first location among those of all blocks.
-fn place_of(race: &ToldRace) -> u128
-    ensures { result ≡ place_of race.now }
+fn first_place(race: &ToldRace) -> u128
+    ensures { result ≡ first_place race.now }
 {
     (race.block as u128) * (1 << 64) + race.start as u128
 }
@@ -17,9 +17,9 @@ fn place_of(race: &ToldRace) -> u128
 /// The races in ascending order of blocks and locations.
 pub fn in_order(races: Listed<ToldRace>) -> Listed<ToldRace>
     ensures permutation { IsPermutation races result }
-    ensures sorted { IsNonDecreasingBy place_of result }
+    ensures sorted { IsNonDecreasingBy first_place result }
 {
     let mut sorted = races.into_vec();
-    sorted.sort_unstable_by_key(|race| place_of(race));
+    sorted.sort_unstable_by_key(|race| first_place(race));
     Listed::from_vec(sorted)
 }

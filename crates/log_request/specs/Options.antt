@@ -1,7 +1,7 @@
 -- The options of a call: `--all`, `--json`, and `--blocks` with one or more numbers of blocks.
 use Rattle.std.specs.Prelude.{ℕ, ◌==◌, Bool, true, false, Option, Some, None, List, [], ◌∷◌, ◌++◌, codes, length, if◌then◌else◌}
 use Rattle.std.specs.Str.{bytes_eq}
-use Rattle.log_lines.specs.Words.{number_of}
+use Rattle.log_lines.specs.Words.{numeral_value}
 use Rattle.log_report.specs.declared.report.Detail.{Detail}
 use Rattle.log_report.specs.declared.report.Detail.TheVariants.{Merged, Locations}
 use Rattle.log_request.specs.declared.view.ReportForm.{ReportForm}
@@ -40,7 +40,7 @@ with_number o (Some n) = Some (record { view = record o.view { blocks = o.view.b
 
 -- a block's number is written as in a log
 abbrev pub number_at : Options → List ℕ → Option Options
-number_at o w = with_number o (number_of w)
+number_at o w = with_number o (numeral_value w)
 
 abbrev pub first_of : Option Options → Option Options → Option Options
 first_of None other = other

@@ -2,7 +2,7 @@
 
 ghost use Rattle.std.specs.Prelude.{◌≡◌, ◌<◌, ◌≤◌, length, IfSome};
 ghost use Rattle.std.specs.Char.{is_ascii_digit};
-ghost use Rattle.log_lines.specs.Words.{number_of, has_length, has_leading_zero, digits_number};
+ghost use Rattle.log_lines.specs.Words.{numeral_value, has_length, has_leading_zero, digits_number};
 
 /// A number has at most so many digits.
 const MOST_DIGITS: usize = 18;
@@ -44,7 +44,7 @@ fn has_leading_zero(word: &[u8]) -> bool
 
 /// The number that a word writes, if it writes one.
 pub(crate) fn read_number(word: &[u8]) -> Option<u64>
-    ensures { result ≡ number_of word.now }
+    ensures { result ≡ numeral_value word.now }
 {
     if !has_length(word) || has_leading_zero(word) {
         return None;

@@ -5,8 +5,8 @@ pub use Rattle.log_form.specs.Events.{event}
 pub use Rattle.log_pieces.specs.Claims.{is_that}
 pub use Rattle.log_pieces.specs.Pieces.{text_at, acts_in, acts_of_piece, events_in, events_of_pieces}
 pub use Rattle.log_pieces.specs.declared.piece.LogPiece.{LogPiece}
-pub use Rattle.log_strands.specs.Places.{is_known, StandsAt, IsPlaceOf}
-pub use Rattle.log_strands.specs.Table.{Knows, place_told, noted_if}
+pub use Rattle.log_strands.specs.Places.{is_known, StrandStandsAt, IsPlaceOf}
+pub use Rattle.log_strands.specs.Table.{KnowsPlaces, place_told, noted_if}
 pub use Rattle.log_strands.specs.declared.places.PlaceTable.{PlaceTable}
 pub use Rattle.log_tasks.proofs.Puts.{and_left, and_right, number_same}
 pub use Rattle.log_tasks.specs.Numbers.{log_strand}

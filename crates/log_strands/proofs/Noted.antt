@@ -1,5 +1,5 @@
 -- The places of strands, one more of which is noted.
-use Rattle.log_strands.proofs.Common.{◌≡◌, ◌<◌, ◌≤◌, ◌+◌, ◌==◌, ◌++◌, ◌∷◌, ◌∙◌, ◌⊎◌, inl, inr, ℕ, zero, suc, Bool, true, false, List, [], length, get_or, take, refl, sym, ap, subst, Option, Some, None, slice_get, arith, if◌then◌else◌, take_more, take_all, length-take-le, nat_tests, get_or_from_slice_get, got_front, got_within, got_last, got_more, GraphStrand, strand, is_that, LogPiece, LogTasks, log_strand, and_left, and_right, number_same, PlaceTable, is_known, StandsAt, IsPlaceOf, Knows, place_told, noted_if}
+use Rattle.log_strands.proofs.Common.{◌≡◌, ◌<◌, ◌≤◌, ◌+◌, ◌==◌, ◌++◌, ◌∷◌, ◌∙◌, ◌⊎◌, inl, inr, ℕ, zero, suc, Bool, true, false, List, [], length, get_or, take, refl, sym, ap, subst, Option, Some, None, slice_get, arith, if◌then◌else◌, take_more, take_all, length-take-le, nat_tests, get_or_from_slice_get, got_front, got_within, got_last, got_more, GraphStrand, strand, is_that, LogPiece, LogTasks, log_strand, and_left, and_right, number_same, PlaceTable, is_known, StrandStandsAt, IsPlaceOf, KnowsPlaces, place_told, noted_if}
 
 -- THE SAME STRAND
 
@@ -18,18 +18,18 @@ not_that u v e same = (let z : true ≡ false = sym (same_is_that u) ∙ ap (λ 
 -- AN ORDER WITH ONE STRAND MORE
 
 module _ (log : LogTasks) (xs : List GraphStrand) (u s : GraphStrand) where
-  stands_still : (p : ℕ) → StandsAt log xs s p → StandsAt log (xs ++ u ∷ []) s p
+  stands_still : (p : ℕ) → StrandStandsAt log xs s p → StrandStandsAt log (xs ++ u ∷ []) s p
   stands_still p h = record { strand = h.strand; at = got_front xs (u ∷ []) p (got_within xs p h.strand h.at) ∙ h.at; known = h.known; is = h.is }
 
-  still_place : (old : Option ℕ) → IsPlaceOf log xs s old → ((p : ℕ) → StandsAt log (xs ++ u ∷ []) s p → StandsAt log xs s p) → IsPlaceOf log (xs ++ u ∷ []) s old
+  still_place : (old : Option ℕ) → IsPlaceOf log xs s old → ((p : ℕ) → StrandStandsAt log (xs ++ u ∷ []) s p → StrandStandsAt log xs s p) → IsPlaceOf log (xs ++ u ∷ []) s old
   still_place None h back = λ p there. h p (back p there)
   still_place (Some p) h back = stands_still p h
 
-  stood_before : (p : ℕ) (v : GraphStrand) → ((u ≡ v) → ⊥) → is_known log v ≡ true → log_strand log.numbers v ≡ s → (slice_get xs p ≡ Some v) ⊎ ((p ≡ length xs) × (u ≡ v)) → StandsAt log xs s p
+  stood_before : (p : ℕ) (v : GraphStrand) → ((u ≡ v) → ⊥) → is_known log v ≡ true → log_strand log.numbers v ≡ s → (slice_get xs p ≡ Some v) ⊎ ((p ≡ length xs) × (u ≡ v)) → StrandStandsAt log xs s p
   stood_before p v other known is (inl at) = record { strand = v; at = at; known = known; is = is }
   stood_before p v other known is (inr new) = absurd (other new.1)
 
-  back_by : (other : (v : GraphStrand) → is_known log v ≡ true → log_strand log.numbers v ≡ s → u ≡ v → ⊥) (p : ℕ) → StandsAt log (xs ++ u ∷ []) s p → StandsAt log xs s p
+  back_by : (other : (v : GraphStrand) → is_known log v ≡ true → log_strand log.numbers v ≡ s → u ≡ v → ⊥) (p : ℕ) → StrandStandsAt log (xs ++ u ∷ []) s p → StrandStandsAt log xs s p
   back_by other p h = stood_before p h.strand (other h.strand h.known h.is) h.known h.is (got_more xs u h.strand p h.at)
 
   noted_by : (known that : Bool) → is_known log u ≡ known → is_that (log_strand log.numbers u) s.task s.index ≡ that → (old : Option ℕ) → IsPlaceOf log xs s old
@@ -66,7 +66,7 @@ abbrev pub AreFirst : LogTasks → List GraphStrand → List LogPiece → List (
 AreFirst log order pieces places = (k : ℕ) (p : LogPiece) (place : Option ℕ) → slice_get pieces k ≡ Some p → slice_get places k ≡ Some place → IsPlaceOf log order p.strand place
 
 -- the place of the next piece's strand was added
-pub first_more : (log : LogTasks) (order : List GraphStrand) (table : PlaceTable) (pieces : List LogPiece) (places new : List (Option ℕ)) (n : ℕ) (d : LogPiece) (place : Option ℕ) → Knows table log order
+pub first_more : (log : LogTasks) (order : List GraphStrand) (table : PlaceTable) (pieces : List LogPiece) (places new : List (Option ℕ)) (n : ℕ) (d : LogPiece) (place : Option ℕ) → KnowsPlaces table log order
     → place ≡ place_told table (get_or pieces n d).strand.task (get_or pieces n d).strand.index → length places ≡ n → new ≡ places ++ place ∷ [] → AreFirst log order pieces places → AreFirst log order pieces new
 first_more log order table pieces places new n d place knows is count pushed each k p other gp gn = by_place (got_more places place other k (sym (ap (λ (xs : List (Option ℕ)). slice_get xs k) pushed) ∙ gn))
   where

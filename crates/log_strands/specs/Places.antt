@@ -15,7 +15,7 @@ abbrev pub is_known : LogTasks → GraphStrand → Bool
 is_known log u = is_up_to u.index (known_of log u.task)
 
 -- a strand of the log is a known one of the graph, which stands in the order at this place
-pub record StandsAt (log : LogTasks) (order : List GraphStrand) (s : GraphStrand) (place : ℕ) : Type 0 where
+pub record StrandStandsAt (log : LogTasks) (order : List GraphStrand) (s : GraphStrand) (place : ℕ) : Type 0 where
   pub strand : GraphStrand
   pub at : slice_get order place ≡ Some strand
   pub known : is_known log strand ≡ true
@@ -23,11 +23,11 @@ pub record StandsAt (log : LogTasks) (order : List GraphStrand) (s : GraphStrand
 
 -- it stands nowhere
 abbrev pub StandsNowhere : LogTasks → List GraphStrand → GraphStrand → Type 0
-StandsNowhere log order s = (place : ℕ) → StandsAt log order s place → ⊥
+StandsNowhere log order s = (place : ℕ) → StrandStandsAt log order s place → ⊥
 
 -- its place, if it has one
 abbrev pub IsPlaceOf : LogTasks → List GraphStrand → GraphStrand → Option ℕ → Type 0
-IsPlaceOf log order s place = MatchOption place (StandsNowhere log order s) (StandsAt log order s)
+IsPlaceOf log order s place = MatchOption place (StandsNowhere log order s) (StrandStandsAt log order s)
 
 -- the places of the strands of pieces
 pub record ArePiecePlaces (log : LogTasks) (order : List GraphStrand) (pieces : List LogPiece) (places : List (Option ℕ)) : Type 0 where

@@ -12,13 +12,13 @@ abbrev pub place_told : PlaceTable → ℕ → ℕ → Option ℕ
 place_told table t i = get is_pair table.places (t, i)
 
 -- when strand s of the log was found at a place
-abbrev pub noted : PlaceTable → GraphStrand → ℕ → ℕ → ℕ → Option ℕ
-noted table s place t i = if is_that s t i then Some place else place_told table t i
+abbrev pub noted_place : PlaceTable → GraphStrand → ℕ → ℕ → ℕ → Option ℕ
+noted_place table s place t i = if is_that s t i then Some place else place_told table t i
 
 abbrev pub noted_if : Bool → PlaceTable → GraphStrand → ℕ → ℕ → ℕ → Option ℕ
-noted_if true table s place t i = noted table s place t i
+noted_if true table s place t i = noted_place table s place t i
 noted_if false table s place t i = place_told table t i
 
 -- all places are known
-abbrev pub Knows : PlaceTable → LogTasks → List GraphStrand → Type 0
-Knows table log order = (t i : ℕ) → IsPlaceOf log order (strand t i) (place_told table t i)
+abbrev pub KnowsPlaces : PlaceTable → LogTasks → List GraphStrand → Type 0
+KnowsPlaces table log order = (t i : ℕ) → IsPlaceOf log order (strand t i) (place_told table t i)

@@ -3,7 +3,7 @@
 ghost use Rattle.std.specs.Prelude.{◌≡◌, ℕ, IfOk, OnOk};
 ghost use Rattle.log_tasks.specs.Numbers.{log_strand};
 ghost use Rattle.log_strands.specs.Places.{is_known, ArePiecePlaces};
-ghost use Rattle.log_strands.specs.Table.{Knows, place_told, noted, noted_if};
+ghost use Rattle.log_strands.specs.Table.{KnowsPlaces, place_told, noted_place, noted_if};
 
 use fork_graph::GraphStrand;
 use log_pieces::LogPiece;
@@ -47,7 +47,7 @@ pub(crate) struct PlaceTable {
 impl PlaceTable {
     // A strand of the log stands at a place.
     fn note(&mut self, strand: GraphStrand, place: usize) -> Result<(), AllocError>
-        ensures { OnOk result ((t i : ℕ) → place_told self.new t i ≡ noted self.old strand place t i) }
+        ensures { OnOk result ((t i : ℕ) → place_told self.new t i ≡ noted_place self.old strand place t i) }
     {
         self.places.insert((strand.task, strand.index), place)?;
         Ok(())
@@ -73,7 +73,7 @@ impl PlaceTable {
 
 // The places of all strands of an order.
 fn table_of(alloc: Global, log: &LogTasks, order: &[GraphStrand]) -> Result<PlaceTable, AllocError>
-    ensures { IfOk result (λ table. Knows table log.now order.now) }
+    ensures { IfOk result (λ table. KnowsPlaces table log.now order.now) }
 {
     let mut table = PlaceTable {
         places: HashMap::new(alloc),

@@ -1,5 +1,5 @@
 -- The spawns of a log without a faulty line are in order.
-use Rattle.log_tasks.proofs.Common.{◌≡◌, ◌<◌, ◌==◌, ◌++◌, ◌+◌, ◌∷◌, ◌∙◌, ◌⊎◌, inl, inr, ℕ, Bool, true, false, List, [], refl, sym, ap, ap₂, subst, Option, Some, None, arith, ◌||◌, list_any, nat_tests, list_any-append, In, any_from_in, Act, strand_limit, GraphTurn, Spawn, GraphStrand, strand, Event, event, is_on, acts_on, spawns, is_spawned, StrandEnd, Turns, end_by, first_end, end_of, tells, is_task, TurnsWithin, AreWithin, SpawnsOnce}
+use Rattle.log_tasks.proofs.Common.{◌≡◌, ◌<◌, ◌==◌, ◌++◌, ◌+◌, ◌∷◌, ◌∙◌, ◌⊎◌, inl, inr, ℕ, Bool, true, false, List, [], refl, sym, ap, ap₂, subst, Option, Some, None, arith, ◌||◌, list_any, nat_tests, list_any-append, In, any_from_in, Act, strand_limit, GraphTurn, Spawn, GraphStrand, strand, Event, event, is_on, acts_on, spawns, is_spawned, StrandEnd, Turns, end_by, first_end, end_of, tells, is_task, TurnsWithin, EventsAreWithin, SpawnsOnce}
 use Rattle.log_lines.specs.declared.line.Act.TheVariants as acts
 use Rattle.log_tasks.specs.Ends.{or_later}
 use Rattle.log_tasks.proofs.Puts.{number_same, and_left, and_right}
@@ -43,7 +43,7 @@ spawn_event events u c e = in_events events u (acts.Spawn c) (spawned_in (acts_o
 
 -- WITHIN THE LIMIT
 
-in_within : (events : List Event) (x : Event) → AreWithin events → In events x → TurnsWithin x
+in_within : (events : List Event) (x : Event) → EventsAreWithin events → In events x → TurnsWithin x
 in_within [] x w h = absurd h
 in_within (e ∷ rest) x w (inl same) = subst TurnsWithin same w.0
 in_within (e ∷ rest) x w (inr later) = in_within rest x w.1 later
@@ -57,7 +57,7 @@ turn_act (a ∷ rest) turn e = by_end (end_by a) refl (turn_act rest turn)
     by_end (Some x) n more = (a, inl refl, n ∙ sym (ap (λ (o : Option StrandEnd). or_later o (first_end rest)) n) ∙ e)
 
 -- a strand that ends in a turn has a number within the limit
-pub end_within : (events : List Event) (u : GraphStrand) (turn : GraphTurn) → AreWithin events → end_of events u ≡ Some (Turns turn) → u.index + 1 < strand_limit
+pub end_within : (events : List Event) (u : GraphStrand) (turn : GraphTurn) → EventsAreWithin events → end_of events u ≡ Some (Turns turn) → u.index + 1 < strand_limit
 end_within events u turn w e =
     let r = turn_act (acts_on events u) turn e in
     in_within events (event u r.0) w (in_events events u r.0 r.1) turn r.2

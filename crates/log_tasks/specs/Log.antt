@@ -20,6 +20,6 @@ pub record IsLog (events : List Event) (extent : Extent) (log : LogTasks) : Type
   pub nested : AreNestedTasks log.turns
 
 -- a log that was refused has that fault of a task first
-abbrev pub IsRefused : List Event → Extent → TasksError → Type 0
-IsRefused events extent (Refused fault) = IsFirstTaskFault events extent fault
-IsRefused events extent NoMemory = Unit {0}
+abbrev pub IsRefusedTask : List Event → Extent → TasksError → Type 0
+IsRefusedTask events extent (Refused fault) = IsFirstTaskFault events extent fault
+IsRefusedTask events extent NoMemory = Unit {0}

@@ -18,12 +18,12 @@ pub record AreNumbers (events : List Event) (numbers : List ℕ) : Type 0 where
   pub are : (t : ℕ) → In numbers t ↔ IsTrue (is_task events t)
 
 -- the log's number of a task
-abbrev pub number_of : List ℕ → ℕ → ℕ
-number_of numbers t = get_or numbers t 0
+abbrev pub told_number : List ℕ → ℕ → ℕ
+told_number numbers t = get_or numbers t 0
 
 -- the strand as the log has it
 abbrev pub log_strand : List ℕ → GraphStrand → GraphStrand
-log_strand numbers u = strand (number_of numbers u.task) u.index
+log_strand numbers u = strand (told_number numbers u.task) u.index
 
 abbrev pub place_or_root : List ℕ → ℕ → ℕ
 place_or_root numbers place = if nat_lt place (length numbers) then place else 0

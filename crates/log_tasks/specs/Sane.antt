@@ -8,9 +8,9 @@ use Rattle.log_tasks.specs.Ends.{end_by}
 abbrev pub TurnsWithin : Event → Type 0
 TurnsWithin e = (turn : GraphTurn) → end_by e.act ≡ Some (Turns turn) → e.strand.index + 1 < strand_limit
 
-abbrev pub AreWithin : List Event → Type 0
-AreWithin [] = Unit {0}
-AreWithin (e ∷ rest) = TurnsWithin e × AreWithin rest
+abbrev pub EventsAreWithin : List Event → Type 0
+EventsAreWithin [] = Unit {0}
+EventsAreWithin (e ∷ rest) = TurnsWithin e × EventsAreWithin rest
 
 -- after what happened before, no task is spawned that was spawned already, nor is the root
 abbrev pub SpawnsOnce : List Event → List Event → Type 0
@@ -18,5 +18,5 @@ SpawnsOnce before [] = Unit {0}
 SpawnsOnce before (e ∷ rest) = ((c : ℕ) → spawns c e.act ≡ true → is_spawned before c ≡ false) × SpawnsOnce (before ++ e ∷ []) rest
 
 pub record AreSane (events : List Event) : Type 0 where
-  pub within : AreWithin events
+  pub within : EventsAreWithin events
   pub once : SpawnsOnce [] events

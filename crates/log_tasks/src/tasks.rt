@@ -6,7 +6,7 @@ ghost use Rattle.log_form.specs.Faults.{log_fault};
 ghost use Rattle.log_pieces.specs.Pieces.{events_of_pieces};
 ghost use Rattle.log_tasks.specs.Told.{KnowsEvents};
 ghost use Rattle.log_tasks.specs.Faults.{in_log};
-ghost use Rattle.log_tasks.specs.Log.{IsLog, IsRefused};
+ghost use Rattle.log_tasks.specs.Log.{IsLog, IsRefusedTask};
 
 use crate::fault::{TaskFault, first_task_fault};
 use crate::graph::{graph_of, lengths};
@@ -82,7 +82,7 @@ pub fn log_tasks(
     requires whole { log_fault texts.now ≡ None }
     requires pieces { events_of_pieces texts.now pieces.now ≡ events_of texts.now }
     ensures tasks { IfOk result (IsLog (events_of texts.now) extent) }
-    ensures refused { IfErr result (IsRefused (events_of texts.now) extent) }
+    ensures refused { IfErr result (IsRefusedTask (events_of texts.now) extent) }
 {
     let told = told_of(alloc, texts, pieces)?;
     let numbers = numbers_of(alloc, &told.tasks)?;

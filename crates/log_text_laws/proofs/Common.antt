@@ -8,8 +8,8 @@ pub use Rattle.log_form.specs.Text.{lines_in, text_of, all_but_last, is_zero}
 pub use Rattle.log_lines.proofs.Again.{number_again, line_again}
 pub use Rattle.log_lines.proofs.Pieces.{left_by}
 pub use Rattle.log_lines.specs.Grammar.{line_of, line_of_words, act_of_access, place_at}
-pub use Rattle.log_lines.specs.Limits.{IsNumber, IsSite, IsPlace, IsAccess, IsReference, IsAct, IsLine}
-pub use Rattle.log_lines.specs.Words.{is_space, words_of, site_at, is_left}
+pub use Rattle.log_lines.specs.Limits.{IsLogNumber, IsSite, IsLogPlace, IsAccess, IsLogReference, IsAct, IsLine}
+pub use Rattle.log_lines.specs.Words.{is_space, words_of, site_at, has_word}
 pub use Rattle.log_lines.specs.Writing.{spaced, site_words, line_bytes, act_words, access_word, place_words, reference_words}
 pub use Rattle.log_lines.specs.declared.cause.LogCause.{LogCause}
 pub use Rattle.log_lines.specs.declared.line.Access.{Access}
@@ -18,8 +18,8 @@ pub use Rattle.log_lines.specs.declared.line.Act.{Act}
 pub use Rattle.log_lines.specs.declared.line.LogLine.{LogLine}
 pub use Rattle.log_lines.specs.declared.line.LogPlace.{LogPlace}
 pub use Rattle.log_lines.specs.declared.line.Reference.{Reference}
-pub use Rattle.log_text_laws.specs.Names.{HasNames, names_at, names_in, names_of, IsWithin, HasName}
-pub use Rattle.log_text_laws.specs.Text.{IsReadAs, lines_in_log, LogsAreReadAgain, LogsAreToldAgain}
+pub use Rattle.log_text_laws.specs.Names.{AllFunctionsNamed, names_at, names_in, name_lines, IsInsideLine, HasName}
+pub use Rattle.log_text_laws.specs.Text.{IsReadAsLines, lines_in_log, LogsAreReadAgain, LogsAreToldAgain}
 pub use Rattle.run_journal.specs.below.run_ledger.{RunEnd, Machine, end_of}
 pub use Rattle.run_journal.specs.below.run_trace.{EntryValue, SettingsValue}
 pub use Rattle.run_log.specs.Log.{end_lines, lines_of}

@@ -1,5 +1,5 @@
 -- A line of a run's log is read again as itself.
-use Rattle.log_text_laws.proofs.Common.{◌≡◌, ◌<◌, ◌≤◌, ◌+◌, ◌*◌, ◌^◌, ◌==◌, ℕ, Bool, true, false, List, [], ◌∷◌, ◌++◌, arith, refl, ap, sym, ◌∙◌, cond, Option, Some, None, Ok, append-nil, append_assoc, nat_le, ◌-◌, subst, codes, ◌&&◌, All, AllByRecursion, flat_map, decimal, digit_value, AllDigits, and_parts, eqb-true, flat_map-append, nat_tests, decimal_is_IsNumeral, decimal_digit, All-from_recursion, slice_split_at, slice_split_none, Access, AccessKind, Act, LogLine, LogPlace, Reference, line_of, act_of_access, place_at, IsNumber, IsSite, IsPlace, IsAccess, IsAct, IsLine, is_space, words_of, site_at, spaced, site_words, line_bytes, access_word, place_words, reference_words, number_again, line_again, line_text, act_text, site_text, spaced_numbers, is_location, access_letter, reference_text}
+use Rattle.log_text_laws.proofs.Common.{◌≡◌, ◌<◌, ◌≤◌, ◌+◌, ◌*◌, ◌^◌, ◌==◌, ℕ, Bool, true, false, List, [], ◌∷◌, ◌++◌, arith, refl, ap, sym, ◌∙◌, cond, Option, Some, None, Ok, append-nil, append_assoc, nat_le, ◌-◌, subst, codes, ◌&&◌, All, AllByRecursion, flat_map, decimal, digit_value, AllDigits, and_parts, eqb-true, flat_map-append, nat_tests, decimal_is_IsNumeral, decimal_digit, All-from_recursion, slice_split_at, slice_split_none, Access, AccessKind, Act, LogLine, LogPlace, Reference, line_of, act_of_access, place_at, IsLogNumber, IsSite, IsLogPlace, IsAccess, IsAct, IsLine, is_space, words_of, site_at, spaced, site_words, line_bytes, access_word, place_words, reference_words, number_again, line_again, line_text, act_text, site_text, spaced_numbers, is_location, access_letter, reference_text}
 use Rattle.log_lines.specs.declared.line.AccessKind.TheVariants as kinds
 use Rattle.log_lines.specs.declared.line.Act.TheVariants as acts
 use Rattle.log_lines.specs.declared.line.LogLine.TheVariants as lines
@@ -27,23 +27,23 @@ clear_digits : (ds : List ℕ) → AllDigits 10 ds → AllByRecursion (λ c. is_
 clear_digits [] h = tt
 clear_digits (c ∷ cs) h = (clear_digit c h.0, clear_digits cs h.1)
 
-clear_number : (n : ℕ) → IsNumber n → All (λ c. is_space c ≡ false) (decimal n)
+clear_number : (n : ℕ) → IsLogNumber n → All (λ c. is_space c ≡ false) (decimal n)
 clear_number n h = All-from_recursion (λ c. is_space c ≡ false) (decimal n) (clear_digits (decimal n) (decimal_is_IsNumeral n (omega (arith, h))).0.1)
 
-clear_site : (n : ℕ) → IsNumber n → All (λ c. is_space c ≡ false) (64 ∷ decimal n)
+clear_site : (n : ℕ) → IsLogNumber n → All (λ c. is_space c ≡ false) (64 ∷ decimal n)
 clear_site n h = All-from_recursion (λ c. is_space c ≡ false) (64 ∷ decimal n) (refl, clear_digits (decimal n) (decimal_is_IsNumeral n (omega (arith, h))).0.1)
 
 -- a number's word ends at the next space
-pub number_then : (n : ℕ) (rest : List ℕ) → IsNumber n → words_of (decimal n ++ 32 ∷ rest) ≡ decimal n ∷ words_of rest
+pub number_then : (n : ℕ) (rest : List ℕ) → IsLogNumber n → words_of (decimal n ++ 32 ∷ rest) ≡ decimal n ∷ words_of rest
 number_then n rest h = slice_split_at is_space (decimal n) 32 rest (clear_number n h) refl
 
 -- an offset is the last word, or the site is
-offset_words : (offset : ℕ) (site : Option ℕ) → IsNumber offset → IsSite site → words_of (spaced (decimal offset ∷ site_words site)) ≡ decimal offset ∷ site_words site
+offset_words : (offset : ℕ) (site : Option ℕ) → IsLogNumber offset → IsSite site → words_of (spaced (decimal offset ∷ site_words site)) ≡ decimal offset ∷ site_words site
 offset_words offset None h g = slice_split_none is_space (decimal offset) (clear_number offset h)
 offset_words offset (Some n) h g =
     number_then offset (64 ∷ decimal n) h ∙ ap (λ ws. decimal offset ∷ ws) (slice_split_none is_space (64 ∷ decimal n) (clear_site n g))
 
-location_words : (letter block offset : ℕ) (site : Option ℕ) → is_space letter ≡ false → IsNumber block → IsNumber offset → IsSite site
+location_words : (letter block offset : ℕ) (site : Option ℕ) → is_space letter ≡ false → IsLogNumber block → IsLogNumber offset → IsSite site
     → words_of (letter ∷ 32 ∷ (decimal block ++ 32 ∷ spaced (decimal offset ∷ site_words site))) ≡ (letter ∷ []) ∷ decimal block ∷ decimal offset ∷ site_words site
 location_words letter block offset site e b o s =
     slice_split_at is_space (letter ∷ []) 32 (decimal block ++ 32 ∷ spaced (decimal offset ∷ site_words site)) (All-from_recursion (λ c. is_space c ≡ false) (letter ∷ []) (e, tt)) refl
@@ -61,7 +61,7 @@ location block offset = record { block = block; offset = offset; length = 1; run
 small_location : (offset : ℕ) → offset + 1 ≤ 2 ^ 60 → nat_le (offset + (1 - 1) * 1 + 1) (2 ^ 60) ≡ true
 small_location offset h = grind (arith, nat_tests, h)
 
-location_place : (block offset : ℕ) (site : Option ℕ) → IsPlace (location block offset) → place_at (decimal block ∷ decimal offset ∷ site_words site) ≡ Ok (location block offset, site_words site)
+location_place : (block offset : ℕ) (site : Option ℕ) → IsLogPlace (location block offset) → place_at (decimal block ∷ decimal offset ∷ site_words site) ≡ Ok (location block offset, site_words site)
 location_place block offset None h = let w = h.within in let e : offset + 1 ≤ 2 ^ 60 = omega (arith, w) in rw (number_again block h.block, number_again offset h.offset, small_location offset e) refl
 location_place block offset (Some n) h = let w = h.within in let e : offset + 1 ≤ 2 ^ 60 = omega (arith, w) in rw (number_again block h.block, number_again offset h.offset, small_location offset e) refl
 
@@ -106,11 +106,11 @@ access_said kinds.Write text ws act e f = rw (e, f) refl
 access_said kinds.AtomicRead text ws act e f = rw (e, f) refl
 access_said kinds.AtomicWrite text ws act e f = rw (e, f) refl
 
-location_operands : (kind : AccessKind) (block offset : ℕ) (site : Option ℕ) → IsPlace (location block offset) → IsSite site
+location_operands : (kind : AccessKind) (block offset : ℕ) (site : Option ℕ) → IsLogPlace (location block offset) → IsSite site
     → act_of_access kind (decimal block ∷ decimal offset ∷ site_words site) ≡ Ok (acts.Access (record { kind = kind; place = location block offset; site = site }))
 location_operands kind block offset site h s = rw (location_place block offset site h, site_again site s) refl
 
-location_again : (kind : AccessKind) (block offset : ℕ) (site : Option ℕ) → IsPlace (location block offset) → IsSite site
+location_again : (kind : AccessKind) (block offset : ℕ) (site : Option ℕ) → IsLogPlace (location block offset) → IsSite site
     → line_of (access_letter kind ∷ (spaced_numbers (block ∷ offset ∷ []) ++ site_text site)) ≡ Ok (lines.Act (acts.Access (record { kind = kind; place = location block offset; site = site })))
 location_again kind block offset site h s =
     ap line_of (location_bytes (access_letter kind) block offset site)
@@ -124,7 +124,7 @@ access_by : (a : Access) (b : Bool) → is_location a.place ≡ b → IsAccess a
     ≡ Ok (lines.Act (acts.Access a))
 access_by a true e h =
     let one : a.place ≡ location a.place.block a.place.offset = is_one a.place e in
-    location_again a.kind a.place.block a.place.offset a.site (subst IsPlace one h.place) h.site
+    location_again a.kind a.place.block a.place.offset a.site (subst IsLogPlace one h.place) h.site
     ∙ ap (λ p. Ok (lines.Act (acts.Access (record { kind = a.kind; place = p; site = a.site })))) (sym one)
 access_by a false e h =
     ap (λ t. line_of (access_letter a.kind ∷ t)) (runs_bytes a.place a.site)

@@ -1,5 +1,5 @@
 -- The log of a run is read again as its lines, and tells what they tell.
-use Rattle.log_text_laws.proofs.Common.{◌≡◌, ℕ, Bool, true, false, cond, List, [], ◌∷◌, ◌++◌, Option, Some, Result, Ok, map, refl, ap, ◌∙◌, flat_map, recursion_from_All, Fun, Line, Done, RunEnd, Machine, end_of, LogCause, LogLine, line_of, IsLine, lines_in, text_of, Spot, spot_behind, spot_behind_said, spot_behind_all, file_begin, accesses_field, end_lines, lines_of, spot_after, spot_both, names_at, names_in, names_of, lines_in_log, LogsAreReadAgain, LogsAreToldAgain}
+use Rattle.log_text_laws.proofs.Common.{◌≡◌, ℕ, Bool, true, false, cond, List, [], ◌∷◌, ◌++◌, Option, Some, Result, Ok, map, refl, ap, ◌∙◌, flat_map, recursion_from_All, Fun, Line, Done, RunEnd, Machine, end_of, LogCause, LogLine, line_of, IsLine, lines_in, text_of, Spot, spot_behind, spot_behind_said, spot_behind_all, file_begin, accesses_field, end_lines, lines_of, spot_after, spot_both, names_at, names_in, name_lines, lines_in_log, LogsAreReadAgain, LogsAreToldAgain}
 use Rattle.log_lines.specs.declared.line.LogLine.TheVariants as lines
 use Rattle.run_log.specs.Log.{log_of}
 use Rattle.log_text_laws.proofs.Texts.{AreWithin, log_again}
@@ -53,6 +53,6 @@ logs_told p s journal names within =
     (by_said begin (lines_in (text_of (log_of p s journal)))
     ∙ (ap (spots begin) (logs_again p s journal names within)
     ∙ (said_lines begin (lines_in_log p s journal)
-    ∙ (spot_both begin ((lines.Version ∷ []) ++ names_of p ++ ls) es
-    ∙ ap (λ r. spot_after r es) (spot_both begin ((lines.Version ∷ []) ++ names_of p) ls ∙ ap (λ r. spot_after r ls) (spot_both begin (lines.Version ∷ []) (names_of p) ∙ quiet_names begin p.functions))))))
+    ∙ (spot_both begin ((lines.Version ∷ []) ++ name_lines p ++ ls) es
+    ∙ ap (λ r. spot_after r es) (spot_both begin ((lines.Version ∷ []) ++ name_lines p) ls ∙ ap (λ r. spot_after r ls) (spot_both begin (lines.Version ∷ []) (name_lines p) ∙ quiet_names begin p.functions))))))
     ∙ quiet_end (spot_after begin ls) (end_of p s journal)

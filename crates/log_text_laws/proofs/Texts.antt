@@ -1,5 +1,5 @@
 -- A text of lines is read again as them.
-use Rattle.log_text_laws.proofs.Common.{◌≡◌, ◌<◌, ◌≤◌, ◌*◌, ◌^◌, ◌==◌, ℕ, Bool, true, false, not, List, [], ◌∷◌, ◌++◌, length, arith, refl, ap, sym, ◌∙◌, cond, Option, Some, None, Ok, append-nil, append_assoc, map, ne_eqb, All, AllByRecursion, flat_map, position_or_len, decimal, digit_value, AllDigits, nat_tests, decimal_is_IsNumeral, flat_map-append, take_all, map-append, All-from_recursion, recursion_from_All, mul_comm, le-mul_of_pos_right, slice_split_at, position_or_len_is, ProgramText, Fun, Line, is_last, some_line, AccessKind, Act, LogLine, Reference, LogPlace, line_of, IsNumber, IsSite, IsPlace, IsAct, IsLine, is_space, words_of, is_left, number_again, left_by, lines_in, text_of, all_but_last, is_zero, line_text, act_text, site_text, spaced_numbers, is_location, place_text, access_letter, written, all_written, accesses_field, name_line, site_line, function_sites, sites_of, IsWithin, HasName, HasNames, names_at, names_in, names_of, IsReadAs}
+use Rattle.log_text_laws.proofs.Common.{◌≡◌, ◌<◌, ◌≤◌, ◌*◌, ◌^◌, ◌==◌, ℕ, Bool, true, false, not, List, [], ◌∷◌, ◌++◌, length, arith, refl, ap, sym, ◌∙◌, cond, Option, Some, None, Ok, append-nil, append_assoc, map, ne_eqb, All, AllByRecursion, flat_map, position_or_len, decimal, digit_value, AllDigits, nat_tests, decimal_is_IsNumeral, flat_map-append, take_all, map-append, All-from_recursion, recursion_from_All, mul_comm, le-mul_of_pos_right, slice_split_at, position_or_len_is, ProgramText, Fun, Line, is_last, some_line, AccessKind, Act, LogLine, Reference, LogPlace, line_of, IsLogNumber, IsSite, IsLogPlace, IsAct, IsLine, is_space, words_of, has_word, number_again, left_by, lines_in, text_of, all_but_last, is_zero, line_text, act_text, site_text, spaced_numbers, is_location, place_text, access_letter, written, all_written, accesses_field, name_line, site_line, function_sites, sites_of, IsInsideLine, HasName, AllFunctionsNamed, names_at, names_in, name_lines, IsReadAsLines}
 use Rattle.text_lines.specs.Lines.{lines_of}
 use Rattle.log_lines.specs.declared.line.AccessKind.TheVariants as kinds
 use Rattle.log_lines.specs.declared.line.Act.TheVariants as acts
@@ -25,7 +25,7 @@ inner_digits : (ds : List ℕ) → AllDigits 10 ds → AreInner ds
 inner_digits [] h = tt
 inner_digits (c ∷ cs) h = (inner_digit c h.0, inner_digits cs h.1)
 
-inner_number : (n : ℕ) → IsNumber n → AreInner (decimal n)
+inner_number : (n : ℕ) → IsLogNumber n → AreInner (decimal n)
 inner_number n h = inner_digits (decimal n) (decimal_is_IsNumeral n (omega (arith, h))).0.1
 
 -- FILES
@@ -78,7 +78,7 @@ file_lines ws h = ap lines_in (whole_text (fed ws) (nonzero_fed ws h)) ∙ lines
 
 -- LINES HAVE NO OTHER BYTES
 
-inner_numbers : (ns : List ℕ) → AllByRecursion IsNumber ns → AreInner (spaced_numbers ns)
+inner_numbers : (ns : List ℕ) → AllByRecursion IsLogNumber ns → AreInner (spaced_numbers ns)
 inner_numbers [] h = tt
 inner_numbers (n ∷ ns) h = inner_both (32 ∷ decimal n) (spaced_numbers ns) ((refl, refl), inner_number n h.0) (inner_numbers ns h.1)
 
@@ -86,10 +86,10 @@ inner_site : (site : Option ℕ) → IsSite site → AreInner (site_text site)
 inner_site None h = tt
 inner_site (Some n) h = ((refl, refl), ((refl, refl), inner_number n h))
 
-short : (m n : ℕ) → 1 ≤ n → m * n ≤ 2 ^ 28 → IsNumber m
+short : (m n : ℕ) → 1 ≤ n → m * n ≤ 2 ^ 28 → IsLogNumber m
 short m n h few = let a : m ≤ m * n = le-mul_of_pos_right m h in omega (arith, a, few)
 
-inner_place : (p : LogPlace) (b : Bool) → IsPlace p → AreInner (cond b (spaced_numbers (p.block ∷ p.offset ∷ [])) (spaced_numbers (p.block ∷ p.offset ∷ p.length ∷ p.runs ∷ p.apart ∷ [])))
+inner_place : (p : LogPlace) (b : Bool) → IsLogPlace p → AreInner (cond b (spaced_numbers (p.block ∷ p.offset ∷ [])) (spaced_numbers (p.block ∷ p.offset ∷ p.length ∷ p.runs ∷ p.apart ∷ [])))
 inner_place p true h = inner_numbers (p.block ∷ p.offset ∷ []) (h.block, (h.offset, tt))
 inner_place p false h =
     let few = h.few in
@@ -102,7 +102,7 @@ inner_letter kinds.Write = (refl, refl)
 inner_letter kinds.AtomicRead = (refl, refl)
 inner_letter kinds.AtomicWrite = (refl, refl)
 
-inner_reference : (r : Reference) → IsNumber r.block → IsNumber r.offset → IsNumber r.target → IsSite r.site → AreInner (spaced_numbers (r.block ∷ r.offset ∷ r.target ∷ []) ++ site_text r.site)
+inner_reference : (r : Reference) → IsLogNumber r.block → IsLogNumber r.offset → IsLogNumber r.target → IsSite r.site → AreInner (spaced_numbers (r.block ∷ r.offset ∷ r.target ∷ []) ++ site_text r.site)
 inner_reference r b o t s = inner_both (spaced_numbers (r.block ∷ r.offset ∷ r.target ∷ [])) (site_text r.site) (inner_numbers (r.block ∷ r.offset ∷ r.target ∷ []) (b, (o, (t, tt)))) (inner_site r.site s)
 
 inner_act : (a : Act) → IsAct a → AreInner (act_text a)
@@ -150,25 +150,25 @@ name_fed function number = simp append_assoc refl
 some_length : (cs : List ℕ) → not (length (32 ∷ cs) == 0) ≡ true
 some_length cs = let e : (length (32 ∷ cs) == 0) ≡ false = grind arith in rw e refl
 
-name_by : (text : List ℕ) (number : ℕ) (name : List ℕ) → IsNumber number → words_of (64 ∷ text) ≡ (64 ∷ []) ∷ decimal number ∷ words_of name → line_of (64 ∷ text) ≡ Ok (lines.Name number)
+name_by : (text : List ℕ) (number : ℕ) (name : List ℕ) → IsLogNumber number → words_of (64 ∷ text) ≡ (64 ∷ []) ∷ decimal number ∷ words_of name → line_of (64 ∷ text) ≡ Ok (lines.Name number)
 name_by text number name h e =
-    let left : is_left (words_of name) ≡ true = sym (left_by (32 ∷ name)) ∙ some_length name in
+    let left : has_word (words_of name) ≡ true = sym (left_by (32 ∷ name)) ∙ some_length name in
     rw (e, number_again number h, left) refl
 
-name_said : (function : List ℕ) (number : ℕ) → IsNumber number → line_of (name_text function number) ≡ Ok (lines.Name number)
+name_said : (function : List ℕ) (number : ℕ) → IsLogNumber number → line_of (name_text function number) ≡ Ok (lines.Name number)
 name_said function number h =
     name_by (32 ∷ (decimal number ++ 32 ∷ (function ++ 58 ∷ decimal number))) number (function ++ 58 ∷ decimal number) h
     (slice_split_at is_space (64 ∷ []) 32 (decimal number ++ 32 ∷ (function ++ 58 ∷ decimal number)) (All-from_recursion (λ c. is_space c ≡ false) (64 ∷ []) (refl, tt)) refl
     ∙ ap (λ ws. (64 ∷ []) ∷ ws) (number_then number (function ++ 58 ∷ decimal number) h))
 
-inner_name : (w : List ℕ) → All IsWithin w → AreInner w
-inner_name w h = along w (recursion_from_All IsWithin w h)
+inner_name : (w : List ℕ) → All IsInsideLine w → AreInner w
+inner_name w h = along w (recursion_from_All IsInsideLine w h)
   where
-    along : (v : List ℕ) → AllByRecursion IsWithin v → AreInner v
+    along : (v : List ℕ) → AllByRecursion IsInsideLine v → AreInner v
     along [] g = tt
     along (c ∷ cs) g = ((ne_eqb c 10 g.0.0, ne_eqb c 0 g.0.1), along cs g.1)
 
-inner_name_text : (function : List ℕ) (number : ℕ) → AreInner function → IsNumber number → AreInner (name_text function number)
+inner_name_text : (function : List ℕ) (number : ℕ) → AreInner function → IsLogNumber number → AreInner (name_text function number)
 inner_name_text function number f h = (
   (refl, refl),
   (
@@ -208,7 +208,7 @@ say_both t u vs ws ks ls h g = record {
 say_none : Say [] [] []
 say_none = record { inner = tt; written = refl; said = refl }
 
-say_site_by : (function : List ℕ) (l : Line) (b : Bool) → AreInner function → IsNumber l.number
+say_site_by : (function : List ℕ) (l : Line) (b : Bool) → AreInner function → IsLogNumber l.number
     → Say (cond b (name_line function l.number) []) (cond b (name_text function l.number ∷ []) []) (cond b (lines.Name l.number ∷ []) [])
 say_site_by function l true f h = record {
   inner = (inner_name_text function l.number f h, tt);
@@ -217,7 +217,7 @@ say_site_by function l true f h = record {
 }
 say_site_by function l false f h = say_none
 
-say_code : (function : List ℕ) (ls : List Line) → AreInner function → AllByRecursion (λ (l : Line). IsNumber l.number) ls → Say (flat_map (site_line function) ls) (flat_map (texts_at function) ls) (flat_map names_at ls)
+say_code : (function : List ℕ) (ls : List Line) → AreInner function → AllByRecursion (λ (l : Line). IsLogNumber l.number) ls → Say (flat_map (site_line function) ls) (flat_map (texts_at function) ls) (flat_map names_at ls)
 say_code function [] f h = say_none
 say_code function (l ∷ ls) f h =
     say_both (site_line function l) (flat_map (site_line function) ls) (texts_at function l) (flat_map (texts_at function) ls) (names_at l) (flat_map names_at ls)
@@ -227,7 +227,7 @@ say_functions : (fs : List Fun) → AllByRecursion HasName fs → Say (flat_map 
 say_functions [] h = say_none
 say_functions (f ∷ fs) h =
     say_both (function_sites f) (flat_map function_sites fs) (texts_in f) (texts_of fs) (names_in f) (flat_map names_in fs)
-    (say_code f.name f.code (inner_name f.name h.0.bytes) (recursion_from_All (λ (l : Line). IsNumber l.number) f.code h.0.numbers))
+    (say_code f.name f.code (inner_name f.name h.0.bytes) (recursion_from_All (λ (l : Line). IsLogNumber l.number) f.code h.0.numbers))
     (say_functions fs h.1)
 
 say_lines : (ls : List LogLine) → AreWithin ls → Say (all_written ls) (map line_text ls) ls
@@ -235,20 +235,20 @@ say_lines ls h = record { inner = inner_lines ls h; written = fed_lines ls; said
 
 -- THE WHOLE LOG
 
-say_log : (p : ProgramText) (ls es : List LogLine) → HasNames p → AreWithin ls → AreWithin es
-    → Say (written lines.Version ++ sites_of p ++ all_written ls ++ all_written es) ((line_text lines.Version ∷ []) ++ texts_of p.functions ++ map line_text ls ++ map line_text es) ((lines.Version ∷ []) ++ names_of p ++ ls ++ es)
+say_log : (p : ProgramText) (ls es : List LogLine) → AllFunctionsNamed p → AreWithin ls → AreWithin es
+    → Say (written lines.Version ++ sites_of p ++ all_written ls ++ all_written es) ((line_text lines.Version ∷ []) ++ texts_of p.functions ++ map line_text ls ++ map line_text es) ((lines.Version ∷ []) ++ name_lines p ++ ls ++ es)
 say_log p ls es n h g =
-    say_both (written lines.Version ++ sites_of p ++ all_written ls) (all_written es) ((line_text lines.Version ∷ []) ++ texts_of p.functions ++ map line_text ls) (map line_text es) ((lines.Version ∷ []) ++ names_of p ++ ls) es
-    (say_both (written lines.Version ++ sites_of p) (all_written ls) ((line_text lines.Version ∷ []) ++ texts_of p.functions) (map line_text ls) ((lines.Version ∷ []) ++ names_of p) ls
-    (say_both (written lines.Version) (sites_of p) (line_text lines.Version ∷ []) (texts_of p.functions) (lines.Version ∷ []) (names_of p)
+    say_both (written lines.Version ++ sites_of p ++ all_written ls) (all_written es) ((line_text lines.Version ∷ []) ++ texts_of p.functions ++ map line_text ls) (map line_text es) ((lines.Version ∷ []) ++ name_lines p ++ ls) es
+    (say_both (written lines.Version ++ sites_of p) (all_written ls) ((line_text lines.Version ∷ []) ++ texts_of p.functions) (map line_text ls) ((lines.Version ∷ []) ++ name_lines p) ls
+    (say_both (written lines.Version) (sites_of p) (line_text lines.Version ∷ []) (texts_of p.functions) (lines.Version ∷ []) (name_lines p)
     (say_lines (lines.Version ∷ []) (tt, tt))
     (say_functions p.functions (recursion_from_All HasName p.functions n)))
     (say_lines ls h))
     (say_lines es g)
 
-read_as : (text : List ℕ) (ws : List (List ℕ)) (ls : List LogLine) → Say text ws ls → IsReadAs text ls
+read_as : (text : List ℕ) (ws : List (List ℕ)) (ls : List LogLine) → Say text ws ls → IsReadAsLines text ls
 read_as text ws ls h = ap (λ t. map line_of (lines_in (text_of t))) h.written ∙ (ap (map line_of) (file_lines ws h.inner) ∙ h.said)
 
-pub log_again : (p : ProgramText) (ls es : List LogLine) → HasNames p → AreWithin ls → AreWithin es
-    → IsReadAs (written lines.Version ++ sites_of p ++ all_written ls ++ all_written es) ((lines.Version ∷ []) ++ names_of p ++ ls ++ es)
+pub log_again : (p : ProgramText) (ls es : List LogLine) → AllFunctionsNamed p → AreWithin ls → AreWithin es
+    → IsReadAsLines (written lines.Version ++ sites_of p ++ all_written ls ++ all_written es) ((lines.Version ∷ []) ++ name_lines p ++ ls ++ es)
 log_again p ls es n h g = read_as _ _ _ (say_log p ls es n h g)

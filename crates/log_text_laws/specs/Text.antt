@@ -14,26 +14,26 @@ use Rattle.log_form.specs.Events.{events_of}
 use Rattle.run_log.specs.Writing.{line_text}
 use Rattle.run_log.specs.Log.{end_lines, lines_of, log_of}
 use Rattle.run_turn_laws.specs.Events.{events_told}
-use Rattle.log_text_laws.specs.Names.{HasNames, names_of}
+use Rattle.log_text_laws.specs.Names.{AllFunctionsNamed, name_lines}
 
 -- a line that is written is read again as itself
 abbrev pub WrittenLinesAreReadAgain : Type 0
 WrittenLinesAreReadAgain = (l : LogLine) → IsLine l → line_of (line_text l) ≡ Ok l
 
 -- a file is read as these lines
-abbrev pub IsReadAs : List ℕ → List LogLine → Type 0
-IsReadAs file ls = map line_of (lines_in (text_of file)) ≡ map Ok ls
+abbrev pub IsReadAsLines : List ℕ → List LogLine → Type 0
+IsReadAsLines file ls = map line_of (lines_in (text_of file)) ≡ map Ok ls
 
 -- the lines of a journal's log: its version, the names of the program's sites, what its tasks do, and its end
 abbrev pub lines_in_log : ProgramText → SettingsValue → List EntryValue → List LogLine
-lines_in_log p s journal = (lines.Version ∷ []) ++ names_of p ++ lines_of p s journal ++ end_lines (end_of p s journal)
+lines_in_log p s journal = (lines.Version ∷ []) ++ name_lines p ++ lines_of p s journal ++ end_lines (end_of p s journal)
 
 -- where names and numbers fit in lines, a log is read again as its lines
 abbrev pub LogsAreReadAgain : Type 0
-LogsAreReadAgain = (p : ProgramText) (s : SettingsValue) (journal : List EntryValue) → HasNames p → All IsLine (lines_of p s journal) → IsReadAs (log_of p s journal) (lines_in_log p s journal)
+LogsAreReadAgain = (p : ProgramText) (s : SettingsValue) (journal : List EntryValue) → AllFunctionsNamed p → All IsLine (lines_of p s journal) → IsReadAsLines (log_of p s journal) (lines_in_log p s journal)
 
 -- and the text tells what the journal's lines tell
 abbrev pub LogsAreToldAgain : Type 0
 LogsAreToldAgain =
-    (p : ProgramText) (s : SettingsValue) (journal : List EntryValue) → HasNames p → All IsLine (lines_of p s journal)
+    (p : ProgramText) (s : SettingsValue) (journal : List EntryValue) → AllFunctionsNamed p → All IsLine (lines_of p s journal)
     → events_of (texts_of (log_of p s journal ∷ [])) ≡ events_told (lines_of p s journal)

@@ -26,15 +26,15 @@ kind_of_access accesses.AtomicRead = kinds.AtomicRead
 kind_of_access accesses.AtomicWrite = kinds.AtomicWrite
 
 -- what an act does to locations; one that does nothing to them isn't told
-abbrev pub kind_of : Act → LineKind
-kind_of (acts.Access a) = kind_of_access a.kind
-kind_of (acts.Store r) = kinds.Write
-kind_of (acts.Release b) = kinds.Release
-kind_of _ = kinds.Read
+abbrev pub told_kind : Act → LineKind
+told_kind (acts.Access a) = kind_of_access a.kind
+told_kind (acts.Store r) = kinds.Write
+told_kind (acts.Release b) = kinds.Release
+told_kind _ = kinds.Read
 
 -- each act has a line, so that the second case doesn't come
 abbrev pub told_line : Option ActLine → Told
-told_line (Some l) = record { kind = kind_of l.act; site = site_of l.act; at = l.at }
+told_line (Some l) = record { kind = told_kind l.act; site = site_of l.act; at = l.at }
 told_line None = record { kind = kinds.Read; site = None; at = record { file = 0; line = 0 } }
 
 -- the line of an act, by its number in the log

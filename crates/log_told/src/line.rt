@@ -1,7 +1,7 @@
 // What is told of one line.
 
 ghost use Rattle.std.specs.Prelude.{◌≡◌};
-ghost use Rattle.log_told.specs.Told.{kind_of_access, kind_of, told_line};
+ghost use Rattle.log_told.specs.Told.{kind_of_access, told_kind, told_line};
 
 use act_lines::{ActLine, site_of};
 use log_form::LogPosition;
@@ -20,8 +20,8 @@ fn kind_of_access(kind: AccessKind) -> LineKind
 }
 
 // What an act does to locations.
-fn kind_of(act: Act) -> LineKind
-    ensures { result ≡ kind_of act }
+fn told_kind(act: Act) -> LineKind
+    ensures { result ≡ told_kind act }
 {
     match act {
         Act::Access(access) => kind_of_access(access.kind),
@@ -42,7 +42,7 @@ pub(crate) fn told_line(line: Option<ActLine>) -> Told
 {
     match line {
         Some(line) => Told {
-            kind: kind_of(line.act),
+            kind: told_kind(line.act),
             site: site_of(line.act),
             at: line.at,
         },

@@ -14,11 +14,11 @@ use Rattle.race_scan.specs.Touches.{touches_of_release}
 use Rattle.log_touches.specs.declared.access.ActAccess.{ActAccess}
 
 -- the same kinds, as lines name them and as the scan of a location does
-abbrev pub kind_of : LineKind → CellAccessKind
-kind_of lines.Read = PlainRead
-kind_of lines.Write = PlainWrite
-kind_of lines.AtomicRead = AtomicRead
-kind_of lines.AtomicWrite = AtomicWrite
+abbrev pub cell_kind_of : LineKind → CellAccessKind
+cell_kind_of lines.Read = PlainRead
+cell_kind_of lines.Write = PlainWrite
+cell_kind_of lines.AtomicRead = AtomicRead
+cell_kind_of lines.AtomicWrite = AtomicWrite
 
 abbrev pub region_of : LogPlace → Region
 region_of p = record { block = p.block; offset = p.offset; length = p.length; runs = p.runs; apart = p.apart }
@@ -31,7 +31,7 @@ act_access region kind = Some (record { region = region; kind = kind })
 
 -- a read that yields a reference is a plain read of its location, and a write of one a plain write
 abbrev pub access_of : Act → Option ActAccess
-access_of (acts.Access a) = act_access (region_of a.place) (kind_of a.kind)
+access_of (acts.Access a) = act_access (region_of a.place) (cell_kind_of a.kind)
 access_of (acts.Yield r) = act_access (location_of r) PlainRead
 access_of (acts.Store r) = act_access (location_of r) PlainWrite
 access_of (acts.Birth block length) = None

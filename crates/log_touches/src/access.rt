@@ -1,9 +1,9 @@
 // What an act accesses.
 
 ghost use Rattle.std.specs.Prelude.{◌≡◌, IfSome, option_to_list};
-ghost use Rattle.log_lines.specs.Limits.{IsAct, IsPlace, IsReference};
+ghost use Rattle.log_lines.specs.Limits.{IsAct, IsLogPlace, IsLogReference};
 ghost use Rattle.log_places.specs.Places.{IsRegion};
-ghost use Rattle.log_touches.specs.Accesses.{kind_of, region_of, location_of, access_of, touch_by};
+ghost use Rattle.log_touches.specs.Accesses.{cell_kind_of, region_of, location_of, access_of, touch_by};
 
 use log_lines::{Act, LogPlace, Reference};
 use log_places::Region;
@@ -17,8 +17,8 @@ pub struct ActAccess {
 }
 
 // The kind of an access, as the scan of a location has it.
-fn kind_of(kind: log_lines::AccessKind) -> CellAccessKind
-    ensures { result ≡ kind_of kind }
+fn cell_kind_of(kind: log_lines::AccessKind) -> CellAccessKind
+    ensures { result ≡ cell_kind_of kind }
 {
     match kind {
         log_lines::AccessKind::Read => CellAccessKind::PlainRead,
@@ -30,7 +30,7 @@ fn kind_of(kind: log_lines::AccessKind) -> CellAccessKind
 
 // The locations of a place.
 fn region_of(place: LogPlace) -> Region
-    requires { IsPlace place }
+    requires { IsLogPlace place }
     ensures value { result ≡ region_of place }
     ensures region { IsRegion result }
 {
@@ -45,7 +45,7 @@ fn region_of(place: LogPlace) -> Region
 
 // The location of a reference.
 fn location_of(reference: Reference) -> Region
-    requires { IsReference reference }
+    requires { IsLogReference reference }
     ensures value { result ≡ location_of reference }
     ensures region { IsRegion result }
 {
@@ -67,7 +67,7 @@ pub(crate) fn access_of(act: Act) -> Option<ActAccess>
     match act {
         Act::Access(access) => Some(ActAccess {
             region: region_of(access.place),
-            kind: kind_of(access.kind),
+            kind: cell_kind_of(access.kind),
         }),
         Act::Yield(reference) => Some(ActAccess {
             region: location_of(reference),

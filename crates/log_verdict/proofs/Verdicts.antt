@@ -5,7 +5,7 @@ use Rattle.std.proofs.lemmas.Option.{same_Some}
 use Rattle.plain_vec.proofs.Members.{In, in_kept, in_from_kept, in_append_left, in_append_right}
 use Rattle.plain_vec.proofs.Options.{none_some}
 use Rattle.plain_vec.proofs.Places.{in_map, map_in, read_in}
-use Rattle.fork_graph.specs.Graph.{tasks_in, Precedes}
+use Rattle.fork_graph.specs.Graph.{tasks_in, StrandPrecedes}
 use Rattle.log_walk.specs.Tables.{strand_at}
 use Rattle.log_walk.specs.Value.{WalkValue, IsWalked}
 use Rattle.log_places.specs.declared.numbers.LocationSlot.{LocationSlot}
@@ -94,7 +94,7 @@ module _ (walk : WalkValue) (w : IsWalked walk) (v : PlacesValue) (touches : Lis
   known t i = read_in (λ (u : Touch). u.access.strand < length walk.order) touches t i order.known
 
   abbrev Before : Touch → Touch → Type 0
-  Before t u = Precedes (tasks_in walk.tasks) (strand_at walk.order t.access.strand) (strand_at walk.order u.access.strand)
+  Before t u = StrandPrecedes (tasks_in walk.tasks) (strand_at walk.order t.access.strand) (strand_at walk.order u.access.strand)
 
   not_before : (t u : Touch) → In touches t → In touches u → (run_order walk).before t.access.strand u.access.strand ≡ false → Before t u → ⊥
   not_before t u i j e p = false≢true (sym e ∙ ((walks_have_an_order walk w).0.before t.access.strand u.access.strand (known t i) (known u j)).1 p)

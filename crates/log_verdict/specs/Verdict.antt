@@ -2,7 +2,7 @@
 use Rattle.std.specs.Prelude.{◌≡◌, ◌<◌, ◌≤◌, ℕ, true, List, length, All, AllPairs}
 use Rattle.plain_vec.specs.Members.{In}
 use Rattle.fork_graph.specs.declared.graph.GraphStrand.{GraphStrand}
-use Rattle.fork_graph.specs.Graph.{tasks_in, Precedes}
+use Rattle.fork_graph.specs.Graph.{tasks_in, StrandPrecedes}
 use Rattle.log_walk.specs.Tables.{strand_at}
 use Rattle.log_walk.specs.Value.{WalkValue}
 use Rattle.log_places.specs.Places.{Covers}
@@ -13,8 +13,8 @@ use Rattle.race_scan.specs.declared.cells.FoundRace.{FoundRace}
 use Rattle.race_scan.specs.Laws.{HasLocation}
 
 -- the strand that made an access
-abbrev pub strand_of : WalkValue → CellAccess → GraphStrand
-strand_of walk a = strand_at walk.order a.strand
+abbrev pub strand_of_access : WalkValue → CellAccess → GraphStrand
+strand_of_access walk a = strand_at walk.order a.strand
 
 -- accesses name strands of the walk, and come in their serial order
 pub record AreInSerialOrder (walk : WalkValue) (touches : List Touch) : Type 0 where
@@ -29,8 +29,8 @@ pub record LogRaceAt (walk : WalkValue) (touches : List Touch) (block location :
   pub covers_first : Covers t.region block location
   pub covers_second : Covers u.region block location
   pub clashing : clash t.access.kind u.access.kind ≡ true
-  pub not_before : Precedes (tasks_in walk.tasks) (strand_of walk t.access) (strand_of walk u.access) → ⊥
-  pub not_after : Precedes (tasks_in walk.tasks) (strand_of walk u.access) (strand_of walk t.access) → ⊥
+  pub not_before : StrandPrecedes (tasks_in walk.tasks) (strand_of_access walk t.access) (strand_of_access walk u.access) → ⊥
+  pub not_after : StrandPrecedes (tasks_in walk.tasks) (strand_of_access walk u.access) (strand_of_access walk t.access) → ⊥
 
 -- two accesses race at the location
 abbrev pub IsRacing : WalkValue → List Touch → ℕ → ℕ → Type 0

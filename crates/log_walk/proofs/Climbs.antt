@@ -1,5 +1,5 @@
 -- Climbs from a strand by the strands that spawned its task, its parent, and so on.
-use Rattle.log_walk.proofs.Common.{◌≡◌, ◌↔◌, ℕ, zero, suc, ◌+◌, ◌-◌, ◌^◌, ◌<◌, ◌≤◌, Option, Some, None, List, length, slice_get, ◌⊎◌, inl, inr, refl, ap, sym, subst, ◌∙◌, arith, add-one, same_Some, slice_get_within, slice_get-get_or, get_or_from_slice_get, none_some, got_some, IsWalk, ancestor, up_from, depth_at, far_at, first_link, GraphTurn, Spawn, Join, GraphStrand, tasks_in, strand, first_of, last_of, Does, Precedes, IsParent, IsAncestor, AreLevels, IsSerialOrder, AreBlocks, TellsPrecedence, IsLine, itself, same_ancestor, below, through, child_above, parent_line, one_line, IsRooted, attached_rooted, rooted_attached, serial_order_extends, levels_are_few, are_blocks, tells_precedence, Tables, strand_at, task_at, place_before, AreTables, IsNextUp, IsTop, IsDepthAt, IsExitAt}
+use Rattle.log_walk.proofs.Common.{◌≡◌, ◌↔◌, ℕ, zero, suc, ◌+◌, ◌-◌, ◌^◌, ◌<◌, ◌≤◌, Option, Some, None, List, length, slice_get, ◌⊎◌, inl, inr, refl, ap, sym, subst, ◌∙◌, arith, add-one, same_Some, slice_get_within, slice_get-get_or, get_or_from_slice_get, none_some, got_some, IsWalk, ancestor, up_from, depth_at, far_at, first_link, GraphTurn, Spawn, Join, GraphStrand, tasks_in, strand, first_of, last_of, Does, StrandPrecedes, IsParent, IsAncestor, AreLevels, IsSerialOrder, AreBlocks, TellsPrecedence, IsLine, itself, same_ancestor, below, through, child_above, parent_line, one_line, IsRooted, attached_rooted, rooted_attached, serial_order_extends, levels_are_few, are_blocks, tells_precedence, Tables, strand_at, task_at, place_before, AreTables, IsNextUp, IsTop, IsDepthAt, IsExitAt}
 use Rattle.log_walk.proofs.Lines.{line_short}
 use Rattle.log_walk.proofs.Marks.{first_mark, last_mark, joined_mark}
 
@@ -180,7 +180,7 @@ module _ (rows : List (List GraphTurn)) (tables : Tables) (w : AreTables rows ta
 
   -- where the strand's own task is above the other's
   pub own_tells : (i j : ℕ) → i < length tables.order → j < length tables.order → IsAncestor (tasks_in rows) (task_at tables.order i) (task_at tables.order j)
-      → (Precedes (tasks_in rows) (strand_at tables.order i) (strand_at tables.order j) ↔ (i ≤ j))
+      → (StrandPrecedes (tasks_in rows) (strand_at tables.order i) (strand_at tables.order j) ↔ (i ≤ j))
   own_tells i j lt lt' up = tells.own (task_at tables.order i) (strand_at tables.order i).index i j (strand_at tables.order j) up (at_place i lt) (at_place j lt')
 
   -- the place that is noted for a task is of the strand that follows its join
@@ -209,7 +209,7 @@ module _ (rows : List (List GraphTurn)) (tables : Tables) (w : AreTables rows ta
       → IsAncestor (tasks_in rows) (task_at tables.order top) (task_at tables.order i)
       → (IsAncestor (tasks_in rows) (task_at tables.order top) (task_at tables.order j) → ⊥)
       → slice_get tables.afters (task_at tables.order top) ≡ Some a
-      → (Precedes (tasks_in rows) (strand_at tables.order i) (strand_at tables.order j) ↔ (a ≤ j))
+      → (StrandPrecedes (tasks_in rows) (strand_at tables.order i) (strand_at tables.order j) ↔ (a ≤ j))
   top_tells i j top a lt lt' there t above apart has =
       let c = task_at tables.order top in
       let q = task_at tables.order t.parent in

@@ -7,7 +7,7 @@ pub use Rattle.ancestor_laws.specs.Blocks.{AreBlocks, TellsPrecedence}
 pub use Rattle.ancestor_laws.specs.Serial.{AreLevels, IsSerialOrder, serial_order, serial_rest, serial_in}
 pub use Rattle.fork_graph.proofs.SpawnSearch.{no_row}
 pub use Rattle.fork_graph.specs.Faults.{SpawnsBelow}
-pub use Rattle.fork_graph.specs.Graph.{tasks_in, strand, first_of, last_of, Does, Precedes, IsParent, IsAncestor, Tasks, Stands}
+pub use Rattle.fork_graph.specs.Graph.{tasks_in, strand, first_of, last_of, Does, StrandPrecedes, IsParent, IsAncestor, TaskTurns, HasStrand}
 pub use Rattle.fork_graph.specs.Nested.{IsForkJoin, IsNested}
 pub use Rattle.fork_graph.specs.declared.graph.GraphStrand.{GraphStrand}
 pub use Rattle.fork_graph.specs.declared.graph.GraphTurn.{GraphTurn}
@@ -18,7 +18,7 @@ pub use Rattle.jump_pointers.specs.Lists.{up_from, depth_at, far_at, parent_of_l
 pub use Rattle.jump_pointers.specs.Walk.{ancestor}
 pub use Rattle.jump_pointers.specs.declared.links.Link.{Link}
 pub use Rattle.log_walk.specs.Meetings.{IsDepthAt, IsExitAt}
-pub use Rattle.log_walk.specs.Places.{AreMarkedOnce, AreMarkPlaces, joined_by, ended_by, mark_of, noted}
+pub use Rattle.log_walk.specs.Places.{AreMarkedOnce, AreMarkPlaces, joined_by, ended_by, mark_of, child_noted}
 pub use Rattle.log_walk.specs.Tables.{strand_at, task_at, place_before, AreTables, IsNextUp, IsTop, AreFirsts, AreSpawnLinks}
 pub use Rattle.log_walk.specs.Value.{WalkValue}
 pub use Rattle.log_walk.specs.Walking.{following, visited}

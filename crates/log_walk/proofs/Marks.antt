@@ -1,15 +1,15 @@
 -- The places of each task's strands in an order.
-use Rattle.log_walk.proofs.Common.{◌≡◌, ◌==◌, ℕ, ◌+◌, ◌-◌, ◌<◌, ◌≤◌, Bool, true, false, Option, Some, None, List, length, replicate, slice_get, slice_set, inl, inr, refl, ap, sym, subst, ◌∙◌, arith, if◌then◌else◌, cases_lt, eqb-true, eqb-false, ne_eqb, length-set, length-replicate, same_Some, slice_get_past, got_other, got_set, got_none, none_some, GraphTurn, Spawn, Join, GraphStrand, Tasks, strand, first_of, last_of, Stands, Does, IsForkJoin, strand_is, Mark, First, Last, Joined, joined_by, ended_by, mark_of, noted, AreMarkedOnce, AreMarkPlaces}
+use Rattle.log_walk.proofs.Common.{◌≡◌, ◌==◌, ℕ, ◌+◌, ◌-◌, ◌<◌, ◌≤◌, Bool, true, false, Option, Some, None, List, length, replicate, slice_get, slice_set, inl, inr, refl, ap, sym, subst, ◌∙◌, arith, if◌then◌else◌, cases_lt, eqb-true, eqb-false, ne_eqb, length-set, length-replicate, same_Some, slice_get_past, got_other, got_set, got_none, none_some, GraphTurn, Spawn, Join, GraphStrand, TaskTurns, strand, first_of, last_of, HasStrand, Does, IsForkJoin, strand_is, Mark, First, Last, Joined, joined_by, ended_by, mark_of, child_noted, AreMarkedOnce, AreMarkPlaces}
 
 -- A TABLE OF PLACES
 
-pub places_start : (tasks : Tasks) (n : ℕ) (order : List GraphStrand) (mark : Mark) → AreMarkPlaces tasks n order mark 0 (replicate n 0)
+pub places_start : (tasks : TaskTurns) (n : ℕ) (order : List GraphStrand) (mark : Mark) → AreMarkPlaces tasks n order mark 0 (replicate n 0)
 places_start tasks n order mark = record { size = length-replicate n 0; at = λ i t u lt h m less. absurd (omega arith) }
 
-module _ (tasks : Tasks) (n : ℕ) (order : List GraphStrand) (mark : Mark) (once : AreMarkedOnce tasks order mark)
+module _ (tasks : TaskTurns) (n : ℕ) (order : List GraphStrand) (mark : Mark) (once : AreMarkedOnce tasks order mark)
     (i : ℕ) (u : GraphStrand) (here : slice_get order i ≡ Some u) where
   noted_at : (o : Option ℕ) → mark_of tasks mark u ≡ o → (places : List ℕ) → AreMarkPlaces tasks n order mark i places
-      → (k t : ℕ) (v : GraphStrand) → k < i + 1 → slice_get order k ≡ Some v → mark_of tasks mark v ≡ Some t → t < n → slice_get (noted places i o) t ≡ Some k
+      → (k t : ℕ) (v : GraphStrand) → k < i + 1 → slice_get order k ≡ Some v → mark_of tasks mark v ≡ Some t → t < n → slice_get (child_noted places i o) t ≡ Some k
   noted_at None e places f k t v lt h m less =
       elim (cases_lt k i) [
         | inl before ↦ f.at k t v before h m less
@@ -32,11 +32,11 @@ module _ (tasks : Tasks) (n : ℕ) (order : List GraphStrand) (mark : Mark) (onc
             (got_set places s i (subst (λ x. s < x) (sym f.size) (subst (λ x. x < n) (sym task) less)) ∙ ap Some (sym same))
       ]
 
-  noted_size : (o : Option ℕ) (places : List ℕ) → length (noted places i o) ≡ length places
+  noted_size : (o : Option ℕ) (places : List ℕ) → length (child_noted places i o) ≡ length places
   noted_size None places = refl
   noted_size (Some t) places = length-set places t i
 
-  pub place_noted : (places : List ℕ) → AreMarkPlaces tasks n order mark i places → AreMarkPlaces tasks n order mark (i + 1) (noted places i (mark_of tasks mark u))
+  pub place_noted : (places : List ℕ) → AreMarkPlaces tasks n order mark i places → AreMarkPlaces tasks n order mark (i + 1) (child_noted places i (mark_of tasks mark u))
   place_noted places f = record {
     size = noted_size (mark_of tasks mark u) places ∙ f.size;
     at = noted_at (mark_of tasks mark u) refl places f;
@@ -61,13 +61,13 @@ joined c None e = none_some e
 joined c (Some (Spawn d)) e = none_some e
 joined c (Some (Join d)) e = ap (λ x. Some (Join x)) (same_Some d c e)
 
-module _ (tasks : Tasks) where
+module _ (tasks : TaskTurns) where
   is_first : (u : GraphStrand) (t : ℕ) → mark_of tasks First u ≡ Some t → u ≡ first_of t
   is_first u t m =
       let p = if_some (u.index == 0) u.task t m in
       strand_is u t 0 p.1 (eqb-true u.index 0 p.0)
 
-  is_last : (u : GraphStrand) (t : ℕ) → Stands tasks u → mark_of tasks Last u ≡ Some t → u ≡ last_of tasks t
+  is_last : (u : GraphStrand) (t : ℕ) → HasStrand tasks u → mark_of tasks Last u ≡ Some t → u ≡ last_of tasks t
   is_last u t st m =
       let p = ended u.task t (slice_get (tasks u.task) u.index) m in
       let past : length (tasks u.task) ≤ u.index =
@@ -109,7 +109,7 @@ module _ (tasks : Tasks) where
         let k : v.index ≡ b.0 + 1 = b.1 in
         strand_is u v.task v.index task (omega arith)
 
-    pub same_mark : (mark : Mark) (u v : GraphStrand) (t : ℕ) → Stands tasks u → Stands tasks v → mark_of tasks mark u ≡ Some t → mark_of tasks mark v ≡ Some t → u ≡ v
+    pub same_mark : (mark : Mark) (u v : GraphStrand) (t : ℕ) → HasStrand tasks u → HasStrand tasks v → mark_of tasks mark u ≡ Some t → mark_of tasks mark v ≡ Some t → u ≡ v
     same_mark First u v t su sv m m' = is_first u t m ∙ sym (is_first v t m')
     same_mark Last u v t su sv m m' = is_last u t su m ∙ sym (is_last v t sv m')
     same_mark Joined u v t su sv m m' = same_joined u v t m m'

@@ -1,12 +1,12 @@
 -- The strands that a walk has left make up the rest of the serial order.
-use Rattle.log_walk.proofs.Common.{◌≡◌, ℕ, zero, suc, ◌+◌, ◌-◌, ◌≤◌, Option, Some, None, List, [], ◌∷◌, ◌++◌, length, drop, slice_get, inl, inr, refl, ap, sym, subst, ◌∙◌, arith, append_assoc, append-nil, length-append, same_Some, slice_get_within, none_some, got_front, got_last, got_more, GraphTurn, Spawn, Join, GraphStrand, Tasks, strand, first_of, Does, serial_rest, serial_in, serial_order, AreLevels, IsLine, Walk, following, visited}
+use Rattle.log_walk.proofs.Common.{◌≡◌, ℕ, zero, suc, ◌+◌, ◌-◌, ◌≤◌, Option, Some, None, List, [], ◌∷◌, ◌++◌, length, drop, slice_get, inl, inr, refl, ap, sym, subst, ◌∙◌, arith, append_assoc, append-nil, length-append, same_Some, slice_get_within, none_some, got_front, got_last, got_more, GraphTurn, Spawn, Join, GraphStrand, TaskTurns, strand, first_of, Does, serial_rest, serial_in, serial_order, AreLevels, IsLine, Walk, following, visited}
 
 -- what a task still has to do from its strand on, with those below it on so many levels
-abbrev pub rest_from : Tasks → ℕ → GraphStrand → List GraphStrand
+abbrev pub rest_from : TaskTurns → ℕ → GraphStrand → List GraphStrand
 rest_from tasks l u = serial_rest (serial_in tasks l) u.task u.index (drop u.index (tasks u.task))
 
 -- what all tasks of a stack still have to do, the last one first
-abbrev pub rest_of : Tasks → ℕ → List GraphStrand → List GraphStrand
+abbrev pub rest_of : TaskTurns → ℕ → List GraphStrand → List GraphStrand
 rest_of tasks l [] = []
 rest_of tasks zero (u ∷ us) = []
 rest_of tasks (suc l) (u ∷ us) = rest_of tasks l us ++ rest_from tasks l u
@@ -22,7 +22,7 @@ drop_some [] i turn h = none_some h
 drop_some (t ∷ ts) zero turn h = ap (λ x. x ∷ ts) (same_Some t turn h)
 drop_some (t ∷ ts) (suc i) turn h = drop_some ts i turn h
 
-module _ (tasks : Tasks) where
+module _ (tasks : TaskTurns) where
   next_rest : (l : ℕ) (u : GraphStrand) → serial_rest (serial_in tasks l) u.task (u.index + 1) (drop (suc u.index) (tasks u.task)) ≡ rest_from tasks l (strand u.task (u.index + 1))
   next_rest l u = ap (λ i. serial_rest (serial_in tasks l) u.task (u.index + 1) (drop i (tasks u.task))) (let e : suc u.index ≡ u.index + 1 = omega arith in e)
 
@@ -50,16 +50,16 @@ module _ (tasks : Tasks) where
 
 -- each frame's task stands as far below the root as the frame does above the stack's bottom, and what was visited and
 -- what is left are the whole order
-pub record IsWalking (tasks : Tasks) (levels : ℕ) (walk : Walk) : Type 0 where
+pub record IsWalking (tasks : TaskTurns) (levels : ℕ) (walk : Walk) : Type 0 where
   pub frames : (j : ℕ) (u : GraphStrand) → slice_get walk.stack j ≡ Some u → IsLine tasks 0 j u.task
   pub deep : length walk.stack ≤ levels
   pub whole : walk.order ++ rest_of tasks levels walk.stack ≡ serial_order tasks levels
 
 -- how many strands are left
-abbrev pub left : Tasks → ℕ → Walk → ℕ
+abbrev pub left : TaskTurns → ℕ → Walk → ℕ
 left tasks levels walk = length (rest_of tasks levels walk.stack)
 
-module _ (tasks : Tasks) (levels : ℕ) (enough : AreLevels tasks levels) where
+module _ (tasks : TaskTurns) (levels : ℕ) (enough : AreLevels tasks levels) where
   one_frame : (j : ℕ) (u : GraphStrand) → slice_get (first_of 0 ∷ []) j ≡ Some u → IsLine tasks 0 j u.task
   one_frame zero u h = ap (λ (x : GraphStrand). x.task) (sym (same_Some (first_of 0) u h))
   one_frame (suc j) u h = none_some h
@@ -169,6 +169,6 @@ module _ (tasks : Tasks) (levels : ℕ) (enough : AreLevels tasks levels) where
         ap length (rest ∙ ap (rest_of tasks levels) (sym es)),
       )
 
-pub walk_end : (tasks : Tasks) (levels : ℕ) (walk : Walk) → walk.stack ≡ [] → IsWalking tasks levels walk → walk.order ≡ serial_order tasks levels
+pub walk_end : (tasks : TaskTurns) (levels : ℕ) (walk : Walk) → walk.stack ≡ [] → IsWalking tasks levels walk → walk.order ≡ serial_order tasks levels
 walk_end tasks levels walk over w =
     sym (append-nil walk.order) ∙ (ap (λ (xs : List GraphStrand). walk.order ++ rest_of tasks levels xs) (sym over) ∙ w.whole)

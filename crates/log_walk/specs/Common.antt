@@ -2,7 +2,7 @@
 pub use Rattle.ancestor_laws.specs.Meeting.{IsLowestCommon, IsExit}
 pub use Rattle.ancestor_laws.specs.Serial.{serial_order}
 pub use Rattle.fork_graph.specs.Faults.{SpawnsBelow}
-pub use Rattle.fork_graph.specs.Graph.{Tasks, strand, IsParent, AreSmall, tasks_in, IsAncestor, first_of}
+pub use Rattle.fork_graph.specs.Graph.{TaskTurns, strand, IsParent, AreSmall, tasks_in, IsAncestor, first_of}
 pub use Rattle.fork_graph.specs.Nested.{IsNested}
 pub use Rattle.fork_graph.specs.declared.graph.GraphStrand.{GraphStrand}
 pub use Rattle.fork_graph.specs.declared.graph.GraphTurn.{GraphTurn}

@@ -2,7 +2,7 @@
 
 ghost use Rattle.std.specs.Prelude.{◌≡◌, IfOk, length};
 ghost use Rattle.fork_graph.specs.Graph.{tasks_in};
-ghost use Rattle.log_walk.specs.Places.{joined_before, mark_of, noted, AreMarkedOnce, AreMarkPlaces};
+ghost use Rattle.log_walk.specs.Places.{joined_before, mark_of, child_noted, AreMarkedOnce, AreMarkPlaces};
 
 use crate::order::turn_after;
 use fork_graph::{GraphStrand, GraphTurn};
@@ -46,7 +46,7 @@ fn note(
     place: usize,
     places: &mut Listed<usize>,
 )
-    ensures { places.new ≡ noted places.old place (mark_of (tasks_in tasks.now) mark strand) }
+    ensures { places.new ≡ child_noted places.old place (mark_of (tasks_in tasks.now) mark strand) }
 {
     if let Some(task) = marked(tasks, strand, mark) {
         let at = task as usize;

@@ -1,7 +1,7 @@
 // What is known of the strands of a run by their places in the serial order.
 
 ghost use Rattle.std.specs.Prelude.{◌≡◌, ◌<◌, ◌≤◌, ◌↔◌, IsTrue, IfNone, IfSome, length};
-ghost use Rattle.fork_graph.specs.Graph.{tasks_in, IsAncestor, Precedes};
+ghost use Rattle.fork_graph.specs.Graph.{tasks_in, IsAncestor, StrandPrecedes};
 ghost use Rattle.jump_pointers.specs.Lists.{depth_at, up_from};
 ghost use Rattle.log_walk.specs.Tables.{strand_at, task_at, AreTables, IsNextUp, IsTop};
 ghost use Rattle.log_walk.specs.Meetings.{IsDepthAt, IsExitAt};
@@ -94,7 +94,7 @@ pub(crate) fn exit(
     requires second { second < length tables.now.order }
     ensures is { IsExitAt (tasks_in tasks.now) tables.now.order first second result }
     ensures there { result < length tables.now.order }
-    ensures tells { Precedes (tasks_in tasks.now) (strand_at tables.now.order first) (strand_at tables.now.order second) ↔ (result ≤ second) }
+    ensures tells { StrandPrecedes (tasks_in tasks.now) (strand_at tables.now.order first) (strand_at tables.now.order second) ↔ (result ≤ second) }
 {
     if is_above(tasks, tables, first, second) {
         return first;
@@ -113,7 +113,7 @@ pub(crate) fn precedes(
     requires tables { AreTables tasks.now tables.now }
     requires first { first < length tables.now.order }
     requires second { second < length tables.now.order }
-    ensures { IsTrue result ↔ Precedes (tasks_in tasks.now) (strand_at tables.now.order first) (strand_at tables.now.order second) }
+    ensures { IsTrue result ↔ StrandPrecedes (tasks_in tasks.now) (strand_at tables.now.order first) (strand_at tables.now.order second) }
 {
     exit(tasks, tables, first, second) <= second
 }

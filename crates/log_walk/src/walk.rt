@@ -1,7 +1,7 @@
 // A run's strands in their serial order, and which of them precede which.
 
 ghost use Rattle.std.specs.Prelude.{◌≡◌, ◌<◌, ◌↔◌, IfOk, IsTrue, length};
-ghost use Rattle.fork_graph.specs.Graph.{AreSmall, tasks_in, Precedes};
+ghost use Rattle.fork_graph.specs.Graph.{AreSmall, tasks_in, StrandPrecedes};
 ghost use Rattle.fork_graph.specs.Nested.{IsNested};
 ghost use Rattle.fork_graph.specs.Faults.{SpawnsBelow};
 ghost use Rattle.ancestor_laws.specs.Serial.{serial_order};
@@ -66,7 +66,7 @@ impl<'t> SerialWalk<'t> {
     pub fn precedes(&self, first: usize, second: usize) -> bool
         requires first { first < length self.now.order }
         requires second { second < length self.now.order }
-        ensures { IsTrue result ↔ Precedes (tasks_in self.now.tasks) (strand_at self.now.order first) (strand_at self.now.order second) }
+        ensures { IsTrue result ↔ StrandPrecedes (tasks_in self.now.tasks) (strand_at self.now.order first) (strand_at self.now.order second) }
     {
         precedes(self.tasks, &self.tables, first, second)
     }

@@ -16,7 +16,7 @@ pub use Rattle.log_tasks.proofs.Acts.{acts_append, acts_there, acts_elsewhere}
 pub use Rattle.log_tasks.proofs.Lines.{pieces_more}
 pub use Rattle.log_tasks.specs.declared.tasks.LogTasks.{LogTasks}
 pub use Rattle.log_walk.specs.Value.{WalkValue, IsWalked}
-pub use Rattle.log_weights.specs.Known.{Knows, work_known, or_none}
+pub use Rattle.log_weights.specs.Known.{KnowsWork, work_known, or_none}
 pub use Rattle.log_weights.specs.Sums.{fitting, plus}
 pub use Rattle.log_weights.specs.Weights.{weight_of, weights_of, units_of, work_of}
 pub use Rattle.log_weights.specs.declared.units.StrandWork.{StrandWork}

@@ -1,8 +1,8 @@
 -- What is known of strands' work after a piece more.
-use Rattle.log_weights.proofs.Common.{◌≡◌, ◌<◌, ◌+◌, ◌++◌, ◌∙◌, ℕ, Bool, true, false, List, refl, sym, ap, subst, Option, Some, append-nil, length, get_or, take, slice_range, if◌then◌else◌, sum_by-append, GraphStrand, strand, is_that, LogPiece, on_strand, text_at, acts_in, acts_of_piece, events_of_pieces, pieces_more, that_is, acts_append, acts_there, acts_elsewhere, Act, Event, acts_on, StrandWork, units_of, work_of, fitting, plus, Knows, work_known, or_none}
+use Rattle.log_weights.proofs.Common.{◌≡◌, ◌<◌, ◌+◌, ◌++◌, ◌∙◌, ℕ, Bool, true, false, List, refl, sym, ap, subst, Option, Some, append-nil, length, get_or, take, slice_range, if◌then◌else◌, sum_by-append, GraphStrand, strand, is_that, LogPiece, on_strand, text_at, acts_in, acts_of_piece, events_of_pieces, pieces_more, that_is, acts_append, acts_there, acts_elsewhere, Act, Event, acts_on, StrandWork, units_of, work_of, fitting, plus, KnowsWork, work_known, or_none}
 use Rattle.log_weights.proofs.Fitting.{plus_fitting}
 
-module _ (old new : StrandWork) (u : GraphStrand) (acts : List Act) (events : List Event) (knows : Knows old events) where
+module _ (old new : StrandWork) (u : GraphStrand) (acts : List Act) (events : List Event) (knows : KnowsWork old events) where
   with_more : (v : GraphStrand) → plus (fitting (work_of (acts_on events v))) (fitting (work_of acts)) ≡ fitting (work_of (acts_on events v ++ acts))
   with_more v = plus_fitting (work_of (acts_on events v)) (work_of acts) ∙ ap fitting (sym (sum_by-append units_of (acts_on events v) acts))
 
@@ -19,18 +19,18 @@ module _ (old new : StrandWork) (u : GraphStrand) (acts : List Act) (events : Li
       (sym (acts_append events (on_strand u acts) (strand t i) ∙ ap (λ (more : List Act). acts_on events (strand t i) ++ more) (acts_elsewhere u (strand t i) acts e) ∙ append-nil (acts_on events (strand t i))))
 
   -- a piece was added
-  pub knows_more : ((t i : ℕ) → work_known new t i ≡ (if is_that u t i then plus (work_known old t i) (fitting (work_of acts)) else work_known old t i)) → Knows new (events ++ on_strand u acts)
+  pub knows_more : ((t i : ℕ) → work_known new t i ≡ (if is_that u t i then plus (work_known old t i) (fitting (work_of acts)) else work_known old t i)) → KnowsWork new (events ++ on_strand u acts)
   knows_more added t i = added t i ∙ of_one t i (is_that u t i) refl
 
 -- the next piece was added
 pub pieces_knows : (texts : List (List ℕ)) (pieces : List LogPiece) (i : ℕ) (d : LogPiece) (text : List ℕ) (old new : StrandWork) (work : Option ℕ) → i < length pieces
-    → text ≡ slice_range (text_at texts (get_or pieces i d).file) (get_or pieces i d).begin (get_or pieces i d).end → work ≡ fitting (work_of (acts_in text)) → Knows old (events_of_pieces texts (take i pieces))
+    → text ≡ slice_range (text_at texts (get_or pieces i d).file) (get_or pieces i d).begin (get_or pieces i d).end → work ≡ fitting (work_of (acts_in text)) → KnowsWork old (events_of_pieces texts (take i pieces))
     → ((t j : ℕ) → work_known new t j ≡ (if is_that (get_or pieces i d).strand t j then plus (work_known old t j) work else work_known old t j))
-    → Knows new (events_of_pieces texts (take (i + 1) pieces))
+    → KnowsWork new (events_of_pieces texts (take (i + 1) pieces))
 pieces_knows texts pieces i d text old new work lt is weighs knows added =
     let u = (get_or pieces i d).strand in
     let known : work ≡ fitting (work_of (acts_of_piece texts (get_or pieces i d))) = weighs ∙ ap (λ (t : List ℕ). fitting (work_of (acts_in t))) is in
-    subst (Knows new) (sym (pieces_more texts pieces i d lt))
+    subst (KnowsWork new) (sym (pieces_more texts pieces i d lt))
     (knows_more old new u (acts_of_piece texts (get_or pieces i d)) (events_of_pieces texts (take i pieces)) knows
     (λ t j. added t j ∙ ap (λ (o : Option ℕ). if is_that u t j then plus (work_known old t j) o else work_known old t j) known))
 

@@ -17,5 +17,5 @@ abbrev pub work_known : StrandWork → ℕ → ℕ → Option ℕ
 work_known work t i = or_none (get is_pair work.units (t, i))
 
 -- the work of each strand is known
-abbrev pub Knows : StrandWork → List Event → Type 0
-Knows work events = (t i : ℕ) → work_known work t i ≡ fitting (work_of (acts_on events (strand t i)))
+abbrev pub KnowsWork : StrandWork → List Event → Type 0
+KnowsWork work events = (t i : ℕ) → work_known work t i ≡ fitting (work_of (acts_on events (strand t i)))

@@ -6,7 +6,7 @@ ghost use Rattle.log_pieces.specs.Claims.{is_that};
 ghost use Rattle.log_pieces.specs.Pieces.{events_of_pieces};
 ghost use Rattle.log_weights.specs.Weights.{weight_of};
 ghost use Rattle.log_weights.specs.Sums.{fitting, plus};
-ghost use Rattle.log_weights.specs.Known.{Knows, work_known};
+ghost use Rattle.log_weights.specs.Known.{KnowsWork, work_known};
 
 use crate::sums::{plus, text_work};
 use fork_graph::GraphStrand;
@@ -45,8 +45,8 @@ impl StrandWork {
 
     // The work of pieces is added.
     fn take_pieces(&mut self, texts: &[Listed<u8>], pieces: &[LogPiece]) -> Result<(), AllocError>
-        requires { Knows self.old [] }
-        ensures { OnOk result (Knows self.new (events_of_pieces texts.now pieces.now)) }
+        requires { KnowsWork self.old [] }
+        ensures { OnOk result (KnowsWork self.new (events_of_pieces texts.now pieces.now)) }
     {
         for piece in pieces {
             let work = text_work(piece_text(texts, *piece));
@@ -57,7 +57,7 @@ impl StrandWork {
 
     /// The weight of a strand of the graph, if it fits.
     pub(crate) fn weight(&self, tasks: &LogTasks, strand: GraphStrand) -> Option<u64>
-        ensures { (events : List Event) → Knows self.now events → result ≡ fitting (weight_of events tasks.now strand) }
+        ensures { (events : List Event) → KnowsWork self.now events → result ≡ fitting (weight_of events tasks.now strand) }
     {
         if is_known(tasks, strand) {
             self.of(strand_in_log(tasks, strand))
@@ -73,7 +73,7 @@ pub(crate) fn work_of(
     texts: &[Listed<u8>],
     pieces: &[LogPiece],
 ) -> Result<StrandWork, AllocError>
-    ensures { IfOk result (λ work. Knows work (events_of_pieces texts.now pieces.now)) }
+    ensures { IfOk result (λ work. KnowsWork work (events_of_pieces texts.now pieces.now)) }
 {
     let mut work = StrandWork {
         units: HashMap::new(alloc),

@@ -4,7 +4,7 @@ ghost use Rattle.std.specs.Prelude.{◌≡◌, ◌≤◌, ◌<◌, ◌^◌, ◌+
 ghost use Rattle.log_strands.specs.below.log_form.{Event, events_of};
 ghost use Rattle.log_pieces.specs.Pieces.{events_of_pieces};
 ghost use Rattle.log_weights.specs.Weights.{weights_of, IsTooMuch};
-ghost use Rattle.log_weights.specs.Known.{Knows};
+ghost use Rattle.log_weights.specs.Known.{KnowsWork};
 
 use crate::cost::CostError;
 use crate::units::{StrandWork, work_of};
@@ -22,8 +22,8 @@ fn weights_by(
     tasks: &LogTasks,
     order: &[GraphStrand],
 ) -> Result<Listed<u64>, CostError>
-    ensures weights { IfOk result (λ weights. (events : List Event) → Knows work.now events → weights ≡ weights_of events tasks.now order.now) }
-    ensures too_much { IfErr result (λ e. (events : List Event) → Knows work.now events → IsTooMuch (weights_of events tasks.now order.now) e) }
+    ensures weights { IfOk result (λ weights. (events : List Event) → KnowsWork work.now events → weights ≡ weights_of events tasks.now order.now) }
+    ensures too_much { IfErr result (λ e. (events : List Event) → KnowsWork work.now events → IsTooMuch (weights_of events tasks.now order.now) e) }
 {
     let mut weights = Listed::new(alloc);
     for strand in order {

@@ -7,12 +7,12 @@ pub use Rattle.leaf_heap.specs.LeafHeapValue.{HaveDistinctNumbers, IsFresh, IsCu
 pub use Rattle.leaf_heap.specs.Units.{counted32, unit_count}
 pub use Rattle.mark_sweep_gc.specs.Laws.{MarkingGoesOn, MarkingStaysOf, SnapshotIsOfRoots, AllMarkedIsDone, SweptChunksHold, SweptAreRead, SweptIsSnapshot}
 pub use Rattle.mark_sweep_gc.specs.MarkingValue.{FindsMore, HasCapacityForAll, MarkingValue, with_address, has_address, marked_of, IsAllMarked, IsMarking, IsOf}
-pub use Rattle.mark_sweep_gc.specs.Snapshot.{object_count, Fork, IsInSnapshot, Starts, IsSince}
+pub use Rattle.mark_sweep_gc.specs.Snapshot.{object_count, Fork, IsInSnapshot, MarkStarts, IsSince}
 pub use Rattle.mark_sweep_gc.specs.Swept.{AreGiven, units_in_slots, has_number, has_object, chunk_number_at, place_at, stays, swept, swept_cell, swept_cells, swept_chunk, is_object, goes}
 pub use Rattle.object_layout.proofs.Distinct.{Once, distinct_from, once_from, once_push, same_is, same_self}
 pub use Rattle.object_layout.specs.Cell.{Born, Cell, Hole, IsObject, Mark, Moved, no_cell, size_of, IsBorn, as_object, marked_object, moved_to, with_mark}
 pub use Rattle.object_layout.specs.ChunkValue.{ChunkValue}
-pub use Rattle.object_layout.specs.Chunks.{cell_of, same_address, held_size, one_each, sum_in, place_in, place_of, chunk_at, object_of}
+pub use Rattle.object_layout.specs.Chunks.{cell_of, same_address, held_size, one_each, sum_in, place_in, chunk_position, chunk_at, object_of}
 pub use Rattle.object_layout.specs.Graph.{HasObjectAt, IsSoundReference, RefersTo}
 pub use Rattle.object_layout.specs.Place.{cell_at, IsCellAt, put_cell, words_in, cells_from}
 pub use Rattle.object_layout.specs.declared.word.Addr.{Addr}

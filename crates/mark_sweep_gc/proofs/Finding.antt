@@ -1,5 +1,5 @@
 -- What is found, step by step.
-use Rattle.mark_sweep_gc.proofs.Common.{◌≡◌, ℕ, ◌+◌, ◌<◌, ◌≤◌, List, [], ◌++◌, length, get_or, take, refl, sym, ap, ◌∙◌, subst, arith, ◌⊎◌, inl, inr, Contains, All, Some, None, slice_get, append-nil, append_assoc, take_all, length-drop, Bool, true, false, nat_lt, drop, ◌-◌, is_some, if◌then◌else◌, false≢true, IsDistinct, slice_get-get_or, place_in, place_of, same_address, distinct_from, Addr, ChunkValue, HasObjectAt, IsSoundReference, In, in_append_left, contains_from_in, in_from_contains, all_from, got_in_take, in_take_more, take_more_in, FindsMore, HasCapacityForAll, MarkingValue, with_address, object_count}
+use Rattle.mark_sweep_gc.proofs.Common.{◌≡◌, ℕ, ◌+◌, ◌<◌, ◌≤◌, List, [], ◌++◌, length, get_or, take, refl, sym, ap, ◌∙◌, subst, arith, ◌⊎◌, inl, inr, Contains, All, Some, None, slice_get, append-nil, append_assoc, take_all, length-drop, Bool, true, false, nat_lt, drop, ◌-◌, is_some, if◌then◌else◌, false≢true, IsDistinct, slice_get-get_or, place_in, chunk_position, same_address, distinct_from, Addr, ChunkValue, HasObjectAt, IsSoundReference, In, in_append_left, contains_from_in, in_from_contains, all_from, got_in_take, in_take_more, take_more_in, FindsMore, HasCapacityForAll, MarkingValue, with_address, object_count}
 use Rattle.object_layout.proofs.ChunkLaws as laws
 use Rattle.mark_sweep_gc.proofs.Addresses.{noted_is}
 use Rattle.mark_sweep_gc.proofs.Counting.{found_within}
@@ -124,19 +124,19 @@ finds_list {X} H P of xs k old new l to back f =
 pub some_same : {a b : Addr} → Some a ≡ Some b → a ≡ b
 some_same e = cc
 
-owned_by : (ks : List ChunkValue) (n : ℕ) (b : Bool) → nat_lt (place_of ks n) (length ks) ≡ b → is_some (if b then Some (place_of ks n) else None) ≡ true → place_of ks n < length ks
+owned_by : (ks : List ChunkValue) (n : ℕ) (b : Bool) → nat_lt (chunk_position ks n) (length ks) ≡ b → is_some (if b then Some (chunk_position ks n) else None) ≡ true → chunk_position ks n < length ks
 owned_by ks n true e o = grind arith
 owned_by ks n false e o = absurd (false≢true o)
 
 pub owned_held : (ks : List ChunkValue) (a : Addr) → IsSoundReference ks (Some a) → is_some (place_in ks a.chunk) ≡ true → HasObjectAt ks a
-owned_held ks a sound o = (sound (owned_by ks a.chunk (nat_lt (place_of ks a.chunk) (length ks)) refl o)).0
+owned_held ks a sound o = (sound (owned_by ks a.chunk (nat_lt (chunk_position ks a.chunk) (length ks)) refl o)).0
 
-not_by : (ks : List ChunkValue) (n : ℕ) (b : Bool) → nat_lt (place_of ks n) (length ks) ≡ b → is_some (if b then Some (place_of ks n) else None) ≡ false → place_of ks n < length ks → ⊥
+not_by : (ks : List ChunkValue) (n : ℕ) (b : Bool) → nat_lt (chunk_position ks n) (length ks) ≡ b → is_some (if b then Some (chunk_position ks n) else None) ≡ false → chunk_position ks n < length ks → ⊥
 not_by ks n true e o l = false≢true (sym o)
 not_by ks n false e o l = grind arith
 
 pub not_owned : (ks : List ChunkValue) (a : Addr) → is_some (place_in ks a.chunk) ≡ false → HasObjectAt ks a → ⊥
-not_owned ks a o h = not_by ks a.chunk (nat_lt (place_of ks a.chunk) (length ks)) refl o (laws.chunk_of_object ks a (laws.born_object ks a h))
+not_owned ks a o h = not_by ks a.chunk (nat_lt (chunk_position ks a.chunk) (length ks)) refl o (laws.chunk_of_object ks a (laws.born_object ks a h))
 
 pub held_in : (P : Addr → Type 0) (xs : List Addr) (a : Addr) → All P xs → Contains xs a → P a
 held_in P xs a all c = subst P c.2 (all c.0 a c.1)

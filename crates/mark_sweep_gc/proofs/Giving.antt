@@ -1,5 +1,5 @@
 -- Chunks released one after another.
-use Rattle.mark_sweep_gc.proofs.Common.{◌≡◌, ℕ, zero, suc, ◌+◌, ◌<◌, Bool, true, false, cond, List, [], ◌∷◌, ◌++◌, length, filter, map, take, get_or, refl, sym, ap, ◌∙◌, subst, arith, ◌⊎◌, inl, inr, eqb, Some, None, All, IsSome, cases_Bool, eq-eqb, eqb-true, lt-ltb, ne_eqb, false≢true, take_more, map-append, All-append, All-cons, All-head, All-nil, All-tail, ChunkValue, place_in, place_of, HaveDistinctNumbers, IsFresh, counted32, unit_count, fresh_behind, fresh_cons, fresh_front, fresh_head, fresh_tail, PoolValue, Releases, slot_at, slot_units, AreGiven, units_in_slots}
+use Rattle.mark_sweep_gc.proofs.Common.{◌≡◌, ℕ, zero, suc, ◌+◌, ◌<◌, Bool, true, false, cond, List, [], ◌∷◌, ◌++◌, length, filter, map, take, get_or, refl, sym, ap, ◌∙◌, subst, arith, ◌⊎◌, inl, inr, eqb, Some, None, All, IsSome, cases_Bool, eq-eqb, eqb-true, lt-ltb, ne_eqb, false≢true, take_more, map-append, All-append, All-cons, All-head, All-nil, All-tail, ChunkValue, place_in, chunk_position, HaveDistinctNumbers, IsFresh, counted32, unit_count, fresh_behind, fresh_cons, fresh_front, fresh_head, fresh_tail, PoolValue, Releases, slot_at, slot_units, AreGiven, units_in_slots}
 
 -- ---- fresh numbers
 
@@ -26,11 +26,11 @@ fresh_both (k ∷ ks) ls n f g = fresh_cons k (ks ++ ls) n (fresh_head k ks n f)
 
 -- ---- a chunk is looked up by its number
 
-there_at : (ks : List ChunkValue) (i n : ℕ) (d : ChunkValue) → i < length ks → IsFresh (take i ks) n → (get_or ks i d).number ≡ n → place_of ks n ≡ i
+there_at : (ks : List ChunkValue) (i n : ℕ) (d : ChunkValue) → i < length ks → IsFresh (take i ks) n → (get_or ks i d).number ≡ n → chunk_position ks n ≡ i
 there_at [] i n d l f e = absurd (omega arith)
 there_at (k ∷ ks) zero n d l f e = rw (eq-eqb k.number n e) refl
 there_at (k ∷ ks) (suc i) n d l f e =
-    let ih : place_of ks n ≡ i = there_at ks i n d (omega arith) (fresh_tail k (take i ks) n f) e in
+    let ih : chunk_position ks n ≡ i = there_at ks i n d (omega arith) (fresh_tail k (take i ks) n f) e in
     rw (ne_eqb k.number n (fresh_head k (take i ks) n f)) (omega arith)
 
 pub found_at : (ks : List ChunkValue) (i n : ℕ) (d : ChunkValue) → i < length ks → IsFresh (take i ks) n → (get_or ks i d).number ≡ n → Some i ≡ place_in ks n

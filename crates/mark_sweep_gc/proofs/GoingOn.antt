@@ -1,13 +1,13 @@
 -- A marking between two calls.
 use Rattle.std.proofs.Common.{length-append}
-use Rattle.mark_sweep_gc.proofs.Common.{◌≡◌, ℕ, zero, suc, ◌+◌, ◌<◌, ◌≤◌, List, [], ◌∷◌, ◌++◌, length, drop, subst, arith, ◌⊎◌, inl, inr, Contains, take-append-le, Addr, ChunkValue, RefersTo, In, in_append_left, in_append_right, in_append_cases, contains_from_in, in_from_contains, reached_start, reached_more, reached_within, MarkingGoesOn, MarkingStaysOf, SnapshotIsOfRoots, Fork, IsInSnapshot, Starts, object_count}
+use Rattle.mark_sweep_gc.proofs.Common.{◌≡◌, ℕ, zero, suc, ◌+◌, ◌<◌, ◌≤◌, List, [], ◌∷◌, ◌++◌, length, drop, subst, arith, ◌⊎◌, inl, inr, Contains, take-append-le, Addr, ChunkValue, RefersTo, In, in_append_left, in_append_right, in_append_cases, contains_from_in, in_from_contains, reached_start, reached_more, reached_within, MarkingGoesOn, MarkingStaysOf, SnapshotIsOfRoots, Fork, IsInSnapshot, MarkStarts, object_count}
 
 -- more starts lead to more
-more_starts : (f : Fork) (kept others : List Addr) → ((a : Addr) → Starts f kept a → Starts f others a) → (a : Addr) → IsInSnapshot f kept a → IsInSnapshot f others a
+more_starts : (f : Fork) (kept others : List Addr) → ((a : Addr) → MarkStarts f kept a → MarkStarts f others a) → (a : Addr) → IsInSnapshot f kept a → IsInSnapshot f others a
 more_starts f kept others h a w =
-    reached_within (Starts f kept) (RefersTo f.heap) (IsInSnapshot f others)
-    (λ x s. reached_start (Starts f others) (RefersTo f.heap) x (h x s))
-    (λ b x r g. reached_more (Starts f others) (RefersTo f.heap) b x r g)
+    reached_within (MarkStarts f kept) (RefersTo f.heap) (IsInSnapshot f others)
+    (λ x s. reached_start (MarkStarts f others) (RefersTo f.heap) x (h x s))
+    (λ b x r g. reached_more (MarkStarts f others) (RefersTo f.heap) b x r g)
     a w
 
 in_snapshot_more : (f : Fork) (kept more : List Addr) (a : Addr) → IsInSnapshot f kept a → IsInSnapshot f (kept ++ more) a
@@ -38,12 +38,12 @@ in_both roots kept a (inr c) = contains_from_in (roots ++ kept) a (in_append_rig
 
 pub snapshot_is_of_roots : SnapshotIsOfRoots
 snapshot_is_of_roots h first roots kept all found a = (
-  (λ w. reached_within (Starts (fork_of h roots) kept) (RefersTo h) (IsInSnapshot (fork_of h first) []) all
-      (λ b x r g. reached_more (Starts (fork_of h first) []) (RefersTo h) b x r g)
+  (λ w. reached_within (MarkStarts (fork_of h roots) kept) (RefersTo h) (IsInSnapshot (fork_of h first) []) all
+      (λ b x r g. reached_more (MarkStarts (fork_of h first) []) (RefersTo h) b x r g)
       a w),
-  (λ w. reached_within (Starts (fork_of h first) []) (RefersTo h) (IsInSnapshot (fork_of h roots) kept)
-      (λ x s. reached_start (Starts (fork_of h roots) kept) (RefersTo h) x (s.0, in_both roots kept x (found x s)))
-      (λ b x r g. reached_more (Starts (fork_of h roots) kept) (RefersTo h) b x r g)
+  (λ w. reached_within (MarkStarts (fork_of h first) []) (RefersTo h) (IsInSnapshot (fork_of h roots) kept)
+      (λ x s. reached_start (MarkStarts (fork_of h roots) kept) (RefersTo h) x (s.0, in_both roots kept x (found x s)))
+      (λ b x r g. reached_more (MarkStarts (fork_of h roots) kept) (RefersTo h) b x r g)
       a w),
 )
 

@@ -1,5 +1,5 @@
 -- The chunks after a sweep: what they are, and what is read in them.
-use Rattle.mark_sweep_gc.proofs.Common.{◌≡◌, ℕ, zero, suc, ◌+◌, ◌*◌, ◌<◌, ◌≤◌, Bool, true, false, cond, one-add, List, [], ◌∷◌, length, map, filter, refl, sym, ap, ◌∙◌, subst, arith, ◌⊎◌, inl, inr, eqb, Option, Some, None, All, ◌||◌, nat_lt, cases_Bool, eq-eqb, eqb-true, ne_eqb, or_parts, length-map, All-cons, All-filter, All-head, All-map, All-tail, All-weaker, Addr, Cell, IsBorn, IsObject, Mark, Born, Moved, Hole, as_object, marked_object, moved_to, no_cell, size_of, ChunkValue, cell_at, cell_of, chunk_at, object_of, place_of, HasObjectAt, In, contains_from_in, in_from_contains, in_take, HaveDistinctNumbers, IsCurrent, IsFresh, IsReserved, IsSettled, IsTidy, units, fresh_at, fresh_cons, fresh_head, fresh_tail, none_there, AllMarkedIsDone, SweptChunksHold, SweptAreRead, SweptIsSnapshot, has_address, marked_of, IsInSnapshot, has_number, has_object, chunk_number_at, place_at, stays, swept, swept_cell, swept_cells, swept_chunk}
+use Rattle.mark_sweep_gc.proofs.Common.{◌≡◌, ℕ, zero, suc, ◌+◌, ◌*◌, ◌<◌, ◌≤◌, Bool, true, false, cond, one-add, List, [], ◌∷◌, length, map, filter, refl, sym, ap, ◌∙◌, subst, arith, ◌⊎◌, inl, inr, eqb, Option, Some, None, All, ◌||◌, nat_lt, cases_Bool, eq-eqb, eqb-true, ne_eqb, or_parts, length-map, All-cons, All-filter, All-head, All-map, All-tail, All-weaker, Addr, Cell, IsBorn, IsObject, Mark, Born, Moved, Hole, as_object, marked_object, moved_to, no_cell, size_of, ChunkValue, cell_at, cell_of, chunk_at, object_of, chunk_position, HasObjectAt, In, contains_from_in, in_from_contains, in_take, HaveDistinctNumbers, IsCurrent, IsFresh, IsReserved, IsSettled, IsTidy, units, fresh_at, fresh_cons, fresh_head, fresh_tail, none_there, AllMarkedIsDone, SweptChunksHold, SweptAreRead, SweptIsSnapshot, has_address, marked_of, IsInSnapshot, has_number, has_object, chunk_number_at, place_at, stays, swept, swept_cell, swept_cells, swept_chunk}
 use Rattle.object_layout.proofs.ChunkLaws as laws
 use Rattle.mark_sweep_gc.proofs.Addresses.{has_in, in_has}
 use Rattle.mark_sweep_gc.proofs.Giving.{apart_filtered, fresh_filtered}
@@ -25,21 +25,21 @@ module _ (f : ChunkValue → ChunkValue) (number : (k : ChunkValue) → (f k).nu
     fresh_in ks n h = fresh_mapped (filter p ks) n (fresh_filtered p ks n h)
 
     -- the remainder of the chunk at a position
-    at_number : (ks : List ChunkValue) → HaveDistinctNumbers ks → (i : ℕ) → i < length ks → place_of (Left ks) (chunk_at ks i).number < length (Left ks) → chunk_at (Left ks) (place_of (Left ks) (chunk_at ks i).number) ≡ f (chunk_at ks i)
+    at_number : (ks : List ChunkValue) → HaveDistinctNumbers ks → (i : ℕ) → i < length ks → chunk_position (Left ks) (chunk_at ks i).number < length (Left ks) → chunk_at (Left ks) (chunk_position (Left ks) (chunk_at ks i).number) ≡ f (chunk_at ks i)
     at_number [] a i l there = absurd (omega arith)
     at_number (k ∷ ks) a zero l there = first (p k) there
       where
-        first : (b : Bool) → place_of (map f (cond b (k ∷ filter p ks) (filter p ks))) k.number < length (map f (cond b (k ∷ filter p ks) (filter p ks))) →
-            chunk_at (map f (cond b (k ∷ filter p ks) (filter p ks))) (place_of (map f (cond b (k ∷ filter p ks) (filter p ks))) k.number) ≡ f k
+        first : (b : Bool) → chunk_position (map f (cond b (k ∷ filter p ks) (filter p ks))) k.number < length (map f (cond b (k ∷ filter p ks) (filter p ks))) →
+            chunk_at (map f (cond b (k ∷ filter p ks) (filter p ks))) (chunk_position (map f (cond b (k ∷ filter p ks) (filter p ks))) k.number) ≡ f k
         first true t = rw (eq-eqb (f k).number k.number (number k)) refl
-        first false t = let n : length (Left ks) ≤ place_of (Left ks) k.number = none_there (Left ks) k.number (fresh_in ks k.number a.0) in absurd (omega arith)
+        first false t = let n : length (Left ks) ≤ chunk_position (Left ks) k.number = none_there (Left ks) k.number (fresh_in ks k.number a.0) in absurd (omega arith)
     at_number (k ∷ ks) a (suc i) l there = later (at_number ks a.1 i (omega arith)) (p k) there
       where
         other : (f k).number ≡ (chunk_at ks i).number → ⊥
         other e = fresh_at ks k.number a.0 i (record { number = 0; size = 0; cells = [] }) (omega arith) (sym (sym (number k) ∙ e))
 
-        later : (place_of (Left ks) (chunk_at ks i).number < length (Left ks) → chunk_at (Left ks) (place_of (Left ks) (chunk_at ks i).number) ≡ f (chunk_at ks i)) → (b : Bool) → place_of (map f (cond b (k ∷ filter p ks) (filter p ks))) (chunk_at ks i).number < length (map f (cond b (k ∷ filter p ks) (filter p ks))) →
-            chunk_at (map f (cond b (k ∷ filter p ks) (filter p ks))) (place_of (map f (cond b (k ∷ filter p ks) (filter p ks))) (chunk_at ks i).number) ≡ f (chunk_at ks i)
+        later : (chunk_position (Left ks) (chunk_at ks i).number < length (Left ks) → chunk_at (Left ks) (chunk_position (Left ks) (chunk_at ks i).number) ≡ f (chunk_at ks i)) → (b : Bool) → chunk_position (map f (cond b (k ∷ filter p ks) (filter p ks))) (chunk_at ks i).number < length (map f (cond b (k ∷ filter p ks) (filter p ks))) →
+            chunk_at (map f (cond b (k ∷ filter p ks) (filter p ks))) (chunk_position (map f (cond b (k ∷ filter p ks) (filter p ks))) (chunk_at ks i).number) ≡ f (chunk_at ks i)
         later rest true t = let m = rw (ne_eqb (f k).number (chunk_at ks i).number other) at t in rw (ne_eqb (f k).number (chunk_at ks i).number other, one-add) (rest (omega arith))
         later rest false t = rest t
 
@@ -58,8 +58,8 @@ module _ (f : ChunkValue → ChunkValue) (number : (k : ChunkValue) → (f k).nu
     left_count ks = let n : length (map f (filter p ks)) ≡ length (filter p ks) = length-map (filter p ks) f in let c = count_left ks in omega arith
 
     -- what holds of the chunk at a position after it is swept, holds at its new position
-    at_place : (P : ChunkValue → Type 0) (ks : List ChunkValue) → HaveDistinctNumbers ks → (i : ℕ) → i < length ks → P (f (chunk_at ks i)) → (b : Bool) → nat_lt (place_of (Left ks) (chunk_at ks i).number) (length (Left ks)) ≡ b →
-        (place_of (Left ks) (chunk_at ks i).number < length (Left ks) → P (chunk_at (Left ks) (place_of (Left ks) (chunk_at ks i).number)))
+    at_place : (P : ChunkValue → Type 0) (ks : List ChunkValue) → HaveDistinctNumbers ks → (i : ℕ) → i < length ks → P (f (chunk_at ks i)) → (b : Bool) → nat_lt (chunk_position (Left ks) (chunk_at ks i).number) (length (Left ks)) ≡ b →
+        (chunk_position (Left ks) (chunk_at ks i).number < length (Left ks) → P (chunk_at (Left ks) (chunk_position (Left ks) (chunk_at ks i).number)))
     at_place P ks a i l h b e there = subst P (sym (at_number ks a i l there)) h
 
 -- ---- the heap is settled, with its positions
@@ -74,26 +74,26 @@ module _ (kept : List Addr) (reserved : Option ℕ) (ks : List ChunkValue) (sett
   pub now_count : length (map (swept_chunk kept) (filter (stays kept reserved) ks)) ≤ length ks
   now_count = left_count (swept_chunk kept) (λ k. refl) (stays kept reserved) ks
 
-  current_by : (i : ℕ) → i < length ks → (chunk_at ks i).size ≡ 1024 → (b : Bool) → nat_lt (place_of Now (chunk_at ks i).number) (length Now) ≡ b → IsCurrent Now (cond b (Some (place_of Now (chunk_at ks i).number)) None)
+  current_by : (i : ℕ) → i < length ks → (chunk_at ks i).size ≡ 1024 → (b : Bool) → nat_lt (chunk_position Now (chunk_at ks i).number) (length Now) ≡ b → IsCurrent Now (cond b (Some (chunk_position Now (chunk_at ks i).number)) None)
   current_by i l s true e =
-      let there : place_of Now (chunk_at ks i).number < length Now = grind arith in
+      let there : chunk_position Now (chunk_at ks i).number < length Now = grind arith in
       (there, ap (λ (k : ChunkValue). k.size) (at_number (swept_chunk kept) (λ k. refl) (stays kept reserved) ks settled.apart i l there) ∙ s)
   current_by i l s false e = tt
 
   pub now_current : (o : Option ℕ) → IsCurrent ks o → IsCurrent (map (swept_chunk kept) (filter (stays kept reserved) ks)) (place_at (map (swept_chunk kept) (filter (stays kept reserved) ks)) (chunk_number_at ks o))
   now_current None c = tt
-  now_current (Some i) c = current_by i c.0 c.1 (nat_lt (place_of Now (chunk_at ks i).number) (length Now)) refl
+  now_current (Some i) c = current_by i c.0 c.1 (nat_lt (chunk_position Now (chunk_at ks i).number) (length Now)) refl
 
-  reserved_by : (i : ℕ) → i < length ks → 1024 < (chunk_at ks i).size → (chunk_at ks i).cells ≡ [] → (b : Bool) → nat_lt (place_of Now (chunk_at ks i).number) (length Now) ≡ b → IsReserved Now (cond b (Some (place_of Now (chunk_at ks i).number)) None)
+  reserved_by : (i : ℕ) → i < length ks → 1024 < (chunk_at ks i).size → (chunk_at ks i).cells ≡ [] → (b : Bool) → nat_lt (chunk_position Now (chunk_at ks i).number) (length Now) ≡ b → IsReserved Now (cond b (Some (chunk_position Now (chunk_at ks i).number)) None)
   reserved_by i l s none true e =
-      let there : place_of Now (chunk_at ks i).number < length Now = grind arith in
-      let same : chunk_at Now (place_of Now (chunk_at ks i).number) ≡ swept_chunk kept (chunk_at ks i) = at_number (swept_chunk kept) (λ k. refl) (stays kept reserved) ks settled.apart i l there in
+      let there : chunk_position Now (chunk_at ks i).number < length Now = grind arith in
+      let same : chunk_at Now (chunk_position Now (chunk_at ks i).number) ≡ swept_chunk kept (chunk_at ks i) = at_number (swept_chunk kept) (λ k. refl) (stays kept reserved) ks settled.apart i l there in
       (there, (subst (λ (n : ℕ). 1024 < n) (sym (ap (λ (k : ChunkValue). k.size) same)) s, ap (λ (k : ChunkValue). k.cells) same ∙ ap (swept_cells kept (chunk_at ks i).number 0) none))
   reserved_by i l s none false e = tt
 
   pub now_reserved : (o : Option ℕ) → IsReserved ks o → IsReserved (map (swept_chunk kept) (filter (stays kept reserved) ks)) (place_at (map (swept_chunk kept) (filter (stays kept reserved) ks)) (chunk_number_at ks o))
   now_reserved None c = tt
-  now_reserved (Some i) c = reserved_by i c.0 c.1.0 c.1.1 (nat_lt (place_of Now (chunk_at ks i).number) (length Now)) refl
+  now_reserved (Some i) c = reserved_by i c.0 c.1.0 c.1.1 (nat_lt (chunk_position Now (chunk_at ks i).number) (length Now)) refl
 
   swept_count : (n at : ℕ) (cs : List Cell) → length (swept_cells kept n at cs) ≡ length cs
   swept_count n at [] = refl

@@ -1,5 +1,5 @@
 -- A marking marks the snapshot.
-use Rattle.mark_sweep_gc.proofs.Common.{◌≡◌, ℕ, zero, suc, ◌+◌, ◌<◌, ◌≤◌, List, [], ◌∷◌, ◌++◌, length, take, drop, sym, ap, ◌∙◌, subst, arith, ◌⊎◌, inl, inr, Contains, All, Some, slice_get, ◌↔◌, take_all, take-append-le, drop_all, length-append, length-take, Addr, ChunkValue, HasObjectAt, RefersTo, once_from, In, in_append_left, in_append_right, in_append_cases, contains_from_in, in_from_contains, got_in_take, in_take, in_take_more, reached_start, reached_within, FindsMore, IsAllMarked, IsMarking, IsOf, MarkingValue, marked_of, Fork, IsInSnapshot, IsSince, Starts}
+use Rattle.mark_sweep_gc.proofs.Common.{◌≡◌, ℕ, zero, suc, ◌+◌, ◌<◌, ◌≤◌, List, [], ◌∷◌, ◌++◌, length, take, drop, sym, ap, ◌∙◌, subst, arith, ◌⊎◌, inl, inr, Contains, All, Some, slice_get, ◌↔◌, take_all, take-append-le, drop_all, length-append, length-take, Addr, ChunkValue, HasObjectAt, RefersTo, once_from, In, in_append_left, in_append_right, in_append_cases, contains_from_in, in_from_contains, got_in_take, in_take, in_take_more, reached_start, reached_within, FindsMore, IsAllMarked, IsMarking, IsOf, MarkingValue, marked_of, Fork, IsInSnapshot, IsSince, MarkStarts}
 use Rattle.mark_sweep_gc.proofs.Addresses.{once_within}
 use Rattle.mark_sweep_gc.proofs.Finding.{held_in, still_found}
 
@@ -37,14 +37,14 @@ module _ (f : Fork) (kept : List Addr) where
   -- what was kept is in the snapshot
   pub kept_starts : (h : List ChunkValue) → IsSince f kept h → All (HasObjectAt h) kept → (a : Addr) → Contains kept a → IsInSnapshot f kept a
   kept_starts h s all a c =
-      reached_start (Starts f kept) (RefersTo f.heap) a ((s.objects a).1 (held_in (HasObjectAt h) kept a all c), contains_from_in (f.roots ++ kept) a (in_append_right f.roots kept a (in_from_contains kept a c)))
+      reached_start (MarkStarts f kept) (RefersTo f.heap) a ((s.objects a).1 (held_in (HasObjectAt h) kept a all c), contains_from_in (f.roots ++ kept) a (in_append_right f.roots kept a (in_from_contains kept a c)))
 
   pub begun : (h : List ChunkValue) (roots : List Addr) (old m : MarkingValue) → f.roots ≡ roots → ((a : Addr) → HasObjectAt f.heap a ↔ HasObjectAt h a) → All (HasObjectAt h) roots
       → old.found ≡ [] → FindsMore (Contains roots) old m → m.marked ≡ 0 → m.followed ≡ 0 → IsMarking f kept m
   begun h roots old m same objects all none finds zero_marked zero_followed = record {
     each = λ a i. elim (finds.each a i) [
       | inl j ↦ absurd (in_from_contains [] a (subst (λ (xs : List Addr). Contains xs a) none j))
-      | inr r ↦ reached_start (Starts f kept) (RefersTo f.heap) a ((objects a).1 (held_in (HasObjectAt h) roots a all r), contains_from_in (f.roots ++ kept) a (in_append_left f.roots kept a (subst (λ (xs : List Addr). In xs a) (sym same) (in_from_contains roots a r))))
+      | inr r ↦ reached_start (MarkStarts f kept) (RefersTo f.heap) a ((objects a).1 (held_in (HasObjectAt h) roots a all r), contains_from_in (f.roots ++ kept) a (in_append_left f.roots kept a (subst (λ (xs : List Addr). In xs a) (sym same) (in_from_contains roots a r))))
     ];
     roots_found = λ a r. finds.all a (subst (λ (xs : List Addr). Contains xs a) same r);
     kept_found = λ a c. absurd (in_from_contains [] a (subst (λ (n : ℕ). Contains (take n kept) a) zero_followed c));
@@ -106,7 +106,7 @@ module _ (f : Fork) (kept : List Addr) where
   pub nothing_left : (m : MarkingValue) → IsMarking f kept m → m.marked ≡ length m.found → ((a : Addr) → Contains (drop m.followed kept) a → Contains m.found a) → IsAllMarked f kept m
   nothing_left m is l rest a w =
       let all : take m.marked m.found ≡ m.found = take_all m.marked m.found (omega arith) in
-      subst (λ (xs : List Addr). Contains xs a) (sym all) (reached_within (Starts f kept) (RefersTo f.heap) (Contains m.found)
+      subst (λ (xs : List Addr). Contains xs a) (sym all) (reached_within (MarkStarts f kept) (RefersTo f.heap) (Contains m.found)
       (λ x s. elim (in_append_cases f.roots kept x (in_from_contains (f.roots ++ kept) x s.1)) [
         | inl r ↦ is.roots_found x (contains_from_in f.roots x r)
         | inr k ↦ elim (in_take_or_drop m.followed kept x k) [

@@ -1,7 +1,7 @@
 -- What callers need to know of the snapshot, of a marking between two calls, and of a sweep.
 use Rattle.std.specs.Prelude.{◌≡◌, ◌≤◌, ◌↔◌, ◌⊎◌, true, List, [], ◌++◌, Contains, length, if◌then◌else◌}
 use Rattle.mark_sweep_gc.specs.Common.{Addr, IsObject, no_cell, ChunkValue, cell_of, object_of, HasObjectAt, HaveDistinctNumbers, LeafHeapValue}
-use Rattle.mark_sweep_gc.specs.Snapshot.{Fork, IsInSnapshot, Starts, object_count}
+use Rattle.mark_sweep_gc.specs.Snapshot.{Fork, IsInSnapshot, MarkStarts, object_count}
 use Rattle.mark_sweep_gc.specs.MarkingValue.{has_address, marked_of, IsAllMarked, IsDone, IsMarking, IsOf, MarkingValue}
 use Rattle.mark_sweep_gc.specs.Swept.{has_number, has_object, staying_of, chunk_number_at, swept}
 
@@ -12,8 +12,8 @@ SnapshotIsOfRoots =
     (h : List ChunkValue) (first roots kept : List Addr)
     → let f : Fork = record { heap = h; roots = roots } in
     let g : Fork = record { heap = h; roots = first } in
-    ((a : Addr) → Starts f kept a → IsInSnapshot g [] a)
-    → ((a : Addr) → Starts g [] a → Contains roots a ⊎ Contains kept a)
+    ((a : Addr) → MarkStarts f kept a → IsInSnapshot g [] a)
+    → ((a : Addr) → MarkStarts g [] a → Contains roots a ⊎ Contains kept a)
     → (a : Addr) → IsInSnapshot f kept a ↔ IsInSnapshot g [] a
 
 -- a marking stays one of the snapshot while more is kept

@@ -2,7 +2,7 @@
 use Rattle.std.specs.Prelude.{◌↔◌, ◌⊎◌, List, ◌++◌, Contains}
 use Rattle.mark_sweep_gc.specs.Common.{Addr, ChunkValue, IsReached}
 pub use Rattle.object_layout.specs.Chunks.{object_count}
-pub use Rattle.object_layout.specs.Graph.{IsClosed, HasObjectAt, IsSoundReference, RefersTo}
+pub use Rattle.object_layout.specs.Graph.{HeapIsClosed, HasObjectAt, IsSoundReference, RefersTo}
 
 -- the start of a marking: the heap as it was at the fork of its task, and the roots
 pub record Fork : Type 0 where
@@ -10,12 +10,12 @@ pub record Fork : Type 0 where
   pub roots : List Addr
 
 -- walks start at the roots, and at the references that were kept since the fork
-abbrev pub Starts : Fork → List Addr → Addr → Type 0
-Starts f kept a = HasObjectAt f.heap a × Contains (f.roots ++ kept) a
+abbrev pub MarkStarts : Fork → List Addr → Addr → Type 0
+MarkStarts f kept a = HasObjectAt f.heap a × Contains (f.roots ++ kept) a
 
 -- the snapshot: what walks lead to through the heap as it was at the fork
 abbrev pub IsInSnapshot : Fork → List Addr → Addr → Type 0
-IsInSnapshot f kept a = IsReached (Starts f kept) (RefersTo f.heap) a
+IsInSnapshot f kept a = IsReached (MarkStarts f kept) (RefersTo f.heap) a
 
 -- h is the heap since the fork: it has the same objects, of which only fields were written; what was written leads to
 -- objects of the snapshot, and what was overwritten was kept

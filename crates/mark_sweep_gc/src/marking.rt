@@ -4,7 +4,7 @@ ghost use Rattle.std.specs.Prelude.{◌≡◌, ◌+◌, ◌-◌, ◌<◌, ◌≤
 ghost use Rattle.object_layout.specs.declared.word.Addr.{Addr};
 ghost use Rattle.object_layout.specs.ChunkValue.{ChunkValue};
 ghost use Rattle.object_layout.specs.Chunks.{object_count};
-ghost use Rattle.object_layout.specs.Graph.{IsClosed, HasObjectAt, IsSoundReference, RefersTo};
+ghost use Rattle.object_layout.specs.Graph.{HeapIsClosed, HasObjectAt, IsSoundReference, RefersTo};
 ghost use Rattle.mark_sweep_gc.specs.Snapshot.{IsSince, Fork};
 ghost use Rattle.mark_sweep_gc.specs.MarkingValue.{has_address, marked_of, with_address, FindsMore, HasCapacityForAll, IsAllMarked, IsDone, IsMarking, IsOf};
 
@@ -98,7 +98,7 @@ impl Marking {
     /// roots and the kept references lead to through the heap as it was at the fork. Linear in the references of the
     /// objects marked, and in what was kept since the last call.
     pub fn mark_objects(&mut self, heap: &LeafHeap, kept: &[Addr], n: u32) -> u32
-        requires closed { IsClosed heap.now.chunks }
+        requires closed { HeapIsClosed heap.now.chunks }
         requires kept { All (HasObjectAt heap.now.chunks) kept.now }
         requires own { IsOf heap.now.chunks kept.now self.old }
         ensures own { IsOf heap.now.chunks kept.now self.new }
@@ -176,7 +176,7 @@ impl Marking {
 
     // Marks the next object: finds what it refers to.
     fn mark_next(&mut self, heap: &LeafHeap)
-        requires closed { IsClosed heap.now.chunks }
+        requires closed { HeapIsClosed heap.now.chunks }
         requires next { self.old.marked < length self.old.found }
         requires room { HasCapacityForAll heap.now.chunks self.old }
         ensures room { HasCapacityForAll heap.now.chunks self.new }
@@ -221,7 +221,7 @@ impl Marking {
     // Finds what the references of an object lead to.
     fn visit_refs(&mut self, heap: &LeafHeap, object: Addr)
         requires object { HasObjectAt heap.now.chunks object }
-        requires closed { IsClosed heap.now.chunks }
+        requires closed { HeapIsClosed heap.now.chunks }
         requires room { HasCapacityForAll heap.now.chunks self.old }
         ensures finds { FindsMore (RefersTo heap.now.chunks object) self.old self.new }
         ensures room { HasCapacityForAll heap.now.chunks self.new }

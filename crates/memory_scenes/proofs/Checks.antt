@@ -1,5 +1,5 @@
 -- Checks cell by cell and chunk by chunk imply the whole.
-use Rattle.memory_scenes.proofs.Common.{◌≡◌, ℕ, suc, ◌+◌, ◌<◌, ◌≤◌, List, [], ◌∷◌, ◌++◌, length, refl, sym, subst, arith, inl, inr, eqb, Option, slice_index_or, All, cases_Bool, All-nil, All-cons, All-head, All-tail, All-append, Addr, Cell, no_cell, ChunkValue, cell_of, CallFrame, FramesValue, depth_of, frames_of, references_of, frame_references, IsClosed, at_offset, IsFit}
+use Rattle.memory_scenes.proofs.Common.{◌≡◌, ℕ, suc, ◌+◌, ◌<◌, ◌≤◌, List, [], ◌∷◌, ◌++◌, length, refl, sym, subst, arith, inl, inr, eqb, Option, slice_index_or, All, cases_Bool, All-nil, All-cons, All-head, All-tail, All-append, Addr, Cell, no_cell, ChunkValue, cell_of, CallFrame, FramesValue, frame_depth, frames_of, references_of, frame_references, HeapIsClosed, at_offset, HasSoundReferences}
 
 -- ---- cells
 
@@ -17,8 +17,8 @@ each_of P (k ∷ ks) z e a =
       | inr t ↦ rw t (each_of P ks z (All-tail (EachCell P) k ks e) a)
     ]
 
-pub closed_from : (h : List ChunkValue) → ((k : ℕ) (d : ChunkValue) → k < length h → All (IsFit h) (slice_index_or h k d).cells) → IsClosed h
-closed_from h f a born = each_of (IsFit h) h (λ b. absurd b) (λ k d lt. f k d lt) a born
+pub closed_from : (h : List ChunkValue) → ((k : ℕ) (d : ChunkValue) → k < length h → All (HasSoundReferences h) (slice_index_or h k d).cells) → HeapIsClosed h
+closed_from h f a born = each_of (HasSoundReferences h) h (λ b. absurd b) (λ k d lt. f k d lt) a born
 
 -- ---- frames
 
@@ -30,5 +30,5 @@ held_each : (P : Option Addr → Type 0) (fs : List CallFrame) → ((k : ℕ) �
 held_each P [] f = All-nil P
 held_each P (x ∷ fs) f = All-append P x.refs (frame_references fs) (f 0 (omega arith)) (held_each P fs (λ k lt. f (suc k) (omega arith)))
 
-pub held_stack : (P : Option Addr → Type 0) (s : FramesValue) (n : ℕ) → depth_of s ≤ n → ((k : ℕ) → k < n → All P (references_of (frames_of s) k)) → All P (frame_references (frames_of s))
+pub held_stack : (P : Option Addr → Type 0) (s : FramesValue) (n : ℕ) → frame_depth s ≤ n → ((k : ℕ) → k < n → All P (references_of (frames_of s) k)) → All P (frame_references (frames_of s))
 held_stack P s n le f = held_each P (frames_of s) (λ k lt. let e = count_last s.below s.top in f k (omega arith))

@@ -5,5 +5,5 @@ use Rattle.object_layout.specs.ChunkValue.{ChunkValue}
 use Rattle.copying_gc.specs.Survivors.{IsSoundReference}
 
 -- the references of an object lead to objects of the heap
-abbrev pub IsFit : List ChunkValue → Cell → Type 0
-IsFit h c = IsBorn c.mark → All (IsSoundReference h) c.refs
+abbrev pub HasSoundReferences : List ChunkValue → Cell → Type 0
+HasSoundReferences h c = IsBorn c.mark → All (IsSoundReference h) c.refs

@@ -3,9 +3,9 @@
 ghost use Rattle.std.specs.Prelude.{◌≡◌, All, IfSome, IsTrue};
 ghost use Rattle.object_layout.specs.Cell.{IsBorn};
 ghost use Rattle.object_layout.specs.Place.{cell_at, IsCellAt};
-ghost use Rattle.copying_gc.specs.Survivors.{IsClosed, IsSoundReference};
+ghost use Rattle.copying_gc.specs.Survivors.{HeapIsClosed, IsSoundReference};
 ghost use Rattle.copying_gc.specs.Laid.{small_in, small_words};
-ghost use Rattle.memory_scenes.specs.Fit.{IsFit};
+ghost use Rattle.memory_scenes.specs.Fit.{HasSoundReferences};
 
 use crate::soundness::is_sound;
 use leaf_heap::LeafHeap;
@@ -28,14 +28,14 @@ fn leads_to_objects(heap: &LeafHeap, chunk: &Chunk, at: u32) -> bool
 // Whether what lies there is no object, or one whose references all lead to objects.
 fn is_fit(heap: &LeafHeap, chunk: &Chunk, at: u32) -> bool
     requires { IsCellAt chunk.now.cells at }
-    ensures { IsTrue result → IsFit heap.now.chunks (cell_at chunk.now.cells at) }
+    ensures { IsTrue result → HasSoundReferences heap.now.chunks (cell_at chunk.now.cells at) }
 {
     !is_born_at(chunk, at) || leads_to_objects(heap, chunk, at)
 }
 
 // Whether everything in a chunk is.
 fn is_fit_chunk(heap: &LeafHeap, chunk: &Chunk) -> bool
-    ensures { IsTrue result → All (IsFit heap.now.chunks) chunk.now.cells }
+    ensures { IsTrue result → All (HasSoundReferences heap.now.chunks) chunk.now.cells }
 {
     let used = chunk.used();
     let mut at = 0;
@@ -50,7 +50,7 @@ fn is_fit_chunk(heap: &LeafHeap, chunk: &Chunk) -> bool
 
 /// Whether all references within the heap lead to objects.
 pub fn is_fit_heap(heap: &LeafHeap) -> bool
-    ensures { IsTrue result → IsClosed heap.now.chunks }
+    ensures { IsTrue result → HeapIsClosed heap.now.chunks }
 {
     for chunk in heap.chunks() {
         if !is_fit_chunk(heap, chunk) {

@@ -2,7 +2,7 @@
 
 ghost use Rattle.std.specs.Prelude.{All, IfSome, IsSome, IsTrue};
 ghost use Rattle.chunk_pool.specs.PoolValue.{slot_at};
-ghost use Rattle.mark_sweep_gc.specs.Snapshot.{IsClosed, HasObjectAt};
+ghost use Rattle.mark_sweep_gc.specs.Snapshot.{HeapIsClosed, HasObjectAt};
 ghost use Rattle.mark_sweep_gc.specs.MarkingValue.{HasCapacityForAll, IsDone, IsOf};
 
 use crate::cells::is_fit_heap;
@@ -15,7 +15,7 @@ use std::alloc::Global;
 
 // Whether all references within the heap lead to objects.
 fn is_closed(heap: &LeafHeap) -> bool
-    ensures { IsTrue result → IsClosed heap.now.chunks }
+    ensures { IsTrue result → HeapIsClosed heap.now.chunks }
 {
     is_fit_heap(heap)
 }
@@ -61,7 +61,7 @@ fn pool_of(alloc: Global, chunks: &[Chunk]) -> Option<Pool>
 
 // Marks n objects at a time until fewer are left; returns the number of calls that marked n.
 fn mark_all(marking: &mut Marking, heap: &LeafHeap, kept: &[Addr], step: u32) -> u32
-    requires closed { IsClosed heap.now.chunks }
+    requires closed { HeapIsClosed heap.now.chunks }
     requires kept { All (HasObjectAt heap.now.chunks) kept.now }
     requires own { IsOf heap.now.chunks kept.now marking.old }
     ensures { IsOf heap.now.chunks kept.now marking.new }
@@ -76,7 +76,7 @@ fn mark_all(marking: &mut Marking, heap: &LeafHeap, kept: &[Addr], step: u32) ->
 
 // Continues a marking, n objects at a time, until nothing is left to mark; returns the number of calls that marked n.
 fn marked(mut marking: Marking, heap: &LeafHeap, kept: &[Addr], step: u32) -> Option<(u32, Marking)>
-    requires closed { IsClosed heap.now.chunks }
+    requires closed { HeapIsClosed heap.now.chunks }
     requires kept { All (HasObjectAt heap.now.chunks) kept.now }
     requires own { IsOf heap.now.chunks kept.now marking }
     ensures own { IfSome result (λ r. IsOf heap.now.chunks kept.now r.1) }
@@ -107,7 +107,7 @@ fn sweep(heap: &mut LeafHeap, pool: &mut Pool, marking: Marking) -> Option<(u32,
 
 // Whether all references within a heap lead to objects, and so do these roots and kept references.
 fn is_sound(heap: &LeafHeap, roots: &[Addr], kept: &[Addr]) -> bool
-    ensures closed { IsTrue result → IsClosed heap.now.chunks }
+    ensures closed { IsTrue result → HeapIsClosed heap.now.chunks }
     ensures roots { IsTrue result → All (HasObjectAt heap.now.chunks) roots.now }
     ensures kept { IsTrue result → All (HasObjectAt heap.now.chunks) kept.now }
 {

@@ -1,32 +1,32 @@
 -- Laws of objects by their addresses: where a chunk is found, and what is at an address after a put or a push.
 use Rattle.std.proofs.Common.{length-set}
-use Rattle.object_layout.proofs.Common.{◌≡◌, ℕ, zero, suc, ◌<◌, ◌≤◌, true, false, List, [], ◌∷◌, ◌++◌, length, get_or, set, refl, sym, ap, subst, ◌∙◌, arith, ⊎_elim, inl, inr, ◌⊎◌, eqb, one-add, ◌≢◌, Option, Some, None, slice_set, cases_Bool, cases_eq, cases_lt, eqb-true, le-ltb, lt-ltb, get_or-set_same, Addr, Cell, Mark, Born, Moved, Hole, IsBorn, IsObject, as_object, no_cell, with_ref, size_of, ChunkValue, cell_at, put_cell, cell_of, chunk_at, next_address, object_of, place_in, place_of, push_object, put_object, with_cell}
+use Rattle.object_layout.proofs.Common.{◌≡◌, ℕ, zero, suc, ◌<◌, ◌≤◌, true, false, List, [], ◌∷◌, ◌++◌, length, get_or, set, refl, sym, ap, subst, ◌∙◌, arith, ⊎_elim, inl, inr, ◌⊎◌, eqb, one-add, ◌≢◌, Option, Some, None, slice_set, cases_Bool, cases_eq, cases_lt, eqb-true, le-ltb, lt-ltb, get_or-set_same, Addr, Cell, Mark, Born, Moved, Hole, IsBorn, IsObject, as_object, no_cell, with_ref, size_of, ChunkValue, cell_at, put_cell, cell_of, chunk_at, next_address, object_of, place_in, chunk_position, push_object, put_object, with_cell}
 use Rattle.object_layout.proofs.PlaceLemmas as place
 use Rattle.object_layout.proofs.PlaceLemmas.{object_of_born}
 
 -- ---- where a chunk is found
 
 -- the position at which a chunk is found
-pub place_found : (ks : List ChunkValue) (n i : ℕ) → place_in ks n ≡ Some i → (i ≡ place_of ks n) × (i < length ks)
+pub place_found : (ks : List ChunkValue) (n i : ℕ) → place_in ks n ≡ Some i → (i ≡ chunk_position ks n) × (i < length ks)
 place_found ks n i e =
     ⊎_elim
-    (λ (l : place_of ks n < length ks). let f : Some (place_of ks n) ≡ Some i = rw (lt-ltb (place_of ks n) (length ks) l) at e in let g : place_of ks n ≡ i = cc in (sym g, rw (← g) l))
-    (λ (l : length ks ≤ place_of ks n). let f = rw (le-ltb (place_of ks n) (length ks) l) at e in absurd (cc))
-    (cases_lt (place_of ks n) (length ks))
+    (λ (l : chunk_position ks n < length ks). let f : Some (chunk_position ks n) ≡ Some i = rw (lt-ltb (chunk_position ks n) (length ks) l) at e in let g : chunk_position ks n ≡ i = cc in (sym g, rw (← g) l))
+    (λ (l : length ks ≤ chunk_position ks n). let f = rw (le-ltb (chunk_position ks n) (length ks) l) at e in absurd (cc))
+    (cases_lt (chunk_position ks n) (length ks))
 
-pub place_there : (ks : List ChunkValue) (n : ℕ) → place_of ks n < length ks → place_in ks n ≡ Some (place_of ks n)
-place_there ks n l = rw (lt-ltb (place_of ks n) (length ks) l) refl
+pub place_there : (ks : List ChunkValue) (n : ℕ) → chunk_position ks n < length ks → place_in ks n ≡ Some (chunk_position ks n)
+place_there ks n l = rw (lt-ltb (chunk_position ks n) (length ks) l) refl
 
-pub none_there : (ks : List ChunkValue) (q : ℕ) → place_in ks q ≡ None → length ks ≤ place_of ks q
+pub none_there : (ks : List ChunkValue) (q : ℕ) → place_in ks q ≡ None → length ks ≤ chunk_position ks q
 none_there ks q e =
     ⊎_elim
-    (λ (l : place_of ks q < length ks). let f = rw (lt-ltb (place_of ks q) (length ks) l) at e in cc)
-    (λ (l : length ks ≤ place_of ks q). l)
-    (cases_lt (place_of ks q) (length ks))
+    (λ (l : chunk_position ks q < length ks). let f = rw (lt-ltb (chunk_position ks q) (length ks) l) at e in cc)
+    (λ (l : length ks ≤ chunk_position ks q). l)
+    (cases_lt (chunk_position ks q) (length ks))
 
 -- the cell at an address is in the chunk that is found
-pub cell_of-found : (ks : List ChunkValue) (a : Addr) (d : ChunkValue) → place_of ks a.chunk < length ks →
-    cell_of ks a ≡ cell_at (get_or ks (place_of ks a.chunk) d).cells a.offset
+pub cell_of-found : (ks : List ChunkValue) (a : Addr) (d : ChunkValue) → chunk_position ks a.chunk < length ks →
+    cell_of ks a ≡ cell_at (get_or ks (chunk_position ks a.chunk) d).cells a.offset
 cell_of-found [] a d l = absurd (omega arith)
 cell_of-found (k ∷ ks) a d l =
     ⊎_elim
@@ -34,7 +34,7 @@ cell_of-found (k ∷ ks) a d l =
     (λ (e : eqb k.number a.chunk ≡ false). let m = rw e at l in rw (e, one-add) (cell_of-found ks a d (omega arith)))
     (cases_Bool (eqb k.number a.chunk))
 
-pub cell_of-none : (ks : List ChunkValue) (a : Addr) → length ks ≤ place_of ks a.chunk → cell_of ks a ≡ no_cell
+pub cell_of-none : (ks : List ChunkValue) (a : Addr) → length ks ≤ chunk_position ks a.chunk → cell_of ks a ≡ no_cell
 cell_of-none [] a l = refl
 cell_of-none (k ∷ ks) a l =
     ⊎_elim
@@ -42,8 +42,8 @@ cell_of-none (k ∷ ks) a l =
     (λ (e : eqb k.number a.chunk ≡ false). let m = rw e at l in rw e (cell_of-none ks a (omega arith)))
     (cases_Bool (eqb k.number a.chunk))
 
-pub put_object-found : (ks : List ChunkValue) (a : Addr) (c : Cell) (d : ChunkValue) → place_of ks a.chunk < length ks →
-    put_object ks a c ≡ set ks (place_of ks a.chunk) (with_cell (get_or ks (place_of ks a.chunk) d) a.offset c)
+pub put_object-found : (ks : List ChunkValue) (a : Addr) (c : Cell) (d : ChunkValue) → chunk_position ks a.chunk < length ks →
+    put_object ks a c ≡ set ks (chunk_position ks a.chunk) (with_cell (get_or ks (chunk_position ks a.chunk) d) a.offset c)
 put_object-found [] a c d l = refl
 put_object-found (k ∷ ks) a c d l =
     ⊎_elim
@@ -52,12 +52,12 @@ put_object-found (k ∷ ks) a c d l =
     (cases_Bool (eqb k.number a.chunk))
 
 -- an object is in a chunk of the list
-pub chunk_of_object : (ks : List ChunkValue) (a : Addr) → IsObject (cell_of ks a).mark → place_of ks a.chunk < length ks
+pub chunk_of_object : (ks : List ChunkValue) (a : Addr) → IsObject (cell_of ks a).mark → chunk_position ks a.chunk < length ks
 chunk_of_object ks a o =
     ⊎_elim
-    (λ (l : place_of ks a.chunk < length ks). l)
-    (λ (l : length ks ≤ place_of ks a.chunk). absurd (rw (cell_of-none ks a l) at o))
-    (cases_lt (place_of ks a.chunk) (length ks))
+    (λ (l : chunk_position ks a.chunk < length ks). l)
+    (λ (l : length ks ≤ chunk_position ks a.chunk). absurd (rw (cell_of-none ks a l) at o))
+    (cases_lt (chunk_position ks a.chunk) (length ks))
 
 -- what has a birth name is an object
 pub born_object : (ks : List ChunkValue) (a : Addr) → IsBorn (cell_of ks a).mark → IsObject (cell_of ks a).mark
@@ -189,7 +189,7 @@ refs-put_other ks a b k r ne =
     ap (λ (c : Cell). c.refs) (object_of-put_other ks a b (with_ref (cell_of ks a) k r) (place.size_of-with_ref (cell_of ks a) k r) ne)
 
 -- a put moves no chunk
-pub place_of-put : (ks : List ChunkValue) (a : Addr) (c : Cell) (n : ℕ) → place_of (put_object ks a c) n ≡ place_of ks n
+pub place_of-put : (ks : List ChunkValue) (a : Addr) (c : Cell) (n : ℕ) → chunk_position (put_object ks a c) n ≡ chunk_position ks n
 place_of-put [] a c n = refl
 place_of-put (k ∷ ks) a c n =
     ⊎_elim

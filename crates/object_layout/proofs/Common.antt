@@ -1,7 +1,7 @@
 -- The names of lower crates and of the specifications that these proofs use. Declares nothing.
-pub use Rattle.object_layout.specs.Cell.{Cell, Mark, Born, Moved, Hole, IsBorn, IsObject, as_object, no_cell, with_ref, size_of, with_int, with_ints, with_refs, IsCell, new_cell, IsRef, marked_object, IsMark, IsPlace, moved_to, header_of, with_mark, frozen}
+pub use Rattle.object_layout.specs.Cell.{Cell, Mark, Born, Moved, Hole, IsBorn, IsObject, as_object, no_cell, with_ref, size_of, cell_with_int, with_ints, with_refs, IsCell, new_cell, IsRef, marked_object, IsMark, BeginsInFirstUnit, moved_to, header_of, with_mark, frozen}
 pub use Rattle.object_layout.specs.ChunkValue.{ChunkValue, HoldsCells, cells_in}
-pub use Rattle.object_layout.specs.Chunks.{cell_of, chunk_at, next_address, object_of, place_in, place_of, push_object, put_object, with_cell, same_address, has_chunk, HaveDistinctNumbers, IsFresh}
+pub use Rattle.object_layout.specs.Chunks.{cell_of, chunk_at, next_address, object_of, place_in, chunk_position, push_object, put_object, with_cell, same_address, has_chunk, HaveDistinctNumbers, IsFresh}
 pub use Rattle.object_layout.specs.Laws.{ApartTogether}
 pub use Rattle.object_layout.specs.Layout.{header_word, word_of_birth, word_of_ref, words_of_cell, words_of_cells, word_of_mark, is_gone, nrefs_of, nints_of, mutable_of, gone_of, ref_of_word, birth_of_word, mark_of_word, mark_of_ref, bit_of}
 pub use Rattle.object_layout.specs.ObjectLaws.{AppendedIsLast, LedAreRead, PutChangesOne, SiftedAreFiltered, LiesThere, ObjectsLieThere}

@@ -1,5 +1,5 @@
 -- Fields that are written one after another into an object.
-use Rattle.object_layout.proofs.Common.{◌≡◌, ℕ, ℤ, zero, suc, ◌+◌, ◌<◌, ◌≤◌, Option, List, [], ◌∷◌, ◌++◌, length, take, drop, get_or, slice_set, refl, ap, sym, subst, ◌∙◌, arith, length-append, length-drop, length-take-le, Addr, Cell, IsObject, with_int, with_ints, with_ref, with_refs, with_cell, ChunkValue, IsObjectAt, cell_at, object_at, words_in}
+use Rattle.object_layout.proofs.Common.{◌≡◌, ℕ, ℤ, zero, suc, ◌+◌, ◌<◌, ◌≤◌, Option, List, [], ◌∷◌, ◌++◌, length, take, drop, get_or, slice_set, refl, ap, sym, subst, ◌∙◌, arith, length-append, length-drop, length-take-le, Addr, Cell, IsObject, cell_with_int, with_ints, with_ref, with_refs, with_cell, ChunkValue, IsObjectAt, cell_at, object_at, words_in}
 use Rattle.object_layout.proofs.PlaceLemmas as place
 
 -- ---- lists
@@ -66,12 +66,12 @@ module _ (h : ChunkValue) (a : ℕ) (object : IsObjectAt h.cells a) where
   ints_begun xs = sym (ap (λ zs. with_cell h a (with_ints (cell_at h.cells a) zs)) (take_none xs (cell_at h.cells a).ints) ∙ nothing)
 
   pub ints_more : (xs : List ℤ) (k j : ℕ) (v : ℤ) → v ≡ get_or xs k v → k < length xs → k < length (cell_at h.cells a).ints → j ≡ k + 1
-      → with_cell (ints_filled h a xs k) a (with_int (cell_at (ints_filled h a xs k).cells a) k v) ≡ ints_filled h a xs j
+      → with_cell (ints_filled h a xs k) a (cell_with_int (cell_at (ints_filled h a xs k).cells a) k v) ≡ ints_filled h a xs j
   ints_more xs k j v e l lt s =
       let c : Cell = with_ints (cell_at h.cells a) (take k xs ++ drop k (cell_at h.cells a).ints) in
       let jk : suc k ≡ j = omega arith in
-      ap (λ z. with_cell (with_cell h a c) a (with_int z k v)) (read c)
-      ∙ (again c (with_int c k v) ∙ (ap (λ zs. with_cell h a (with_ints (cell_at h.cells a) zs)) (set_seam xs (cell_at h.cells a).ints k v e l lt) ∙ ap (ints_filled h a xs) jk))
+      ap (λ z. with_cell (with_cell h a c) a (cell_with_int z k v)) (read c)
+      ∙ (again c (cell_with_int c k v) ∙ (ap (λ zs. with_cell h a (with_ints (cell_at h.cells a) zs)) (set_seam xs (cell_at h.cells a).ints k v e l lt) ∙ ap (ints_filled h a xs) jk))
 
   pub ints_within : (xs : List ℤ) (k : ℕ) → k ≤ length xs → k < length (cell_at h.cells a).ints → k < length (object_at (ints_filled h a xs k).cells a).ints
   ints_within xs k le lt =

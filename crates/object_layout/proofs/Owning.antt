@@ -1,13 +1,13 @@
 -- A chunk is found by its number if and only if the list has it.
-use Rattle.object_layout.proofs.Common.{◌≡◌, ℕ, suc, ◌+◌, Bool, true, false, cond, ◌||◌, List, [], ◌∷◌, ◌++◌, length, refl, sym, ap, ap₂, ◌∙◌, inl, inr, eqb, arith, Some, None, is_some, nat_lt, ◌↔◌, list_any, cases_Bool, eq-eqb, false≢true, lt-ltb, ne_eqb, or_from, or_parts, list_any-append, or-false, or-true, none_of, ChunkValue, ApartTogether, has_chunk, place_in, place_of, HaveDistinctNumbers, IsFresh}
+use Rattle.object_layout.proofs.Common.{◌≡◌, ℕ, suc, ◌+◌, Bool, true, false, cond, ◌||◌, List, [], ◌∷◌, ◌++◌, length, refl, sym, ap, ap₂, ◌∙◌, inl, inr, eqb, arith, Some, None, is_some, nat_lt, ◌↔◌, list_any, cases_Bool, eq-eqb, false≢true, lt-ltb, ne_eqb, or_from, or_parts, list_any-append, or-false, or-true, none_of, ChunkValue, ApartTogether, has_chunk, place_in, chunk_position, HaveDistinctNumbers, IsFresh}
 
 -- the list's length stands for none
-has_by_place : (ks : List ChunkValue) (n : ℕ) → nat_lt (place_of ks n) (length ks) ≡ list_any (λ k. eqb k.number n) ks
+has_by_place : (ks : List ChunkValue) (n : ℕ) → nat_lt (chunk_position ks n) (length ks) ≡ list_any (λ k. eqb k.number n) ks
 has_by_place [] n = refl
 has_by_place (k ∷ ks) n =
     elim (cases_Bool (eqb k.number n)) [
       | inl e ↦ rw e (lt-ltb 0 (length (k ∷ ks)) (omega arith))
-      | inr e ↦ rw e (shift (place_of ks n) (length ks) ∙ has_by_place ks n)
+      | inr e ↦ rw e (shift (chunk_position ks n) (length ks) ∙ has_by_place ks n)
     ]
   where
     shift : (a b : ℕ) → nat_lt (1 + a) (suc b) ≡ nat_lt a b
@@ -18,7 +18,7 @@ some_by true i = refl
 some_by false i = refl
 
 pub found_any : (ks : List ChunkValue) (n : ℕ) → has_chunk ks n ≡ list_any (λ k. eqb k.number n) ks
-found_any ks n = some_by (nat_lt (place_of ks n) (length ks)) (place_of ks n) ∙ has_by_place ks n
+found_any ks n = some_by (nat_lt (chunk_position ks n) (length ks)) (chunk_position ks n) ∙ has_by_place ks n
 
 pub fresh_none : (ks : List ChunkValue) (n : ℕ) → IsFresh ks n ↔ (has_chunk ks n ≡ false)
 fresh_none ks n = ((λ e. ap is_some e), (λ e. none_of (place_in ks n) e))

@@ -1,6 +1,6 @@
 -- Objects by their offsets: laws of the list of objects, and where their words are.
 use Rattle.std.proofs.Common.{length-set}
-use Rattle.object_layout.proofs.Common.{◌≡◌, ℕ, zero, suc, ◌+◌, ◌-◌, ◌<◌, ◌≤◌, List, [], ◌∷◌, ◌++◌, length, map, get_or, set, refl, sym, ap, ◌∙◌, arith, length-append, ⊎_elim, inl, inr, ◌⊎◌, All, ◌≢◌, nat_le, if◌then◌else◌, Option, ℤ, slice_set, append_assoc, get_or-append_right, get_or_append_left, set-append_left, set-append_right, All-head, All-tail, All-cons, le-leb, lt-leb, cases_lt, cond_both, Addr, Cell, Mark, Born, Moved, Hole, IsBorn, IsObject, as_object, marked_object, no_cell, size_of, with_int, with_ref, words_of_cell, words_of_cells, words_in, IsCellAt, IsObjectAt, cell_at, cells_from, object_at, put_cell, Birth}
+use Rattle.object_layout.proofs.Common.{◌≡◌, ℕ, zero, suc, ◌+◌, ◌-◌, ◌<◌, ◌≤◌, List, [], ◌∷◌, ◌++◌, length, map, get_or, set, refl, sym, ap, ◌∙◌, arith, length-append, ⊎_elim, inl, inr, ◌⊎◌, All, ◌≢◌, nat_le, if◌then◌else◌, Option, ℤ, slice_set, append_assoc, get_or-append_right, get_or_append_left, set-append_left, set-append_right, All-head, All-tail, All-cons, le-leb, lt-leb, cases_lt, cond_both, Addr, Cell, Mark, Born, Moved, Hole, IsBorn, IsObject, as_object, marked_object, no_cell, size_of, cell_with_int, with_ref, words_of_cell, words_of_cells, words_in, IsCellAt, IsObjectAt, cell_at, cells_from, object_at, put_cell, Birth}
 use Rattle.object_layout.proofs.WordLemmas.{length-words_of_cell}
 
 -- ---- where the words of an object are
@@ -355,7 +355,7 @@ IsObjectAt-put_same cs at d o h = rw (cell_at-put_same cs at d o) h
 pub size_of-with_ref : (c : Cell) (k : ℕ) (r : Option Addr) → size_of (with_ref c k r) ≡ size_of c
 size_of-with_ref c k r = simp length-set
 
-pub size_of-with_int : (c : Cell) (k : ℕ) (z : ℤ) → size_of (with_int c k z) ≡ size_of c
+pub size_of-with_int : (c : Cell) (k : ℕ) (z : ℤ) → size_of (cell_with_int c k z) ≡ size_of c
 size_of-with_int c k z = simp length-set
 
 -- a change that keeps the mark is one of the object

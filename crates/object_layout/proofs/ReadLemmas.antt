@@ -1,5 +1,5 @@
 -- What the words of an object mean.
-use Rattle.object_layout.proofs.Common.{◌≡◌, ℕ, suc, ◌+◌, ◌-◌, ◌<◌, ◌≤◌, ◌^◌, Bool, true, false, length, get_or, eqb, refl, sym, ap, ◌∙◌, arith, Some, None, Option, map, pos, slice_get, slice_index, FitsSigned, IsTrue, ◌↔◌, not, ◌≢◌, w64, cast_unsigned, cast_signed, get_or_append_left, get_or-map, length-map, get_or-append_right, All-get_or, eq-eqb, ne_eqb, to_z-of_z, slice_get-get_or, Addr, Header, Cell, Mark, Born, Moved, Hole, IsCell, IsMark, IsPlace, IsRef, IsBorn, IsObject, moved_to, header_of, word_of_ref, word_of_mark, header_word, is_gone, nrefs_of, nints_of, mutable_of, gone_of, ref_of_word, birth_of_word, lasts}
+use Rattle.object_layout.proofs.Common.{◌≡◌, ℕ, suc, ◌+◌, ◌-◌, ◌<◌, ◌≤◌, ◌^◌, Bool, true, false, length, get_or, eqb, refl, sym, ap, ◌∙◌, arith, Some, None, Option, map, pos, slice_get, slice_index, FitsSigned, IsTrue, ◌↔◌, not, ◌≢◌, w64, cast_unsigned, cast_signed, get_or_append_left, get_or-map, length-map, get_or-append_right, All-get_or, eq-eqb, ne_eqb, to_z-of_z, slice_get-get_or, Addr, Header, Cell, Mark, Born, Moved, Hole, IsCell, IsMark, BeginsInFirstUnit, IsRef, IsBorn, IsObject, moved_to, header_of, word_of_ref, word_of_mark, header_word, is_gone, nrefs_of, nints_of, mutable_of, gone_of, ref_of_word, birth_of_word, lasts}
 use Rattle.object_layout.specs.Layout.{words_of_cell}
 use Rattle.object_layout.proofs.WordLemmas.{nrefs_of-header_word, nints_of-header_word, mutable_of-header_word, gone_of-header_word, ref_of_word-word_of_ref, word_of_ref-lt, birth_of_word-word_of_birth}
 
@@ -26,7 +26,7 @@ int_is c k l =
     rw e (get_or-append_right (map word_of_ref c.refs) (map (cast_unsigned w64) c.ints) (length c.refs) (length c.refs + k) 0 (length-map c.refs word_of_ref) (omega arith)
     ∙ rw f (get_or-map (cast_unsigned w64) c.ints k (pos 0) 0 l))
 
-pub IsPlace-from_ref : (r : Option Addr) → IsRef r → IsPlace r
+pub IsPlace-from_ref : (r : Option Addr) → IsRef r → BeginsInFirstUnit r
 IsPlace-from_ref None h = tt
 IsPlace-from_ref (Some a) h = h.0
 
@@ -49,16 +49,16 @@ module _ (c : Cell) (ok : IsCell c) (w : ℕ) where
   pub birth_read : w ≡ slice_index (words_of_cell c) 1 → IsBorn c.mark → c.mark ≡ Born (birth_of_word w)
   birth_read e h = rw (e, mark_is c) (born_birth c.mark ok.mark h)
 
-  gone_moved : (m : Mark) → IsMark m → is_gone m ≡ true → (word_of_mark m ≤ 2 ^ 42) × (ref_of_word (word_of_mark m) ≡ moved_to m) × IsPlace (moved_to m)
+  gone_moved : (m : Mark) → IsMark m → is_gone m ≡ true → (word_of_mark m ≤ 2 ^ 42) × (ref_of_word (word_of_mark m) ≡ moved_to m) × BeginsInFirstUnit (moved_to m)
   gone_moved (Born b) r h = (cc, cc, cc)
   gone_moved (Moved to) r h = (word_of_ref-lt (Some to) r, ref_of_word-word_of_ref (Some to) r, IsPlace-from_ref (Some to) r)
   gone_moved Hole r h = (omega arith, refl, tt)
 
-  pub moved_read : w ≡ slice_index (words_of_cell c) 1 → is_gone c.mark ≡ true → (w ≤ 2 ^ 42) × (ref_of_word w ≡ moved_to c.mark) × IsPlace (ref_of_word w)
+  pub moved_read : w ≡ slice_index (words_of_cell c) 1 → is_gone c.mark ≡ true → (w ≤ 2 ^ 42) × (ref_of_word w ≡ moved_to c.mark) × BeginsInFirstUnit (ref_of_word w)
   moved_read e h = let m = gone_moved c.mark ok.mark h in rw (e, mark_is c) (m.0, m.1, rw m.1 m.2)
 
   pub ref_read : (k : ℕ) → k < length c.refs → w ≡ slice_index (words_of_cell c) (2 + k) →
-      (w ≤ 2 ^ 42) × (slice_get c.refs k ≡ Some (ref_of_word w)) × IsPlace (ref_of_word w)
+      (w ≤ 2 ^ 42) × (slice_get c.refs k ≡ Some (ref_of_word w)) × BeginsInFirstUnit (ref_of_word w)
   ref_read k l e =
       let at : IsRef (get_or c.refs k None) = All-get_or IsRef c.refs k None l ok.refs in
       let back = ref_of_word-word_of_ref (get_or c.refs k None) at in

@@ -1,6 +1,6 @@
 -- How a write changes the words of an object.
 use Rattle.std.proofs.Common.{length-set}
-use Rattle.object_layout.proofs.Common.{◌≡◌, ℕ, suc, ◌+◌, ◌-◌, ◌*◌, ◌<◌, ◌≤◌, ◌^◌, Bool, true, false, length, set, refl, ◌∙◌, arith, Option, map, ℤ, FitsSigned, bit_and, bit_or, w64, cast_unsigned, map-set, set-append_left, set-append_right, length-map, All-set, and_block, and_mask, or_block, or_comm, Addr, Cell, IsCell, IsRef, IsMark, Mark, with_ref, with_int, with_mark, frozen, word_of_ref, header_word, bit_of, is_gone, word_of_mark}
+use Rattle.object_layout.proofs.Common.{◌≡◌, ℕ, suc, ◌+◌, ◌-◌, ◌*◌, ◌<◌, ◌≤◌, ◌^◌, Bool, true, false, length, set, refl, ◌∙◌, arith, Option, map, ℤ, FitsSigned, bit_and, bit_or, w64, cast_unsigned, map-set, set-append_left, set-append_right, length-map, All-set, and_block, and_mask, or_block, or_comm, Addr, Cell, IsCell, IsRef, IsMark, Mark, with_ref, cell_with_int, with_mark, frozen, word_of_ref, header_word, bit_of, is_gone, word_of_mark}
 use Rattle.object_layout.specs.Layout.{words_of_cell}
 
 pub words_of_cell-with_ref : (c : Cell) (k : ℕ) (r : Option Addr) → k < length c.refs → words_of_cell (with_ref c k r) ≡ set (words_of_cell c) (2 + k) (word_of_ref r)
@@ -12,7 +12,7 @@ words_of_cell-with_ref c k r l =
     rw (length-set, map-set, e, s)
 
 pub words_of_cell-with_int : (c : Cell) (k : ℕ) (z : ℤ) → k < length c.ints →
-    words_of_cell (with_int c k z) ≡ set (words_of_cell c) (2 + (length c.refs + k)) (cast_unsigned w64 z)
+    words_of_cell (cell_with_int c k z) ≡ set (words_of_cell c) (2 + (length c.refs + k)) (cast_unsigned w64 z)
 unfolding words_of_cell
 words_of_cell-with_int c k z l =
     let e : 2 + (length c.refs + k) ≡ suc (suc (length c.refs + k)) = omega arith in
@@ -73,7 +73,7 @@ IsCell-with_ref c k r ok p = record {
   ints = ok.ints;
 }
 
-pub IsCell-with_int : (c : Cell) (k : ℕ) (z : ℤ) → IsCell c → FitsSigned w64 z → IsCell (with_int c k z)
+pub IsCell-with_int : (c : Cell) (k : ℕ) (z : ℤ) → IsCell c → FitsSigned w64 z → IsCell (cell_with_int c k z)
 IsCell-with_int c k z ok p = record {
   mark = ok.mark;
   nrefs = ok.nrefs;

@@ -47,9 +47,9 @@ abbrev pub no_cell : Cell
 no_cell = record { mark = Hole; mutable = false; refs = []; ints = [] }
 
 -- an object begins within the first 1,024 words of its chunk
-abbrev pub IsPlace : Option Addr → Type 0
-IsPlace None = Unit {0}
-IsPlace (Some a) = a.offset < chunk_words
+abbrev pub BeginsInFirstUnit : Option Addr → Type 0
+BeginsInFirstUnit None = Unit {0}
+BeginsInFirstUnit (Some a) = a.offset < chunk_words
 
 -- ---- what a mark means
 
@@ -88,8 +88,8 @@ abbrev pub with_ref : Cell → ℕ → Option Addr → Cell
 with_ref c field r = record c { refs = slice_set c.refs field r }
 
 -- one number written
-abbrev pub with_int : Cell → ℕ → ℤ → Cell
-with_int c field z = record c { ints = slice_set c.ints field z }
+abbrev pub cell_with_int : Cell → ℕ → ℤ → Cell
+cell_with_int c field z = record c { ints = slice_set c.ints field z }
 
 -- all references, or all numbers, written
 abbrev pub with_refs : Cell → List (Option Addr) → Cell

@@ -18,13 +18,13 @@ abbrev pub chunk_at : List ChunkValue → ℕ → ChunkValue
 chunk_at ks i = slice_index_or ks i no_chunk
 
 -- the position of the chunk of this number; the list's length if no chunk has it
-abbrev pub place_of : List ChunkValue → ℕ → ℕ
-place_of [] number = 0
-place_of (k ∷ ks) number = if k.number == number then 0 else 1 + place_of ks number
+abbrev pub chunk_position : List ChunkValue → ℕ → ℕ
+chunk_position [] number = 0
+chunk_position (k ∷ ks) number = if k.number == number then 0 else 1 + chunk_position ks number
 
 -- the same; None if no chunk has it
 abbrev pub place_in : List ChunkValue → ℕ → Option ℕ
-place_in ks number = if nat_lt (place_of ks number) (length ks) then Some (place_of ks number) else None
+place_in ks number = if nat_lt (chunk_position ks number) (length ks) then Some (chunk_position ks number) else None
 
 -- whether one of these chunks has this number
 abbrev pub has_chunk : List ChunkValue → ℕ → Bool

@@ -1,7 +1,7 @@
 // A chunk, and its objects one after another.
 
 ghost use Rattle.std.specs.Prelude.{◌≡◌, ◌+◌, ◌*◌, ◌^◌, ◌<◌, ◌≤◌, ◌↔◌, [], ◌∷◌, ◌++◌, length, take, drop, replicate, All, slice_get, slice_index, slice_index_or, IfOk, IsTrue, Some};
-ghost use Rattle.object_layout.specs.Cell.{header_of, size_of, new_cell, IsPlace, IsBorn, moved_to, with_ref, with_refs, with_int, with_ints, with_mark, filled_cell, frozen, Born, Moved, Hole, IsCell, chunk_words};
+ghost use Rattle.object_layout.specs.Cell.{header_of, size_of, new_cell, BeginsInFirstUnit, IsBorn, moved_to, with_ref, with_refs, cell_with_int, with_ints, with_mark, filled_cell, frozen, Born, Moved, Hole, IsCell, chunk_words};
 ghost use Rattle.object_layout.specs.Chunks.{with_cell};
 ghost use Rattle.object_layout.specs.Layout.{words_of_cell};
 ghost use Rattle.object_layout.specs.Piece.{is_frozen};
@@ -156,7 +156,7 @@ fn fill_refs(chunk: &mut Chunk, at: u32, refs: &[Option<Addr>])
     requires object { IsObjectAt chunk.old.cells at }
     requires fields { length refs.now ≡ length (cell_at chunk.old.cells at).refs }
     requires few { length refs.now < 2 ^ 20 }
-    requires places { All IsPlace refs.now }
+    requires places { All BeginsInFirstUnit refs.now }
     ensures { chunk.new ≡ with_cell chunk.old at (with_refs (cell_at chunk.old.cells at) refs.now) }
 {
     for k in 0..refs.len() as u32 {
@@ -192,7 +192,7 @@ pub fn write_filled(
     requires ints { header.nints ≡ length ints.now }
     requires few_refs { header.nrefs < 2 ^ 20 }
     requires few_ints { header.nints < 2 ^ 20 }
-    requires places { All IsPlace refs.now }
+    requires places { All BeginsInFirstUnit refs.now }
     requires room { at + (2 + (header.nrefs + header.nints)) ≤ chunk.old.size }
     ensures { chunk.new ≡ record chunk.old { cells = chunk.old.cells ++ filled_cell header birth refs.now ints.now ∷ [] } }
 {
@@ -311,7 +311,7 @@ pub fn set_birth(chunk: &mut Chunk, at: u32, birth: Birth)
 pub fn ref_at(chunk: &Chunk, at: u32, field: u32) -> Option<Addr>
     requires { field < length (object_at chunk.now.cells at).refs }
     ensures value { slice_get (object_at chunk.now.cells at).refs field ≡ Some result }
-    ensures place { IsPlace result }
+    ensures place { BeginsInFirstUnit result }
 {
     ref_from_word(word_at(chunk, at, 2 + field as usize))
 }
@@ -319,7 +319,7 @@ pub fn ref_at(chunk: &Chunk, at: u32, field: u32) -> Option<Addr>
 /// Writes a reference of the object.
 pub fn set_ref(chunk: &mut Chunk, at: u32, field: u32, value: Option<Addr>)
     requires field { field < length (object_at chunk.old.cells at).refs }
-    requires place { IsPlace value }
+    requires place { BeginsInFirstUnit value }
     ensures { chunk.new ≡ record chunk.old { cells = put_cell chunk.old.cells at (with_ref (cell_at chunk.old.cells at) field value) } }
 {
     chunk.words[at as usize + (2 + field as usize)] = ref_to_word(value);
@@ -337,7 +337,7 @@ pub fn int_at(chunk: &Chunk, at: u32, field: u32) -> i64
 /// Writes a number of the object.
 pub fn set_int(chunk: &mut Chunk, at: u32, field: u32, value: i64)
     requires { field < length (object_at chunk.old.cells at).ints }
-    ensures { chunk.new ≡ record chunk.old { cells = put_cell chunk.old.cells at (with_int (cell_at chunk.old.cells at) field value) } }
+    ensures { chunk.new ≡ record chunk.old { cells = put_cell chunk.old.cells at (cell_with_int (cell_at chunk.old.cells at) field value) } }
 {
     let nrefs = header_at(chunk, at).nrefs;
     set_int_behind(chunk, at, nrefs, field, value);
@@ -347,7 +347,7 @@ pub fn set_int(chunk: &mut Chunk, at: u32, field: u32, value: i64)
 pub fn set_int_behind(chunk: &mut Chunk, at: u32, nrefs: u32, field: u32, value: i64)
     requires refs { nrefs ≡ length (object_at chunk.old.cells at).refs }
     requires field { field < length (object_at chunk.old.cells at).ints }
-    ensures { chunk.new ≡ record chunk.old { cells = put_cell chunk.old.cells at (with_int (cell_at chunk.old.cells at) field value) } }
+    ensures { chunk.new ≡ record chunk.old { cells = put_cell chunk.old.cells at (cell_with_int (cell_at chunk.old.cells at) field value) } }
 {
     chunk.words[at as usize + (2 + (nrefs as usize + field as usize))] = value.cast_unsigned();
 }
@@ -363,7 +363,7 @@ pub fn freeze(chunk: &mut Chunk, at: u32)
 /// Records the address that the object was moved to, in place of its birth name.
 pub fn forward(chunk: &mut Chunk, at: u32, to: Addr)
     requires object { IsObjectAt chunk.old.cells at }
-    requires place { IsPlace (Some to) }
+    requires place { BeginsInFirstUnit (Some to) }
     ensures { chunk.new ≡ record chunk.old { cells = put_cell chunk.old.cells at (with_mark (cell_at chunk.old.cells at) (Moved to)) } }
 {
     chunk.words[at as usize] |= GONE;
@@ -374,7 +374,7 @@ pub fn forward(chunk: &mut Chunk, at: u32, to: Addr)
 pub fn forwarded_at(chunk: &Chunk, at: u32) -> Option<Addr>
     requires { IsObjectAt chunk.now.cells at }
     ensures value { result ≡ moved_to (cell_at chunk.now.cells at).mark }
-    ensures place { IsPlace result }
+    ensures place { BeginsInFirstUnit result }
 {
     if is_gone_word(word_at(chunk, at, 0)) {
         ref_from_word(word_at(chunk, at, 1))

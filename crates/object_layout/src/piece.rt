@@ -1,7 +1,7 @@
 // The immutable objects of a chunk, kept for readers who don't have the chunk.
 
 ghost use Rattle.std.specs.Prelude.{◌≡◌, ◌<◌, IfOk, Some, is_some, length, option_map, slice_get};
-ghost use Rattle.object_layout.specs.Cell.{header_of, IsPlace};
+ghost use Rattle.object_layout.specs.Cell.{header_of, BeginsInFirstUnit};
 ghost use Rattle.object_layout.specs.Piece.{frozen_at, frozen_of, or_no_cell, starts_in};
 
 use crate::chunk::{Chunk, header_at, int_at, is_frozen_at, next_at, ref_at};
@@ -73,7 +73,7 @@ impl Piece {
     pub fn reference(&self, offset: u32, field: u32) -> Option<Addr>
         requires { field < length (or_no_cell (frozen_at self.now.objects offset)).refs }
         ensures value { slice_get (or_no_cell (frozen_at self.now.objects offset)).refs field ≡ Some result }
-        ensures place { IsPlace result }
+        ensures place { BeginsInFirstUnit result }
     {
         ref_at(&self.chunk, offset, field)
     }

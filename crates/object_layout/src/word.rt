@@ -1,7 +1,7 @@
 // An address, a birth name and a header, and the words that hold them.
 
 ghost use Rattle.std.specs.Prelude.{◌≡◌, ◌<◌, ◌≤◌, ◌^◌, false};
-ghost use Rattle.object_layout.specs.Cell.{IsPlace, IsRef};
+ghost use Rattle.object_layout.specs.Cell.{BeginsInFirstUnit, IsRef};
 ghost use Rattle.object_layout.specs.Layout.{word_of_ref, ref_of_word, word_of_birth, birth_of_word, header_word, nrefs_of, nints_of, mutable_of, gone_of};
 
 use chunk_sizes::CHUNK_WORDS;
@@ -36,7 +36,7 @@ pub(crate) const GONE: u64 = 1 << 41;
 
 /// The word of a reference: 0 for nil.
 pub fn ref_to_word(reference: Option<Addr>) -> u64
-    requires { IsPlace reference }
+    requires { BeginsInFirstUnit reference }
     ensures word { result ≡ word_of_ref reference }
     ensures fits { IsRef reference }
 {

@@ -33,7 +33,7 @@ pub use Rattle.hh_model.specs.declared.data.Trap.TheVariants.{Nil, Size}
 pub use Rattle.path_laws.specs.Disentangled.{Disentangled}
 pub use Rattle.path_laws.specs.Leaves.{LeavesOwner, WaitsAlone}
 pub use Rattle.path_laws.specs.Paths.{IsWalkUp, IsWalkOfJoined, PathsAreWalks, OwnersAreWalks}
-pub use Rattle.path_laws.specs.ReadLaws.{ReadsFreely, OwnReadsGo, IsStop, StopsNameOwners, FrozenReadsGo}
+pub use Rattle.path_laws.specs.ReadLaws.{ReadsFreely, OwnReadsGo, IsReadStop, StopsNameOwners, FrozenReadsGo}
 pub use Rattle.plain_vec.proofs.Members.{In, got_cases, got_within, same_view, in_from_contains, contains_from_in, got_same, got_other, got_past, got_front, got_back}
 pub use Rattle.plain_vec.proofs.Options.{none_some}
 pub use Rattle.plain_vec.proofs.Places.{none_set, got_some}

@@ -1,5 +1,5 @@
 -- Reads that are never stopped, and the owner that a stop names.
-use Rattle.path_laws.proofs.Common.{◌≡◌, ℕ, true, false, cond, Option, Some, None, List, [], ◌∷◌, length, slice_get, slice_set, ◌⊎◌, inl, inr, refl, ap, sym, subst, ◌∙◌, is_some, option_flatten, cases_eq, both_ways, same_Some, In, in_from_contains, contains_from_in, none_some, ProgramText, Name, Object, Task, End, Done, Trapped, Entangled, Nil, MachineState, Goes, Stops, object_at, onward, or_trap, read_effect, with_ref, ref_in, task_names, refs_at, refs_of, Precedes, precedes, ended_by, is_running, is_waiting, joined, parents, path_in, is_on_path, owner_of, run, run_from, start, setting, step, strand_of, child, ended_task, result_of, IsStored, path_itself, named_from_in, at_in, waiting, joins_in, running_tells, not_above, owner_not_joined, IsForkJoinState, seen, start_is_fork_join_state, run_is_fork_join_state, step_is_fork_join_state, Closed, Halts, step_cases, names_run, runs_is, in_registers, ReadsFreely, OwnReadsGo, IsStop, StopsNameOwners}
+use Rattle.path_laws.proofs.Common.{◌≡◌, ℕ, true, false, cond, Option, Some, None, List, [], ◌∷◌, length, slice_get, slice_set, ◌⊎◌, inl, inr, refl, ap, sym, subst, ◌∙◌, is_some, option_flatten, cases_eq, both_ways, same_Some, In, in_from_contains, contains_from_in, none_some, ProgramText, Name, Object, Task, End, Done, Trapped, Entangled, Nil, MachineState, Goes, Stops, object_at, onward, or_trap, read_effect, with_ref, ref_in, task_names, refs_at, refs_of, Precedes, precedes, ended_by, is_running, is_waiting, joined, parents, path_in, is_on_path, owner_of, run, run_from, start, setting, step, strand_of, child, ended_task, result_of, IsStored, path_itself, named_from_in, at_in, waiting, joins_in, running_tells, not_above, owner_not_joined, IsForkJoinState, seen, start_is_fork_join_state, run_is_fork_join_state, step_is_fork_join_state, Closed, Halts, step_cases, names_run, runs_is, in_registers, ReadsFreely, OwnReadsGo, IsReadStop, StopsNameOwners}
 use Rattle.path_laws.proofs.Disentangled.{Disentangled, OnePath, disentangled_step, start_disentangled}
 use Rattle.path_laws.proofs.Stored.{run_stored}
 
@@ -62,7 +62,7 @@ own_reads_go p limit ts t x n o H own =
 
 module _ (p : ProgramText) (m : MachineState) (t : ℕ) (K : IsForkJoinState m) where
   abbrev Named : MachineState → Type 0
-  Named m' = (reader owner : ℕ) → m'.end ≡ Some (Entangled reader owner) → (m.end ≡ Some (Entangled reader owner)) ⊎ ((reader ≡ t) × IsStop m t owner)
+  Named m' = (reader owner : ℕ) → m'.end ≡ Some (Entangled reader owner) → (m.end ≡ Some (Entangled reader owner)) ⊎ ((reader ≡ t) × IsReadStop m t owner)
 
   same_end : (m' : MachineState) → m'.end ≡ m.end → Named m'
   same_end m' e reader owner h = inl (sym e ∙ h)

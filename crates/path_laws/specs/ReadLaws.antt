@@ -34,7 +34,7 @@ FrozenReadsGo =
 
 -- a read of an object was stopped: what it would have yielded doesn't happen before the reader, and the owner that is
 -- named is a task that hasn't joined, owns that object, and isn't on the reader's path
-pub record IsStop (m : MachineState) (t owner : ℕ) : Type 0 where
+pub record IsReadStop (m : MachineState) (t owner : ℕ) : Type 0 where
   pub name : Name
   pub source : Name
   pub field : Contains (refs_at m.store source) name
@@ -50,7 +50,7 @@ pub record IsStop (m : MachineState) (t owner : ℕ) : Type 0 where
 abbrev pub StopsNameOwners : Type 0
 StopsNameOwners =
     (p : ProgramText) (limit : ℕ) (ts : List ℕ) (t reader owner : ℕ)
-    → let m = run p limit ts in m.end ≡ None → (step p m t).end ≡ Some (Entangled reader owner) → (reader ≡ t) × IsStop m t owner
+    → let m = run p limit ts in m.end ≡ None → (step p m t).end ≡ Some (Entangled reader owner) → (reader ≡ t) × IsReadStop m t owner
 
 -- WHEN A READ IS STOPPED
 

@@ -21,7 +21,7 @@ pub use Rattle.program_reader.specs.Names.{is_noted, NotedName, with_name, name_
 pub use Rattle.program_reader.specs.Operands.{field_count, int_register, ref_register}
 pub use Rattle.program_reader.specs.Program.{functions_from, program_of, unless_refused, reading_of, loop_functions, loops_from, on_line, function_of, loop_from, function_number, with_function, code_from, line_of, code_by}
 pub use Rattle.program_reader.specs.Reading.{spot_in, after_begin, after_line, line_taken, program_in, after_order, nothing_read, after_end}
-pub use Rattle.program_reader.specs.Sense.{sense_of, IsSmall, only_name, loop_function, looping, sense_of_name, one, two, three, five, plain, plain_one, plain_two, plain_three, plain_five, at_label, jump_on_zero, calling, forking, order_alone, order_one, order_two, ordered_sense, alone}
+pub use Rattle.program_reader.specs.Sense.{sense_of, OutlineIsSmall, only_name, loop_function, looping, sense_of_name, one, two, three, five, plain, plain_one, plain_two, plain_three, plain_five, at_label, jump_on_zero, calling, forking, order_alone, order_one, order_two, ordered_sense, alone}
 pub use Rattle.program_reader.specs.declared.cause.Cause.{Cause}
 pub use Rattle.program_reader.specs.declared.cause.Cause.TheVariants.{NotUtf8, Word, Operand, NoEnd, TwoNames, NoName, NoLabel, NoMain, TooMany}
 pub use Rattle.program_reader.specs.declared.cause.TextFault.{TextFault}

@@ -1,5 +1,5 @@
 -- Reading on over the bytes of a text.
-use Rattle.program_reader.proofs.Common.{◌≡◌, ◌<◌, ◌≤◌, ◌+◌, ◌++◌, ◌^◌, ℕ, Bool, true, false, cond, List, [], ◌∷◌, length, take, drop, arith, refl, ap, sym, subst, ◌∙◌, nat_lt, nat_eq, Option, Some, None, IfNone, ◌==◌, codes, position_or_len, drop_all, IsProgram, Fun, is_last, lines_of, some_line, Cause, TextFault, Head, Begin, Sense, Outline, Reader, is_noted, IsSmall, only_name, sense_of, outline_of, head_of_line, operands_of_line, fault_on, first_fault, functions_from, program_of, unless_refused, reading_of, spot_in, after_begin, after_line, line_taken, program_in}
+use Rattle.program_reader.proofs.Common.{◌≡◌, ◌<◌, ◌≤◌, ◌+◌, ◌++◌, ◌^◌, ℕ, Bool, true, false, cond, List, [], ◌∷◌, length, take, drop, arith, refl, ap, sym, subst, ◌∙◌, nat_lt, nat_eq, Option, Some, None, IfNone, ◌==◌, codes, position_or_len, drop_all, IsProgram, Fun, is_last, lines_of, some_line, Cause, TextFault, Head, Begin, Sense, Outline, Reader, is_noted, OutlineIsSmall, only_name, sense_of, outline_of, head_of_line, operands_of_line, fault_on, first_fault, functions_from, program_of, unless_refused, reading_of, spot_in, after_begin, after_line, line_taken, program_in}
 use Rattle.program_reader.proofs.Lines.{lines_first, lines_last, lines_cut, lines_behind}
 use Rattle.program_reader.proofs.Rounds.{IsReading, next_line, refused_at, no_fault, functions_done, at_last, has_main}
 use Rattle.program_reader.proofs.Sounds.{fun_names, entry_names}
@@ -56,7 +56,7 @@ module _ (o : Outline) (text : List ℕ) (r : Reader) (n end : ℕ) (rest : List
     main t = has_main o r (last_line t).above (take end rest) [] n last (last_line t).follows (last_line t).sound (few_above t) none t
 
     -- the functions are those of a program
-    pub form : last ≡ true → IsSmall o → IsProgram (program_in o s.done)
+    pub form : last ≡ true → OutlineIsSmall o → IsProgram (program_in o s.done)
     form t small =
         let a = ended t in
         let names = ap (λ b. cond b (fun_names s.done ++ s.name ∷ []) (fun_names s.done)) (sym (closed t)) ∙ a.sound.names in

@@ -1,5 +1,5 @@
 -- The outline of a text, line by line.
-use Rattle.program_reader.proofs.Common.{◌≡◌, ◌<◌, ◌≤◌, ◌+◌, ◌++◌, ℕ, Bool, true, false, cond, List, [], ◌∷◌, length, take, drop, arith, ap, sym, length-append, ◌==◌, Option, Some, None, position_or_len, lines_of, Outline, NotedName, is_noted, IsSmall, head_of_line, operands_of_line, begun_name, looped_name, noted_if, outline_line, outline_onto}
+use Rattle.program_reader.proofs.Common.{◌≡◌, ◌<◌, ◌≤◌, ◌+◌, ◌++◌, ℕ, Bool, true, false, cond, List, [], ◌∷◌, length, take, drop, arith, ap, sym, length-append, ◌==◌, Option, Some, None, position_or_len, lines_of, Outline, NotedName, is_noted, OutlineIsSmall, head_of_line, operands_of_line, begun_name, looped_name, noted_if, outline_line, outline_onto}
 use Rattle.program_reader.proofs.Lines.{lines_first, lines_last}
 
 pub outline_more : (o : Outline) (n end : ℕ) (rest : List ℕ) → end ≡ position_or_len (λ c. c == 10) rest → end < length rest → outline_onto (n + 1) (outline_line n o (take end rest)) (lines_of (drop (end + 1) rest)) ≡ outline_onto n o (lines_of rest)
@@ -27,5 +27,5 @@ short_more o p n m j line e k h =
     let b = noted_length o.loops (looped_name (head_of_line line) (operands_of_line line)) m in
     rw e (record { functions = omega (arith, a, h.functions, k); loops = omega (arith, b, h.loops, k) })
 
-pub short_small : (o : Outline) (n : ℕ) → IsShort o n → n ≤ 16777217 → IsSmall o
+pub short_small : (o : Outline) (n : ℕ) → IsShort o n → n ≤ 16777217 → OutlineIsSmall o
 short_small o n h le = omega (arith, h.functions, h.loops, le)

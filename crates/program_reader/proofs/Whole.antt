@@ -1,5 +1,5 @@
 -- The functions of a text and those of its loops are a program.
-use Rattle.program_reader.proofs.Common.{◌≡◌, ◌<◌, ◌≤◌, ◌+◌, ◌*◌, ◌++◌, ℕ, zero, suc, true, List, [], ◌∷◌, length, get_or, arith, refl, ap, sym, subst, ◌∙◌, length-append, Option, Some, None, IsSomeAnd, slice_get, codes, unwrap_or, All, bytes_eq, take_all, All-append, All-nil, position-Some, bytes_eq-Decides, Fun, NamesExist, IsFunction, IsProgram, whole_code, left_code, right_code, Outline, NotedName, is_noted, name_index, IsSmall, loop_function, function_number, loop_from, on_line, loop_functions, loops_from, program_in}
+use Rattle.program_reader.proofs.Common.{◌≡◌, ◌<◌, ◌≤◌, ◌+◌, ◌*◌, ◌++◌, ℕ, zero, suc, true, List, [], ◌∷◌, length, get_or, arith, refl, ap, sym, subst, ◌∙◌, length-append, Option, Some, None, IsSomeAnd, slice_get, codes, unwrap_or, All, bytes_eq, take_all, All-append, All-nil, position-Some, bytes_eq-Decides, Fun, NamesExist, IsFunction, IsProgram, whole_code, left_code, right_code, Outline, NotedName, is_noted, name_index, OutlineIsSmall, loop_function, function_number, loop_from, on_line, loop_functions, loops_from, program_in}
 use Rattle.program_reader.proofs.Ranges.{all_functions, place_below}
 use Rattle.program_reader.proofs.Sounds.{fun_names, entry_names}
 use Rattle.program_reader.proofs.Tables.{noted_before}
@@ -92,7 +92,7 @@ same_bytes : (xs ys : List ℕ) → bytes_eq xs ys ≡ true → ys ≡ xs
 same_bytes xs ys e = sym ((bytes_eq-Decides xs ys).0 e)
 
 -- the program of these functions, which have the names of the outline
-pub is_program : (o : Outline) (fs : List Fun) → fun_names fs ≡ entry_names o.functions → All (IsFunction (all_functions o)) fs → is_noted o.functions (codes "main") ≡ true → IsSmall o → IsProgram (program_in o fs)
+pub is_program : (o : Outline) (fs : List Fun) → fun_names fs ≡ entry_names o.functions → All (IsFunction (all_functions o)) fs → is_noted o.functions (codes "main") ≡ true → OutlineIsSmall o → IsProgram (program_in o fs)
 is_program o fs names done main small =
     let found = main_place o main in
     let d : NotedName = record { name = []; number = 0 } in

@@ -149,5 +149,5 @@ sense_of o labels (Order v) ws = ordered_sense o labels v ws
 sense_of o labels _ ws = alone ws
 
 -- the number of all functions, those of loops included, fits in 32 bits
-abbrev pub IsSmall : Outline → Type 0
-IsSmall o = length o.functions + 3 * length o.loops < 2 ^ 32
+abbrev pub OutlineIsSmall : Outline → Type 0
+OutlineIsSmall o = length o.functions + 3 * length o.loops < 2 ^ 32

@@ -2,7 +2,7 @@
 
 ghost use Rattle.std.specs.Prelude.{◌≡◌, ◌<◌, ◌+◌, ◌^◌, ◌++◌, ◌∷◌, [], length, codes, IfOk, OnOk, MatchOption, slice_get};
 ghost use Rattle.program_reader.specs.Names.{noted_name_of};
-ghost use Rattle.program_reader.specs.Sense.{IsSmall, loop_function};
+ghost use Rattle.program_reader.specs.Sense.{OutlineIsSmall, loop_function};
 ghost use Rattle.hh_lang.specs.Loop.{whole_code, left_code, right_code};
 ghost use Rattle.program_reader.specs.Program.{function_of, loop_from, on_line, loop_functions, loops_from, function_number};
 
@@ -120,7 +120,7 @@ fn right_function(alloc: Global, name: &[u8], number: u32, first: u32) -> Result
 
 /// The number of the function of this name.
 pub(crate) fn number_in(outline: &Outline<'_>, name: &[u8]) -> u32
-    requires { IsSmall outline.now }
+    requires { OutlineIsSmall outline.now }
     ensures { result ≡ function_number outline.now name.now }
 {
     match outline.functions.find(name) {
@@ -138,7 +138,7 @@ fn add_named(
     number: u32,
     first: u32,
 ) -> Result<(), AllocError>
-    requires small { IsSmall outline.now }
+    requires small { OutlineIsSmall outline.now }
     requires fits { first + 2 < 2 ^ 32 }
     ensures { OnOk result (functions.new ≡ functions.old ++ loop_functions outline.now first (noted_name_of name.now number)) }
 {
@@ -156,7 +156,7 @@ fn add_loop(
     functions: &mut Listed<Fun>,
     place: usize,
 ) -> Result<(), AllocError>
-    requires small { IsSmall outline.now }
+    requires small { OutlineIsSmall outline.now }
     requires there { place < length outline.now.loops }
     ensures { OnOk result (MatchOption (slice_get outline.now.loops place) (functions.new ≡ functions.old) (λ e. functions.new ≡ functions.old ++ loop_functions outline.now (loop_function outline.now place) e)) }
 {
@@ -175,7 +175,7 @@ pub(crate) fn add_loops(
     outline: &Outline<'_>,
     functions: &mut Listed<Fun>,
 ) -> Result<(), AllocError>
-    requires { IsSmall outline.now }
+    requires { OutlineIsSmall outline.now }
     ensures { OnOk result (functions.new ≡ functions.old ++ loops_from outline.now 0 outline.now.loops) }
 {
     for place in 0..outline.loops.len() {

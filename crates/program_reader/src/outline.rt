@@ -3,7 +3,7 @@
 ghost use Rattle.std.specs.Prelude.{◌≡◌, ◌≤◌, length, OnOk, option_copied};
 ghost use Rattle.text_lines.specs.Lines.{words_of, most_bytes};
 ghost use Rattle.program_reader.specs.Head.{head_of_words, operands_of};
-ghost use Rattle.program_reader.specs.Sense.{IsSmall};
+ghost use Rattle.program_reader.specs.Sense.{OutlineIsSmall};
 ghost use Rattle.program_reader.specs.Around.{begun_name, looped_name, no_names, noted_if, outline_line, outline_of};
 
 use crate::head::{Head, Verb, head_of};
@@ -83,7 +83,7 @@ impl<'a> Outline<'a> {
         requires sized { length text.now ≤ most_bytes }
         requires nothing { self.old ≡ no_names }
         ensures value { OnOk result (self.new ≡ outline_of text.now) }
-        ensures small { OnOk result (IsSmall self.new) }
+        ensures small { OnOk result (OutlineIsSmall self.new) }
     {
         let mut rest = text;
         let mut number: u32 = 1;

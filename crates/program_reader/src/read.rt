@@ -3,7 +3,7 @@
 ghost use Rattle.std.specs.Prelude.{◌≡◌, ◌≤◌, length, IfOk, IfNone};
 ghost use Rattle.hh_lang.specs.Form.{IsProgram};
 ghost use Rattle.text_lines.specs.Lines.{lines_of, most_bytes};
-ghost use Rattle.program_reader.specs.Sense.{IsSmall};
+ghost use Rattle.program_reader.specs.Sense.{OutlineIsSmall};
 ghost use Rattle.program_reader.specs.Around.{no_names, outline_of};
 ghost use Rattle.program_reader.specs.Fault.{first_fault};
 ghost use Rattle.program_reader.specs.Program.{reading_of, unless_refused, functions_from};
@@ -41,7 +41,7 @@ fn finish(
     outline: &Outline<'_>,
     mut functions: Listed<Fun>,
 ) -> Result<Program, AllocError>
-    requires small { IsSmall outline.now }
+    requires small { OutlineIsSmall outline.now }
     requires form { IsProgram (program_in outline.now functions) }
     ensures { IfOk result (λ p. p ≡ program_in outline.now functions) }
 {
@@ -56,7 +56,7 @@ fn reading_by(
     fault: Option<TextFault>,
     functions: Listed<Fun>,
 ) -> Result<Result<Program, TextFault>, AllocError>
-    requires small { IsSmall outline.now }
+    requires small { OutlineIsSmall outline.now }
     requires form { IfNone fault (IsProgram (program_in outline.now functions)) }
     ensures { IfOk result (λ reading. reading ≡ unless_refused fault (program_in outline.now functions)) }
 {
@@ -75,7 +75,7 @@ fn read_lines<'a>(
 ) -> Result<Option<TextFault>, AllocError>
     requires sized { length text.now ≤ most_bytes }
     requires outline { outline.now ≡ outline_of text.now }
-    requires small { IsSmall outline.now }
+    requires small { OutlineIsSmall outline.now }
     requires nothing { reader.old ≡ nothing_read }
     ensures fault { IfOk result (λ fault. fault ≡ first_fault text.now) }
     ensures form { IfOk result (λ fault. IfNone fault (IsProgram (program_in outline.now reader.new.done))) }
@@ -112,7 +112,7 @@ fn read_by(
 ) -> Result<Result<Program, TextFault>, AllocError>
     requires sized { length text.now ≤ most_bytes }
     requires outline { outline.now ≡ outline_of text.now }
-    requires small { IsSmall outline.now }
+    requires small { OutlineIsSmall outline.now }
     ensures { IfOk result (λ reading. reading ≡ reading_of text.now) }
 {
     let mut reader = new_reader(alloc);

@@ -4,7 +4,7 @@ ghost use Rattle.std.specs.Prelude.{◌≡◌, ◌≤◌, ◌&&◌, Bool, not, c
 ghost use Rattle.std.specs.Str.{is_utf8};
 ghost use Rattle.text_lines.specs.Lines.{lines_of, words_of, most_bytes};
 ghost use Rattle.program_reader.specs.Names.{is_noted};
-ghost use Rattle.program_reader.specs.Sense.{only_name, IsSmall};
+ghost use Rattle.program_reader.specs.Sense.{only_name, OutlineIsSmall};
 ghost use Rattle.program_reader.specs.Around.{is_open_after};
 ghost use Rattle.program_reader.specs.Fault.{line_cause, is_misplaced, has_wrong_operand, is_begin, names_no_function, names_no_label, fault_on};
 
@@ -266,7 +266,7 @@ impl<'a> Reader<'a> {
         below: &'a [u8],
     ) -> Result<Option<Cause>, AllocError>
         requires counted { IsCounted self.old }
-        requires small { IsSmall outline.now }
+        requires small { OutlineIsSmall outline.now }
         requires sized { length below.now ≤ most_bytes }
         ensures fault { IfOk result (λ fault. fault ≡ fault_on outline.now (spot_in outline.now self.old last) line.now) }
         ensures taken { IfOk result (λ fault. IfNone fault (self.new ≡ line_taken outline.now self.old number line.now (lines_of below.now))) }

@@ -2,7 +2,7 @@
 
 ghost use Rattle.std.specs.Prelude.{◌≡◌};
 ghost use Rattle.text_lines.specs.Lines.{words_of};
-ghost use Rattle.program_reader.specs.Sense.{plain, jump, jump_on_zero, call, fork, loop_over, order_alone, order_one, order_two, ordered_sense, only_name, sense_of_name, alone, sense_of, IsSmall};
+ghost use Rattle.program_reader.specs.Sense.{plain, jump, jump_on_zero, call, fork, loop_over, order_alone, order_one, order_two, ordered_sense, only_name, sense_of_name, alone, sense_of, OutlineIsSmall};
 
 use crate::head::{Head, Verb};
 use crate::names::{NameTable, is_name_word};
@@ -67,7 +67,7 @@ fn read_jump_on_zero(labels: &NameTable<'_>, register: Option<IntReg>, name: &[u
 }
 
 fn read_call(outline: &Outline<'_>, name: &[u8]) -> Sense
-    requires { IsSmall outline.now }
+    requires { OutlineIsSmall outline.now }
     ensures { result ≡ call outline.now name.now }
 {
     if !is_name_word(name) {
@@ -80,7 +80,7 @@ fn read_call(outline: &Outline<'_>, name: &[u8]) -> Sense
 }
 
 fn read_fork(outline: &Outline<'_>, left: &[u8], right: &[u8]) -> Sense
-    requires { IsSmall outline.now }
+    requires { OutlineIsSmall outline.now }
     ensures { result ≡ fork outline.now left.now right.now }
 {
     if !is_name_word(left) || !is_name_word(right) {
@@ -93,7 +93,7 @@ fn read_fork(outline: &Outline<'_>, left: &[u8], right: &[u8]) -> Sense
 }
 
 fn read_loop(outline: &Outline<'_>, name: &[u8]) -> Sense
-    requires { IsSmall outline.now }
+    requires { OutlineIsSmall outline.now }
     ensures { result ≡ loop_over outline.now name.now }
 {
     if !is_name_word(name) {
@@ -120,7 +120,7 @@ fn read_alone(verb: Verb) -> Sense
 
 // An instruction with one operand.
 fn read_one(outline: &Outline<'_>, labels: &NameTable<'_>, verb: Verb, a: &[u8]) -> Sense
-    requires { IsSmall outline.now }
+    requires { OutlineIsSmall outline.now }
     ensures { result ≡ order_one outline.now labels.now verb a.now }
 {
     match verb {
@@ -133,7 +133,7 @@ fn read_one(outline: &Outline<'_>, labels: &NameTable<'_>, verb: Verb, a: &[u8])
 
 // An instruction with two operands.
 fn read_two(outline: &Outline<'_>, labels: &NameTable<'_>, verb: Verb, a: &[u8], b: &[u8]) -> Sense
-    requires { IsSmall outline.now }
+    requires { OutlineIsSmall outline.now }
     ensures { result ≡ order_two outline.now labels.now verb a.now b.now }
 {
     match verb {
@@ -145,7 +145,7 @@ fn read_two(outline: &Outline<'_>, labels: &NameTable<'_>, verb: Verb, a: &[u8],
 
 // What the operands of an instruction say.
 fn read_order(outline: &Outline<'_>, labels: &NameTable<'_>, verb: Verb, rest: &[u8]) -> Sense
-    requires { IsSmall outline.now }
+    requires { OutlineIsSmall outline.now }
     ensures { result ≡ ordered_sense outline.now labels.now verb (words_of rest.now) }
 {
     let Some((a, rest)) = next_word(rest) else {
@@ -194,7 +194,7 @@ pub(crate) fn read_operands(
     head: Head,
     rest: &[u8],
 ) -> Sense
-    requires { IsSmall outline.now }
+    requires { OutlineIsSmall outline.now }
     ensures { result ≡ sense_of outline.now labels.now head (words_of rest.now) }
 {
     match head {

@@ -2,7 +2,7 @@
 pub use Rattle.plain_vec.proofs.Members.{in_append_left, in_append_right, in_append_cases}
 pub use Rattle.plain_vec.specs.Members.{In}
 pub use Rattle.race_cells.specs.CellAccess.{access_of, clash, entry_of, race_of}
-pub use Rattle.race_cells.specs.Laws.{ScansGoOn, AreInOrder, IsExact, IsExactNext, IsFirstRace, RaceFree, Races, ScanIsExact, AreWithin, StacksAreLow}
+pub use Rattle.race_cells.specs.Laws.{ScansGoOn, AreStrandsInOrder, IsExact, IsExactNext, IsFirstRace, RaceFree, Races, ScanIsExact, StacksAreWithin, StacksAreLow}
 pub use Rattle.race_cells.specs.Order.{StrandOrder, ExtendsPrecedence, MeetsAsInTree}
 pub use Rattle.race_cells.specs.Scan.{after, keep, no_stacks, race_among, race_at, reported_from, kept_by, scanned, stack_of, race_in}
 pub use Rattle.race_cells.specs.AccessStack.{settled, is_low, last_to_leave, lowered, lowered_stack, without_earlier, topmost_pair, lowest_unordered}

@@ -1,5 +1,5 @@
 -- What is reported of a location's accesses is exactly its first race.
-use Rattle.race_cells.proofs.Common.{◌≡◌, ℕ, zero, suc, ◌<◌, ◌≤◌, true, false, cond, Option, Some, None, is_some, List, [], ◌∷◌, ◌++◌, All, AllPairs, fold, ◌⊎◌, inl, inr, refl, ap, sym, subst, ◌∙◌, arith, option_or, false≢true, false_from_ne_true, append-nil, append_assoc, All-head, All-tail, In, in_append_left, in_append_right, in_append_cases, CellAccessKind, PlainRead, PlainWrite, AtomicRead, AtomicWrite, CellAccess, CellEntry, CellRace, Stacks, access_of, clash, entry_of, StrandOrder, ExtendsPrecedence, MeetsAsInTree, settled, after, keep, kept_by, no_stacks, race_among, race_at, reported_from, scanned, stack_of, AreInOrder, IsExact, IsExactNext, IsFirstRace, RaceFree, Races, ScanIsExact}
+use Rattle.race_cells.proofs.Common.{◌≡◌, ℕ, zero, suc, ◌<◌, ◌≤◌, true, false, cond, Option, Some, None, is_some, List, [], ◌∷◌, ◌++◌, All, AllPairs, fold, ◌⊎◌, inl, inr, refl, ap, sym, subst, ◌∙◌, arith, option_or, false≢true, false_from_ne_true, append-nil, append_assoc, All-head, All-tail, In, in_append_left, in_append_right, in_append_cases, CellAccessKind, PlainRead, PlainWrite, AtomicRead, AtomicWrite, CellAccess, CellEntry, CellRace, Stacks, access_of, clash, entry_of, StrandOrder, ExtendsPrecedence, MeetsAsInTree, settled, after, keep, kept_by, no_stacks, race_among, race_at, reported_from, scanned, stack_of, AreStrandsInOrder, IsExact, IsExactNext, IsFirstRace, RaceFree, Races, ScanIsExact}
 use Rattle.race_cells.proofs.Standing.{Falling, StandsFor, falling_in, falling_later, settled_among, settled_falls, settled_stands, stands_after, stands_itself, stands_later, stands_through}
 use Rattle.race_cells.proofs.Reports.{IsWithKept, none_reported, reported_with}
 
@@ -67,7 +67,7 @@ in_order_from o now (v ∷ vs) late known serial = (
       (λ i j d lt lt'. serial (suc i) (suc j) d (omega arith) (omega arith)),
 )
 
-pub in_order : (o : StrandOrder) (vs : List CellAccess) → AreInOrder o vs → InOrderFrom o 0 vs
+pub in_order : (o : StrandOrder) (vs : List CellAccess) → AreStrandsInOrder o vs → InOrderFrom o 0 vs
 in_order o vs are = in_order_from o 0 vs (λ k d lt. omega arith) are.known are.serial
 
 module _ (o : StrandOrder) (order : ExtendsPrecedence o) (tree : MeetsAsInTree o) where
@@ -355,13 +355,13 @@ module _ (o : StrandOrder) (order : ExtendsPrecedence o) (tree : MeetsAsInTree o
       subst (λ (l : List CellAccess). IsExactNext o l v (race_at o (fold (after o) (after o cell u) us) v)) (append_assoc past (u ∷ []) us)
       (next_from us u.strand (past ++ u ∷ []) (after o cell u) (right_after now past cell right u ordered.0 ordered.1) v ordered.2)
 
-next_is_exact : (o : StrandOrder) → ExtendsPrecedence o → MeetsAsInTree o → (past : List CellAccess) (v : CellAccess) → AreInOrder o (past ++ v ∷ [])
+next_is_exact : (o : StrandOrder) → ExtendsPrecedence o → MeetsAsInTree o → (past : List CellAccess) (v : CellAccess) → AreStrandsInOrder o (past ++ v ∷ [])
     → IsExactNext o past v (race_at o (scanned o past) v)
 next_is_exact o order tree past v are = next_from o order tree past 0 [] (Some no_stacks) (keeps_nothing o order tree) v (in_order o (past ++ v ∷ []) are)
 
 -- the same of a cell that has seen these accesses
 pub next_of_cell : (o : StrandOrder) (cell : Option Stacks) (v : CellAccess) (found : Option CellRace) → race_at o cell v ≡ found
-    → (past : List CellAccess) → cell ≡ scanned o past → ExtendsPrecedence o → MeetsAsInTree o → AreInOrder o (past ++ v ∷ []) → IsExactNext o past v found
+    → (past : List CellAccess) → cell ≡ scanned o past → ExtendsPrecedence o → MeetsAsInTree o → AreStrandsInOrder o (past ++ v ∷ []) → IsExactNext o past v found
 next_of_cell o cell v found is past seen order tree are =
     subst (λ (r : Option CellRace). IsExactNext o past v r) (ap (λ c. race_at o c v) (sym seen) ∙ is) (next_is_exact o order tree past v are)
 

@@ -1,5 +1,5 @@
 -- Stacks are no longer than tasks are deep, and two more.
-use Rattle.race_cells.proofs.Common.{◌≡◌, ℕ, ◌+◌, ◌<◌, ◌≤◌, Bool, true, false, cond, Option, Some, None, is_some, List, [], ◌∷◌, length, fold, refl, sym, subst, arith, leb-false, CellAccessKind, PlainRead, PlainWrite, AtomicRead, AtomicWrite, CellAccess, CellEntry, Stacks, entry_of, StrandOrder, ExtendsPrecedence, MeetsAsInTree, is_low, last_to_leave, lowered, lowered_stack, settled, without_earlier, after, keep, kept_by, no_stacks, race_among, stack_of, AreWithin, StacksAreLow}
+use Rattle.race_cells.proofs.Common.{◌≡◌, ℕ, ◌+◌, ◌<◌, ◌≤◌, Bool, true, false, cond, Option, Some, None, is_some, List, [], ◌∷◌, length, fold, refl, sym, subst, arith, leb-false, CellAccessKind, PlainRead, PlainWrite, AtomicRead, AtomicWrite, CellAccess, CellEntry, Stacks, entry_of, StrandOrder, ExtendsPrecedence, MeetsAsInTree, is_low, last_to_leave, lowered, lowered_stack, settled, without_earlier, after, keep, kept_by, no_stacks, race_among, stack_of, StacksAreWithin, StacksAreLow}
 use Rattle.race_cells.proofs.Standing.{Falling, falling_later, falling_left, settled_falls}
 use Rattle.race_cells.proofs.Exactness.{InOrderFrom, in_order}
 
@@ -157,11 +157,11 @@ module _ (o : StrandOrder) (order : ExtendsPrecedence o) (tree : MeetsAsInTree o
     low_after now v None late there low = tt
     low_after now v (Some s) late there low = low_step v s (is_some (race_among o v s)) (low_kept now v s late there low v.kind)
 
-    cell_within : (now : ℕ) (cell : Option Stacks) → IsLowCell now cell → AreWithin (depth + 2) cell
+    cell_within : (now : ℕ) (cell : Option Stacks) → IsLowCell now cell → StacksAreWithin (depth + 2) cell
     cell_within now None low = tt
     cell_within now (Some s) low = λ kind. low_within now (stack_of s kind) (low kind)
 
-    all_within : (vs : List CellAccess) (now : ℕ) (cell : Option Stacks) → IsLowCell now cell → InOrderFrom o now vs → AreWithin (depth + 2) (fold (after o) cell vs)
+    all_within : (vs : List CellAccess) (now : ℕ) (cell : Option Stacks) → IsLowCell now cell → InOrderFrom o now vs → StacksAreWithin (depth + 2) (fold (after o) cell vs)
     all_within [] now cell low ordered = cell_within now cell low
     all_within (v ∷ vs) now cell low ordered = all_within vs v.strand (after o cell v) (low_after now v cell ordered.0 ordered.1 low) ordered.2
 

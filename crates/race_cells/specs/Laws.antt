@@ -21,7 +21,7 @@ abbrev pub RaceFree : StrandOrder → List CellAccess → Type 0
 RaceFree o accesses = (u v : CellAccess) → In accesses u → In accesses v → Races o u v → ⊥
 
 -- the accesses come in the serial order
-pub record AreInOrder (o : StrandOrder) (accesses : List CellAccess) : Type 0 where
+pub record AreStrandsInOrder (o : StrandOrder) (accesses : List CellAccess) : Type 0 where
   pub known : All (λ v. v.strand < o.strands) accesses
   pub serial : AllPairs (λ u v. u.strand ≤ v.strand) accesses
 
@@ -41,7 +41,7 @@ IsExact o accesses (Some race) = IsFirstRace o accesses race
 
 abbrev pub ScanIsExact : Type 0
 ScanIsExact =
-    (o : StrandOrder) → ExtendsPrecedence o → MeetsAsInTree o → (accesses : List CellAccess) → AreInOrder o accesses
+    (o : StrandOrder) → ExtendsPrecedence o → MeetsAsInTree o → (accesses : List CellAccess) → AreStrandsInOrder o accesses
     → IsExact o accesses (reported o accesses)
 
 -- what is reported of the access after these: whether it makes the location's first race, and with which of them
@@ -59,16 +59,16 @@ abbrev pub ScansGoOn : Type 0
 ScansGoOn = (o : StrandOrder) (past : List CellAccess) (v : CellAccess) → ScanGoesOn o past v
 
 -- each stack of a cell has at most so many entries
-abbrev pub AreWithin : ℕ → Option Stacks → Type 0
-AreWithin most None = Unit {0}
-AreWithin most (Some s) = (kind : CellAccessKind) → length (stack_of s kind) ≤ most
+abbrev pub StacksAreWithin : ℕ → Option Stacks → Type 0
+StacksAreWithin most None = Unit {0}
+StacksAreWithin most (Some s) = (kind : CellAccessKind) → length (stack_of s kind) ≤ most
 
 -- however many strands access a location, its stacks are no longer than tasks are deep, and two more
 abbrev pub StacksAreLow : Type 0
 StacksAreLow =
     (o : StrandOrder) → ExtendsPrecedence o → MeetsAsInTree o
     → (depth : ℕ) → ((u v : ℕ) → u ≤ v → v < o.strands → o.meeting u v ≤ depth)
-    → (accesses : List CellAccess) → AreInOrder o accesses → AreWithin (depth + 2) (scanned o accesses)
+    → (accesses : List CellAccess) → AreStrandsInOrder o accesses → StacksAreWithin (depth + 2) (scanned o accesses)
 
 -- two accesses of one strand never race
 abbrev pub OwnAccessesNeverRace : Type 0

@@ -52,7 +52,7 @@ impl Cell {
     ghost use Rattle.race_cells.specs.declared.access.CellAccess.{CellAccess};
     ghost use Rattle.race_cells.specs.Order.{ExtendsPrecedence, MeetsAsInTree};
     ghost use Rattle.race_cells.specs.Scan.{after, no_stacks, race_at, scanned};
-    ghost use Rattle.race_cells.specs.Laws.{AreInOrder, IsExactNext};
+    ghost use Rattle.race_cells.specs.Laws.{AreStrandsInOrder, IsExactNext};
 
     /// The cell of a location that wasn't accessed yet.
     pub fn new() -> Cell
@@ -81,7 +81,7 @@ impl Cell {
         // In the subject's own words, where the cell has seen these accesses and no others.
         ensures exact { (past : List CellAccess) → self.old ≡ scanned (S.order strands.now) past
             → ExtendsPrecedence (S.order strands.now) → MeetsAsInTree (S.order strands.now)
-            → AreInOrder (S.order strands.now) (past ++ access ∷ [])
+            → AreStrandsInOrder (S.order strands.now) (past ++ access ∷ [])
             → IfOk result (IsExactNext (S.order strands.now) past access) }
     {
         match self.race(strands, access) {

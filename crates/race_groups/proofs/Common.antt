@@ -3,7 +3,7 @@ pub use Rattle.indexmap.specs.IndexSet.{insert_key}
 pub use Rattle.plain_vec.proofs.Members.{In, in_from_contains, contains_from_in, in_kept, in_from_kept, got_in}
 pub use Rattle.race_groups.specs.Gathered.{with_grouped_race, lines_of_groups}
 pub use Rattle.race_groups.specs.RaceGroups.{lines_of_race, same_pair, same_lines, groups_of, Lines, group_of}
-pub use Rattle.race_groups.specs.Laws.{IsRaceGrouping, GroupsAreExact}
+pub use Rattle.race_groups.specs.Laws.{IsRaceGrouping, RaceGroupsAreExact}
 pub use Rattle.race_groups.specs.Shown.{shown_of}
 pub use Rattle.race_groups.specs.Text.{spaced_words, example_line, swap_note, group_text, field_text, tasks_text}
 pub use Rattle.race_groups.specs.declared.group.RaceGroup.{RaceGroup}

@@ -1,5 +1,5 @@
 -- Each race is counted in exactly one group.
-use Rattle.race_groups.proofs.Common.{◌≡◌, ℕ, zero, suc, ◌+◌, ◌<◌, Bool, true, false, cond, List, [], ◌∷◌, filter, inl, inr, arith, refl, ap, sym, subst, ◌∙◌, true≢false, Option, Some, not, count_by, slice_get, Contains, sum_by-cons, In, in_from_contains, contains_from_in, in_kept, in_from_kept, got_in, Race, RaceGroup, lines_of_race, same_pair, same_lines, groups_of, IsRaceGrouping, GroupsAreExact}
+use Rattle.race_groups.proofs.Common.{◌≡◌, ℕ, zero, suc, ◌+◌, ◌<◌, Bool, true, false, cond, List, [], ◌∷◌, filter, inl, inr, arith, refl, ap, sym, subst, ◌∙◌, true≢false, Option, Some, not, count_by, slice_get, Contains, sum_by-cons, In, in_from_contains, contains_from_in, in_kept, in_from_kept, got_in, Race, RaceGroup, lines_of_race, same_pair, same_lines, groups_of, IsRaceGrouping, RaceGroupsAreExact}
 use Rattle.race_groups.proofs.Gathering.{pair_is, pair_itself, same_left, elsewhere}
 
 unless : (b : Bool) → not b ≡ true → b ≡ false
@@ -72,7 +72,7 @@ apart_at (x ∷ gs) zero (suc k) g h a lt e f =
     ap (λ (y : RaceGroup). same_lines y.example h.example) (sym d) ∙ a.0 h (got_in gs k h f)
 apart_at (x ∷ gs) (suc j) (suc k) g h a lt e f = apart_at gs j k g h a.1 (omega (arith, lt)) e f
 
-pub exact : GroupsAreExact
+pub exact : RaceGroupsAreExact
 exact rs = record {
   every = λ r c. let h = every_in rs r (in_from_contains rs r c) in (h.0, contains_from_in (groups_of rs) h.0 h.1, h.2);
   each = λ g c. let h = each_in rs g (in_from_contains (groups_of rs) g c) in (contains_from_in rs g.example h.0, h.1);

@@ -13,5 +13,5 @@ abbrev pub lines_of_groups : List RaceGroup → List Lines
 lines_of_groups gs = map (λ (g : RaceGroup). lines_of_race g.example) gs
 
 -- no group's count overflows by one more race
-abbrev pub AreFew : List RaceGroup → Type 0
-AreFew gs = (k : ℕ) (g : RaceGroup) → slice_get gs k ≡ Some g → g.fields + 1 < 2 ^ 64
+abbrev pub CountsFit : List RaceGroup → Type 0
+CountsFit gs = (k : ℕ) (g : RaceGroup) → slice_get gs k ≡ Some g → g.fields + 1 < 2 ^ 64

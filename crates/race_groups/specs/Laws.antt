@@ -12,5 +12,5 @@ pub record IsRaceGrouping (races : List Race) (groups : List RaceGroup) : Type 0
   -- no two groups are on one pair of lines
   pub apart : (j k : ℕ) (g h : RaceGroup) → j < k → slice_get groups j ≡ Some g → slice_get groups k ≡ Some h → same_lines g.example h.example ≡ false
 
-abbrev pub GroupsAreExact : Type 0
-GroupsAreExact = (races : List Race) → IsRaceGrouping races (groups_of races)
+abbrev pub RaceGroupsAreExact : Type 0
+RaceGroupsAreExact = (races : List Race) → IsRaceGrouping races (groups_of races)

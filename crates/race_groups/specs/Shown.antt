@@ -18,6 +18,6 @@ abbrev pub shown_of : List ℕ → ProgramText → List Race → ShownRaces
 shown_of source p races = record { races = length races; text = groups_text (lines_of source) (has_swaps p) (length races) (groups_of races) }
 
 -- this is shown of the races that the report of a journal has
-abbrev pub IsShown : List ℕ → ProgramText → SettingsValue → List EntryValue → ShownRaces → Type 0
-IsShown source p s journal shown =
+abbrev pub RacesAreShown : List ℕ → ProgramText → SettingsValue → List EntryValue → ShownRaces → Type 0
+RacesAreShown source p s journal shown =
     (races : List Race) × IsReport (machine_of p s journal).edges (accesses p (field_limit s.version) (tasks_of journal)) races × (shown ≡ shown_of source p races)

@@ -31,7 +31,7 @@ impl Model for RaceGroups {
 impl RaceGroups {
     ghost use Rattle.std.specs.Prelude.{◌≡◌, ◌<◌, ◌+◌, ◌∷◌, ◌++◌, [], length, Some, None, OnOk, position, slice_get, slice_set};
     ghost use Rattle.race_groups.specs.RaceGroups.{lines_of_race, same_pair, group_of};
-    ghost use Rattle.race_groups.specs.Gathered.{with_grouped_race, lines_of_groups, AreFew};
+    ghost use Rattle.race_groups.specs.Gathered.{with_grouped_race, lines_of_groups, CountsFit};
 
     fn new(alloc: Global) -> RaceGroups
         ensures { result ≡ [] }
@@ -45,7 +45,7 @@ impl RaceGroups {
     // Counts one more race in the group at a place.
     fn count(&mut self, place: usize)
         requires within { place < length self.old }
-        requires few { AreFew self.old }
+        requires few { CountsFit self.old }
         ensures { (g : RaceGroup) → slice_get self.old place ≡ Some g → self.new ≡ slice_set self.old place (record g { fields = g.fields + 1 }) }
     {
         let mut group = self.list[place];
@@ -73,7 +73,7 @@ impl RaceGroups {
 
     /// Adds a race.
     fn add(&mut self, race: &Race) -> Result<(), AllocError>
-        requires { AreFew self.old }
+        requires { CountsFit self.old }
         ensures { OnOk result (self.new ≡ with_grouped_race self.old race.now) }
     {
         match self.place(lines_of_race(race)) {

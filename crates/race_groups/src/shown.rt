@@ -3,7 +3,7 @@
 ghost use Rattle.std.specs.Prelude.{◌≡◌, None, OnOk, IfOk, IfErr};
 ghost use Rattle.run_ledger.specs.Journals.{refused_as_run};
 ghost use Rattle.run_journal.specs.Replay.{ReplayFails};
-ghost use Rattle.race_groups.specs.Shown.{IsShown, shown_of};
+ghost use Rattle.race_groups.specs.Shown.{RacesAreShown, shown_of};
 
 use crate::groups::group_races;
 use crate::swaps::has_swaps;
@@ -56,7 +56,7 @@ pub fn shown_races(
     journal: &[Entry],
 ) -> Result<ShownRaces, ReplayError>
     ensures whole { OnOk result (refused_as_run program.now settings journal.now ≡ None) }
-    ensures shown { IfOk result (IsShown source.now program.now settings journal.now) }
+    ensures shown { IfOk result (RacesAreShown source.now program.now settings journal.now) }
     ensures fails { IfErr result (ReplayFails (refused_as_run program.now settings journal.now)) }
 {
     let races = races_of_run(alloc, program, settings, journal)?;

@@ -1,5 +1,5 @@
 -- The record of one field is exact: nothing if there is no access, no race while it waits, and otherwise its pair.
-use Rattle.race_report.proofs.Common.{◌≡◌, ℕ, zero, suc, ◌<◌, ◌≤◌, Bool, true, false, cond, Option, Some, None, List, [], ◌∷◌, ◌++◌, length, slice_get, filter, ◌⊎◌, inl, inr, refl, ap, sym, subst, ◌∙◌, arith, append_assoc, append-nil, both_ways, same_Some, In, in_kept, got_front, got_within, got_in, got_last, Seen, Open, Watch, Found, allows, Key, bound_for, clashes, first_clash, found_by, watched_from, watched_with, key_of, nothing_yet, or_nothing, race_between, same_key, watch_with, with_access}
+use Rattle.race_report.proofs.Common.{◌≡◌, ℕ, zero, suc, ◌<◌, ◌≤◌, Bool, true, false, cond, Option, Some, None, List, [], ◌∷◌, ◌++◌, length, slice_get, filter, ◌⊎◌, inl, inr, refl, ap, sym, subst, ◌∙◌, arith, append_assoc, append-nil, both_ways, same_Some, In, in_kept, got_front, got_within, got_in, got_last, Seen, Open, Watch, Found, allows, Key, bound_for, clashes, first_clash, found_by, watched_from, watched_with, key_of, nothing_yet, watch_or_none, race_between, same_key, watch_with, with_access}
 use Rattle.race_report.specs.declared.data.Watch.TheVariants.{Open as Waits}
 use Rattle.race_report.proofs.Alike.{SameFor, StrandsTell, access_earlier, all_free, first_same, firsts_from, firsts_push, same_for, with_new}
 use Rattle.race_report.proofs.Keys.{same_key_is, same_key_itself}
@@ -237,15 +237,15 @@ module _ (q : Key) where
             unchosen_by_cases true c = absurd (G i v e (same_key_is (key v) q c))
             unchosen_by_cases false c = refl
 
-    or_good : (w : Option Watch) → Good ss w → GoodWatch ss (or_nothing w)
+    or_good : (w : Option Watch) → Good ss w → GoodWatch ss (watch_or_none w)
     or_good None G = nothing_good G
     or_good (Some w) G = G
 
   good_step : (ss : List Seen) (x : Seen) (w : Option Watch) → SameFor x (filter chosen ss) → Good ss w → Good (ss ++ x ∷ []) (watched_with q w x)
   good_step ss x w same G = good_step_by_cases (chosen x) refl
     where
-      good_step_by_cases : (b : Bool) → chosen x ≡ b → Good (ss ++ x ∷ []) (cond b (Some (watch_with (or_nothing w) x)) w)
-      good_step_by_cases true e = let kx = same_key_is (key x) q e in with_watch ss x kx same (or_nothing w) (or_good ss x kx same w G)
+      good_step_by_cases : (b : Bool) → chosen x ≡ b → Good (ss ++ x ∷ []) (cond b (Some (watch_with (watch_or_none w) x)) w)
+      good_step_by_cases true e = let kx = same_key_is (key x) q e in with_watch ss x kx same (watch_or_none w) (or_good ss x kx same w G)
       good_step_by_cases false e = other ss x (λ k. both_ways (chosen x) e (choose x k)) e w G
 
   good_from : (ss xs : List Seen) (w : Option Watch) → StrandsTell (ss ++ xs) → Good ss w → Good (ss ++ xs) (watched_from q w xs)

@@ -93,9 +93,9 @@ watch_with (Waits o) v = if allows (bound_for o v.access) v.label then Waits (wi
 abbrev pub nothing_yet : Watch
 nothing_yet = Waits (record { earlier = []; all = bound [] false; writes = bound [] false; plain = bound [] false; plain_writes = bound [] false })
 
-abbrev pub or_nothing : Option Watch → Watch
-or_nothing None = nothing_yet
-or_nothing (Some w) = w
+abbrev pub watch_or_none : Option Watch → Watch
+watch_or_none None = nothing_yet
+watch_or_none (Some w) = w
 
 -- ALL FIELDS
 
@@ -118,7 +118,7 @@ same_key a b = is_eq (key_cmp a b)
 
 -- the record at a key, with one more access
 abbrev pub watched_with : Key → Option Watch → Seen → Option Watch
-watched_with q w v = if same_key (key_of v.access.field) q then Some (watch_with (or_nothing w) v) else w
+watched_with q w v = if same_key (key_of v.access.field) q then Some (watch_with (watch_or_none w) v) else w
 
 -- and with these accesses
 abbrev pub watched_from : Key → Option Watch → List Seen → Option Watch

@@ -3,7 +3,7 @@
 ghost use Rattle.std.specs.Prelude.{◌≡◌, ◌<◌, ◌^◌, ℕ, pos, IfSome};
 ghost use Rattle.run_journal.specs.below.hh_model.{StepContext, effect, place_in};
 ghost use Rattle.race_report.specs.Accesses.{next_access, access_by, unless_trap};
-ghost use Rattle.race_report.specs.Few.{AreFew};
+ghost use Rattle.race_report.specs.Few.{FieldsAreIndexable};
 
 use crate::data::{Field, FieldAccess};
 use run_journal::{Frame, Instr, IntReg, MachineState, Program, RefReg, Strand, is_same};
@@ -49,7 +49,7 @@ fn getr_access(
     object: RefReg,
     index: IntReg,
 ) -> Option<FieldAccess>
-    requires { AreFew state.now.store }
+    requires { FieldsAreIndexable state.now.store }
     ensures { (s : StepContext) (d : ℕ) → result ≡ unless_trap (effect s top.now state.now.store (Instr.Getr d object index)) (access_by at.strand at.line top.now state.now.store (Instr.Getr d object index)) }
 {
     let name = top.reference(object)?;
@@ -75,7 +75,7 @@ fn geti_access(
     object: RefReg,
     index: IntReg,
 ) -> Option<FieldAccess>
-    requires { AreFew state.now.store }
+    requires { FieldsAreIndexable state.now.store }
     ensures { (s : StepContext) (d : ℕ) → result ≡ unless_trap (effect s top.now state.now.store (Instr.Geti d object index)) (access_by at.strand at.line top.now state.now.store (Instr.Geti d object index)) }
 {
     let name = top.reference(object)?;
@@ -96,7 +96,7 @@ fn putr_access(
     object: RefReg,
     index: IntReg,
 ) -> Option<FieldAccess>
-    requires { AreFew state.now.store }
+    requires { FieldsAreIndexable state.now.store }
     ensures { (s : StepContext) (v : ℕ) → result ≡ unless_trap (effect s top.now state.now.store (Instr.Putr object index v)) (access_by at.strand at.line top.now state.now.store (Instr.Putr object index v)) }
 {
     let name = top.reference(object)?;
@@ -120,7 +120,7 @@ fn puti_access(
     object: RefReg,
     index: IntReg,
 ) -> Option<FieldAccess>
-    requires { AreFew state.now.store }
+    requires { FieldsAreIndexable state.now.store }
     ensures { (s : StepContext) (v : ℕ) → result ≡ unless_trap (effect s top.now state.now.store (Instr.Puti object index v)) (access_by at.strand at.line top.now state.now.store (Instr.Puti object index v)) }
 {
     let name = top.reference(object)?;
@@ -145,7 +145,7 @@ fn cas_access(
     index: IntReg,
     expected: RefReg,
 ) -> Option<FieldAccess>
-    requires { AreFew state.now.store }
+    requires { FieldsAreIndexable state.now.store }
     ensures { (s : StepContext) (d v : ℕ) → result ≡ unless_trap (effect s top.now state.now.store (Instr.Cas d object index expected v)) (access_by at.strand at.line top.now state.now.store (Instr.Cas d object index expected v)) }
 {
     let name = top.reference(object)?;
@@ -165,7 +165,7 @@ fn cas_access(
 
 // The access of an instruction, unless it traps.
 fn instr_access(state: &MachineState, top: &Frame, at: Place, instr: Instr) -> Option<FieldAccess>
-    requires { AreFew state.now.store }
+    requires { FieldsAreIndexable state.now.store }
     ensures { (s : StepContext) → result ≡ unless_trap (effect s top.now state.now.store instr) (access_by at.strand at.line top.now state.now.store instr) }
 {
     match instr {
@@ -182,7 +182,7 @@ fn instr_access(state: &MachineState, top: &Frame, at: Place, instr: Instr) -> O
 
 /// The access of a task's next step, if it can take one and makes one.
 pub(crate) fn next_access(program: &Program, state: &MachineState, t: u32) -> Option<FieldAccess>
-    requires { AreFew state.now.store }
+    requires { FieldsAreIndexable state.now.store }
     ensures { result ≡ next_access program.now state.now t }
 {
     if !state.can_step(t) {

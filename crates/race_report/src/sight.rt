@@ -1,7 +1,7 @@
 // What a task's next step adds to a scan.
 
 ghost use Rattle.std.specs.Prelude.{◌≡◌};
-ghost use Rattle.race_report.specs.Few.{AreFew};
+ghost use Rattle.race_report.specs.Few.{FieldsAreIndexable};
 ghost use Rattle.race_report.specs.Sights.{swap_of, said_of, looked_of};
 
 use crate::access::next_access;
@@ -65,7 +65,7 @@ pub(crate) fn looked_of(
     state: &MachineState,
     t: u32,
 ) -> Option<FieldAccess>
-    requires { AreFew state.now.store }
+    requires { FieldsAreIndexable state.now.store }
     ensures { result ≡ looked_of sight program.now state.now t }
 {
     match sight {

@@ -14,7 +14,7 @@ pub use Rattle.plain_vec.proofs.Places.{all_from, read_in, map_in, in_map, in_re
 pub use Rattle.race_cells.proofs.Continuing.{scans_go_on}
 pub use Rattle.race_cells.proofs.Exactness.{scan_is_exact}
 pub use Rattle.race_cells.specs.CellAccess.{entry_of}
-pub use Rattle.race_cells.specs.Laws.{AreInOrder, IsExact}
+pub use Rattle.race_cells.specs.Laws.{AreStrandsInOrder, IsExact}
 pub use Rattle.race_cells.specs.Order.{StrandOrder}
 pub use Rattle.race_cells.specs.Scan.{after, no_stacks, race_among, race_at, reported, scanned}
 pub use Rattle.race_cells.specs.declared.access.CellAccess.{CellAccess}

@@ -1,5 +1,5 @@
 -- What was found is what is to be told.
-use Rattle.race_scan.proofs.Common.{ℕ, suc, ◌<◌, ◌≤◌, List, [], ◌∷◌, All, AllPairs, map, filter, sym, subst, arith, AllPairs-cons, AllPairs-filter, in_from_kept, all_from, read_in, map_in, CellAccess, StrandOrder, AreInOrder, IsExact, scan_is_exact, Touch, accesses_at, covers, AreSerial, ScansAreExact}
+use Rattle.race_scan.proofs.Common.{ℕ, suc, ◌<◌, ◌≤◌, List, [], ◌∷◌, All, AllPairs, map, filter, sym, subst, arith, AllPairs-cons, AllPairs-filter, in_from_kept, all_from, read_in, map_in, CellAccess, StrandOrder, AreStrandsInOrder, IsExact, scan_is_exact, Touch, accesses_at, covers, AreSerial, ScansAreExact}
 
 module _ {A : Type 0} (R : A → A → Type 0) where
   first_with : (x : A) (xs : List A) → AllPairs R (x ∷ xs) → All (R x) xs
@@ -17,7 +17,7 @@ pairs_map f R (x ∷ xs) all =
     subst (R (f x)) m.2 (read_in (λ u. R (f x) (f u)) xs m.0 m.1 (first_with (λ u v. R (f u) (f v)) x xs all))))
     (pairs_map f R xs (rest_with (λ u v. R (f u) (f v)) x xs all))
 
-in_order : (o : StrandOrder) (touches : List Touch) → AreSerial o touches → (block x : ℕ) → AreInOrder o (accesses_at touches block x)
+in_order : (o : StrandOrder) (touches : List Touch) → AreSerial o touches → (block x : ℕ) → AreStrandsInOrder o (accesses_at touches block x)
 in_order o touches serial block x =
     let kept = filter (λ (t : Touch). covers t.region block x) touches in
     record {

@@ -24,7 +24,7 @@ pub use Rattle.ledger_step_laws.specs.Accounts.{own, Rests, StepsAlone, ChangesH
 pub use Rattle.ledger_step_laws.specs.Kinds.{EndsTask, ForksTask, JoinsTasks, TasksCanJoin, StoresOne, StoresNumber, onward_with}
 pub use Rattle.mark_sweep_gc.proofs.GoingOn.{marking_goes_on}
 pub use Rattle.mark_sweep_gc.specs.MarkingValue.{IsMarking, MarkingValue}
-pub use Rattle.mark_sweep_gc.specs.Snapshot.{Fork, IsInSnapshot, Starts}
+pub use Rattle.mark_sweep_gc.specs.Snapshot.{Fork, IsInSnapshot, MarkStarts}
 pub use Rattle.object_layout.proofs.Distinct.{is_same, same_is}
 pub use Rattle.object_layout.specs.Chunks.{same_address}
 pub use Rattle.object_layout.specs.Graph.{HasObjectAt, RefersTo}
@@ -33,7 +33,7 @@ pub use Rattle.object_layout.specs.declared.word.Addr.{Addr}
 pub use Rattle.plain_vec.proofs.Members.{got_in, in_append_left, in_append_right, in_append_cases, in_from_any, got_cases, contains_from_in, in_from_contains, in_kept, in_from_kept, in_flat, got_other, any_from_in}
 pub use Rattle.plain_vec.proofs.Places.{map_in, each_in, in_map, in_got}
 pub use Rattle.plain_vec.specs.Members.{is_empty}
-pub use Rattle.refinement.specs.LeafCollectionBegins.{IsReachedAt, AreRoots, IsRoot, StartsAt, LeadsAt}
+pub use Rattle.refinement.specs.LeafCollectionBegins.{IsReachedAt, AreRoots, IsRememberedRoot, StartsAt, LeadsAt}
 pub use Rattle.refinement.specs.Changes.{Moves, EndsBelongings, StepsInBelongings, ForksBelongings, advanced, entered_frames, child_belongings, JoinsBelongings, with_results, top_with_results, WritesAt, StoresAt, StoresNumberAt, with_int_field, BelongingsAreRead, Allocates, SameBut, SameObjects, KeepsJust, with_field, gone_on, WritesWell}
 pub use Rattle.refinement.specs.Fits.{with_belongings, Part, FitsAt, part_for}
 pub use Rattle.refinement.specs.Frames.{Collects, IsSteady}
@@ -42,14 +42,14 @@ pub use Rattle.refinement.specs.Marking.{CanGoOnMarking, MarkedBy}
 pub use Rattle.refinement.specs.Memory.{Belongings, Memory, In, object_name, objects, objects_of_chunks, sources, Lies, copied_object, rewritten, rewritten_belongings, Chunk, frozen_chunk, frozen_chunks, no_belongings, mapped_chunk, put_at, shown_at, is_source, rewritten_refs, chunk_among, seen_at, seen_in, as_shown, mapped_belongings}
 pub use Rattle.refinement.specs.ReadsReference.{IsModelObject, FramesAreRead, HoldsRead, TaskIsRead, ReadsReference, FrameIsRead, AllRead}
 pub use Rattle.refinement.specs.Since.{kept, Since, NotedAt, SameNotes, NoNotes, StaysWhole}
-pub use Rattle.refinement.specs.Stands.{Place, HasNames, BelongingsStand, Stands, IsSource, small_chunks, large_chunks, IsShown, GivesLevel, HasNumber}
+pub use Rattle.refinement.specs.MemoryStands.{LiesWithOwner, ChunksHaveNames, BelongingsStand, MemoryStands, IsSource, small_chunks, large_chunks, AboveIsShown, GivesLevel, LevelHasChunk}
 pub use Rattle.remembered_set.specs.declared.remembered.RefField.{RefField}
 pub use Rattle.run_ledger.proofs.Machine.{heap_machine}
 pub use Rattle.run_ledger.proofs.Reached.{reached_root, reached_is_walks}
 pub use Rattle.run_ledger.proofs.Sound.{in_held, held_keeps}
 pub use Rattle.run_ledger.specs.Heaps.{heap_of, or_fresh, fresh, emptied, merged, forked_heap, with_heap, let_go, heap_at, within, held, held_in, frames_of, roots_of, is_proper_ancestor, units}
 pub use Rattle.run_ledger.specs.Reachable.{StartsWithin, LeadsWithin}
-pub use Rattle.run_ledger.specs.Sound.{SoundLedger, Spares, survivors_at, collecting, InHeaps, Keeps, snapshot_at, names_of}
+pub use Rattle.run_ledger.specs.Sound.{SoundLedger, Spares, survivors_at, collecting, InHeaps, SomeHeapHas, snapshot_at, heap_names}
 pub use Rattle.run_ledger.specs.Steps.{task_steps}
 pub use Rattle.run_ledger.specs.declared.data.Heap.{Heap}
 pub use Rattle.run_ledger.specs.declared.data.Ledger.{Ledger}

@@ -6,7 +6,7 @@ use Rattle.refinement.specs.Common.{Addr, Located, Name, Object, Running, Ended,
 use Rattle.refinement.specs.Memory.{Chunk, Belongings, no_belongings, Memory, In, object_name, objects, sources, Lies, frozen_chunks, copied_object, rewritten_belongings, mapped_chunk, put_at}
 use Rattle.refinement.specs.Layout.{words}
 use Rattle.refinement.specs.ReadsReference.{IsModelObject, TaskIsRead}
-use Rattle.refinement.specs.Stands.{Place, BelongingsStand, IsSource}
+use Rattle.refinement.specs.MemoryStands.{LiesWithOwner, BelongingsStand, IsSource}
 
 -- THE MEMORY
 
@@ -133,16 +133,16 @@ pub record WritesAt (v v' : Memory) (t : ℕ) (a : Addr) (f : Located → Locate
 
 -- what the call shows of the object and of the task that writes it
 pub record WritesWell (v v' : Memory) (l l' : Ledger) (t : ℕ) (n : Name) (a : Addr) (x x' : Object) (f : Located → Located) : Type 0 where
-  pub place : Place v l n a
+  pub place : LiesWithOwner v l n a
   pub rests : Rests l (own l n)
   pub mutable : x.mutable ≡ true
   pub still : x'.mutable ≡ true
-  pub reads : (o : Located) → IsModelObject (Place v l) o x → IsModelObject (Place v l) (f o) x'
+  pub reads : (o : Located) → IsModelObject (LiesWithOwner v l) o x → IsModelObject (LiesWithOwner v l) (f o) x'
   -- each reference that it has now goes up or inside, or is remembered
   pub minds : (i : ℕ) (r : Name) → slice_get x'.refs i ≡ Some (Some r) → (is_on_path l.machine.tasks (own l r) (own l n) ≡ true) ⊎ In (sources v' (own l r)) (record { object = a; field = i })
   -- what is noted is admissible
   pub sources : (u : ℕ) (s : RefField) → In (sources v' u) s → IsSource v l u s
-  pub task : (y : Task) → Rests l t → slice_get l'.machine.tasks t ≡ Some y → TaskIsRead (Place v l) (v'.belongings t) y
+  pub task : (y : Task) → Rests l t → slice_get l'.machine.tasks t ≡ Some y → TaskIsRead (LiesWithOwner v l) (v'.belongings t) y
 
 -- STEPS OF ONE'S OWN: the task t, at rest with its belongings in the memory, takes a private step
 
@@ -158,8 +158,8 @@ pub record StepsInBelongings (v v' : Memory) (t : ℕ) : Type 0 where
 -- what is shown of its own belongings after the step
 pub record BelongingsAreRead (v' : Memory) (l' : Ledger) (t : ℕ) : Type 0 where
   pub belongings : BelongingsStand v' l' t
-  pub contents : (o : Located) → In (objects v' t) o → (x : Object) × (object_at l'.machine.store (object_name o) ≡ Some x) × IsModelObject (Place v' l') o x
-  pub task : (x : Task) → slice_get l'.machine.tasks t ≡ Some x → TaskIsRead (Place v' l') (v'.belongings t) x
+  pub contents : (o : Located) → In (objects v' t) o → (x : Object) × (object_at l'.machine.store (object_name o) ≡ Some x) × IsModelObject (LiesWithOwner v' l') o x
+  pub task : (x : Task) → slice_get l'.machine.tasks t ≡ Some x → TaskIsRead (LiesWithOwner v' l') (v'.belongings t) x
 
 -- it allocates o, which is x
 pub record Allocates (v v' : Memory) (l l' : Ledger) (t : ℕ) (o : Located) (x : Object) : Type 0 where
@@ -168,9 +168,9 @@ pub record Allocates (v v' : Memory) (l l' : Ledger) (t : ℕ) (o : Located) (x 
   pub new : object_at l.machine.store (object_name o) ≡ None
   pub belongings : BelongingsStand v' l' t
   pub objects : (q : Located) → In (objects v' t) q ↔ (In (objects v t) q ⊎ (o ≡ q))
-  pub reads : IsModelObject (Place v l) o x
+  pub reads : IsModelObject (LiesWithOwner v l) o x
   -- its register names the new object, and its other references are unchanged
-  pub task : (y : Task) → slice_get l'.machine.tasks t ≡ Some y → TaskIsRead (λ n a. Place v l n a ⊎ ((object_name o ≡ n) × (o.at ≡ a))) (v'.belongings t) y
+  pub task : (y : Task) → slice_get l'.machine.tasks t ≡ Some y → TaskIsRead (λ n a. LiesWithOwner v l n a ⊎ ((object_name o ≡ n) × (o.at ≡ a))) (v'.belongings t) y
 
 -- NOTHING MOVES: chunks are taken, counts are set, objects are marked
 

@@ -4,7 +4,7 @@ use Rattle.std.specs.Option.{option_map}
 use Rattle.refinement.specs.Common.{Addr, Located, ProgramText, SettingsValue, Ledger, heap_of, collected, led_frame}
 use Rattle.refinement.specs.Memory.{Chunk, Belongings, Memory, In, object_name, objects_of_chunks, sources, copied_object, rewritten_belongings}
 use Rattle.refinement.specs.Layout.{AreLaidOut}
-use Rattle.refinement.specs.Stands.{HasNames}
+use Rattle.refinement.specs.MemoryStands.{ChunksHaveNames}
 use Rattle.refinement.specs.Fits.{Part, FitsAt, with_belongings, ahead, part_for}
 use Rattle.refinement.specs.Whole.{BegunBy}
 
@@ -20,7 +20,7 @@ part_before s t h = part_for s t h 0
 -- h' is a copy of the belongings h of t: the survivors of h are where f leads to, laid out as the account says after
 -- the end
 pub record IsCopy (v : Memory) (l : Ledger) (t : ℕ) (h h' : Belongings) (f : Addr → Addr) : Type 0 where
-  pub names : HasNames h'.chunks (collected l.machine (heap_of l t))
+  pub names : ChunksHaveNames h'.chunks (collected l.machine (heap_of l t))
   pub room : h'.room ≡ (collected l.machine (heap_of l t)).room
   pub since : h'.since ≡ 0
   pub count : h'.count ≡ h.count

@@ -3,7 +3,7 @@
 use Rattle.std.specs.Prelude.{◌≡◌, ℕ, ◌≤◌, ◌==◌, Some, if◌then◌else◌}
 use Rattle.refinement.specs.Common.{ProgramText, SettingsValue, field_limit, Ledger, heap_of, task_steps, most_steps, rested, ArePrivate, aside}
 use Rattle.refinement.specs.Memory.{Belongings, Memory}
-use Rattle.refinement.specs.Stands.{Stands}
+use Rattle.refinement.specs.MemoryStands.{MemoryStands}
 
 -- what a worker holds: a task's belongings, how many steps the task took since the worker's last entry, and its limits:
 -- the words after which a collection is due, and the most fields of an object
@@ -33,8 +33,8 @@ pub record FitsAt (p : ProgramText) (s : SettingsValue) (q : Part) (v : Memory) 
   -- at most as many as one entry holds
   pub few : q.fresh ≤ most_steps
   pub private : ArePrivate p s l q.task q.fresh
-  pub stands : Stands (with_belongings v q.task q.belongings) (ahead p q l)
+  pub stands : MemoryStands (with_belongings v q.task q.belongings) (ahead p q l)
 
 -- after the run has ended a part of another task fits as before: its steps are those that the machine would take
-abbrev pub StillFits : ProgramText → SettingsValue → Part → Memory → Ledger → Type 0
-StillFits p s q v l = FitsAt p s q v (aside l)
+abbrev pub FitsAfterRun : ProgramText → SettingsValue → Part → Memory → Ledger → Type 0
+FitsAfterRun p s q v l = FitsAt p s q v (aside l)

@@ -18,7 +18,7 @@ abbrev pub IsReachedAt : Belongings → List Addr → Addr → Type 0
 IsReachedAt h roots a = IsReached (StartsAt h roots) (LeadsAt h) a
 
 -- a remembered field refers to the address now, in a chunk of the task
-pub record IsRoot (v : Memory) (l : Ledger) (t : ℕ) (a : Addr) : Type 0 where
+pub record IsRememberedRoot (v : Memory) (l : Ledger) (t : ℕ) (a : Addr) : Type 0 where
   pub source : RefField
   pub task : ℕ
   pub object : Located
@@ -31,4 +31,4 @@ pub record IsRoot (v : Memory) (l : Ledger) (t : ℕ) (a : Addr) : Type 0 where
 
 -- the roots are exactly these
 abbrev pub AreRoots : Memory → Ledger → ℕ → List Addr → Type 0
-AreRoots v l t roots = (a : Addr) → In roots a ↔ IsRoot v l t a
+AreRoots v l t roots = (a : Addr) → In roots a ↔ IsRememberedRoot v l t a

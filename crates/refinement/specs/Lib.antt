@@ -1,7 +1,7 @@
 pub mod Memory
 pub mod Layout
 pub mod ReadsReference
-pub mod Stands
+pub mod MemoryStands
 pub mod LeafCollectionBegins
 pub mod Marking
 pub mod Since

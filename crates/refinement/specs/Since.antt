@@ -2,7 +2,7 @@
 use Rattle.std.specs.Prelude.{◌≡◌, ◌⊎◌, ◌↔◌, ◌&&◌, not, ℕ, true, false, Some, None, List, [], ◌++◌, length, slice_get}
 use Rattle.refinement.specs.Common.{is_waiting, Addr, Located, Ledger, heap_of, CallFrame}
 use Rattle.refinement.specs.Memory.{Belongings, Memory, In, object_name, objects, objects_of_chunks}
-use Rattle.refinement.specs.LeafCollectionBegins.{IsReachedAt, IsRoot}
+use Rattle.refinement.specs.LeafCollectionBegins.{IsReachedAt, IsRememberedRoot}
 use Rattle.refinement.specs.Marking.{MarkedBy}
 
 abbrev pub kept : Memory → ℕ → List Addr
@@ -15,7 +15,7 @@ pub record Since (v : Memory) (l : Ledger) (t : ℕ) : Type 0 where
   -- its frames have the references that they had
   pub registers : (f : CallFrame) → In belongings.frames f → (g : CallFrame) × In (v.belongings t).frames g × (g.refs ≡ f.refs)
   -- each root is still one, or was kept
-  pub rooted : (b : Addr) → In roots b → IsRoot v l t b ⊎ In (kept v t) b
+  pub rooted : (b : Addr) → In roots b → IsRememberedRoot v l t b ⊎ In (kept v t) b
   -- its objects are those that are there now, where they are
   pub there : (o : Located) → In (objects_of_chunks belongings.chunks) o → (q : Located) × In (objects v t) q × (q.at ≡ o.at) × (object_name q ≡ object_name o)
   pub were : (q : Located) → In (objects v t) q → (o : Located) × In (objects_of_chunks belongings.chunks) o × (q.at ≡ o.at) × (object_name q ≡ object_name o)
@@ -26,7 +26,7 @@ pub record Since (v : Memory) (l : Ledger) (t : ℕ) : Type 0 where
   pub each : (b : Addr) → In (kept v t) b → (q : Located) × In (objects v t) q × (q.at ≡ b) × In (heap_of l t).snapshot (object_name q)
 
 -- a write of the field i of the object at a in the memory v: the old value is kept if it points into t's heap
-pub record Keeps (v v' : Memory) (t : ℕ) (a : Addr) (i : ℕ) : Type 0 where
+pub record KeepsOldValue (v v' : Memory) (t : ℕ) (a : Addr) (i : ℕ) : Type 0 where
   pub marked : (v'.noted t).marked ≡ (v.noted t).marked
   pub more : List Addr
   pub grows : kept v' t ≡ kept v t ++ more
@@ -49,7 +49,7 @@ pub record SameNotes (v v' : Memory) (l l' : Ledger) (u : ℕ) : Type 0 where
   -- and it gets no chunk
   pub none_new : (k : ℕ) → v'.owner k ≡ Some u → v.owner k ≡ Some u
   pub frames : (v'.belongings u).frames ≡ (v.belongings u).frames
-  pub rooted : (b : Addr) → IsRoot v l u b → IsRoot v' l' u b
+  pub rooted : (b : Addr) → IsRememberedRoot v l u b → IsRememberedRoot v' l' u b
 
 -- nothing is kept of it any more, or not yet
 pub record NoNotes (v' : Memory) (l' : Ledger) (u : ℕ) : Type 0 where
@@ -109,4 +109,4 @@ pub record OthersNotes (v v' : Memory) (t : ℕ) : Type 0 where
 pub record StoresNotes (v v' : Memory) (t : ℕ) (a : Addr) (i : ℕ) : Type 0 where
   pub none : (v'.noted t).keeps ≡ false
   pub keeps : (u : ℕ) → (u ≡ t → ⊥) → (v'.noted u).keeps ≡ (v.noted u).keeps
-  pub each : (u : ℕ) → (u ≡ t → ⊥) → (v.noted u).keeps ≡ true → Keeps v v' u a i
+  pub each : (u : ℕ) → (u ≡ t → ⊥) → (v.noted u).keeps ≡ true → KeepsOldValue v v' u a i

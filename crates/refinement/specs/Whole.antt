@@ -6,7 +6,7 @@ use Rattle.refinement.specs.Common.{TaskStatus, Running, Ended, Task, is_waiting
 use Rattle.hh_model.specs.declared.data.TaskStatus.TheVariants.{Waiting, Joined}
 use Rattle.heap_tree.specs.declared.state.TaskState.TheVariants.{Ended as HasEnded}
 use Rattle.refinement.specs.Memory.{Chunk, Memory, In, object_name, objects}
-use Rattle.refinement.specs.Stands.{Stands}
+use Rattle.refinement.specs.MemoryStands.{MemoryStands}
 use Rattle.refinement.specs.LeafCollectionBegins.{IsReachedAt}
 use Rattle.refinement.specs.Marking.{MarkedBy}
 use Rattle.refinement.specs.Since.{Since}
@@ -71,7 +71,7 @@ abbrev pub handed : Ledger → Ledger
 handed l = by_end l l.end
 
 pub record StandsFor (v : Memory) (c : TreeCounts) (l : Ledger) : Type 0 where
-  pub belongings : Stands v l
+  pub belongings : MemoryStands v l
   pub tree_counts : TreeCountsStand c l
   pub begun : (t : ℕ) → Rests l t → BegunBy v l t (v.belongings t).begun
   pub keeps : (t : ℕ) → (v.noted t).keeps ≡ (is_waiting (slice_get l.machine.tasks t) && not (heap_of l t).swept)

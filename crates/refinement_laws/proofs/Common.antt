@@ -29,12 +29,12 @@ pub use Rattle.refinement.proofs.objects.Carry.{object_kept, task_kept, object_b
 pub use Rattle.refinement.proofs.objects.LaidOut.{none_laid}
 pub use Rattle.refinement.proofs.objects.Mapped.{to_mapped}
 pub use Rattle.refinement.proofs.objects.Members.{in_chunk, in_objects, held_object, lies_in, object_held}
-pub use Rattle.refinement.specs.LeafCollectionBegins.{AreRoots, IsRoot, IsReachedAt, LeadsAt, StartsAt}
+pub use Rattle.refinement.specs.LeafCollectionBegins.{AreRoots, IsRememberedRoot, IsReachedAt, LeadsAt, StartsAt}
 pub use Rattle.refinement.specs.Changes.{KeepsJust, Moves, ForksBelongings, JoinsBelongings, StoresAt, StoresNumberAt, WritesAt, with_int_field, EndsBelongings, SameBut, SameObjects, HasResult, StepsInBelongings, gone_on, BelongingsAreRead}
 pub use Rattle.refinement.specs.Copies.{PartFits, part_before, CopyFits, EndsAt}
 pub use Rattle.refinement.specs.Counts.{IsQuiet, IsMarked, SameCounts, TakesNode, AsksUnits, CountsGo}
 pub use Rattle.refinement.specs.EntryMakes.{Stores, EntryMakes, taken_by, StoresInto, BelongingsAfterStore, StepsTo, BelongingsAfter}
-pub use Rattle.refinement.specs.Fits.{with_belongings, Part, FitsAt, ahead, part_for, StillFits}
+pub use Rattle.refinement.specs.Fits.{with_belongings, Part, FitsAt, ahead, part_for, FitsAfterRun}
 pub use Rattle.refinement.specs.Frames.{RunsWithPart, AreOut, NotOf, AllFitAt, with_all_belongings, all_ahead, IsSteady, Beside, EndsBeside}
 pub use Rattle.refinement.specs.Layout.{AreLaidOut}
 pub use Rattle.refinement.specs.Marks.{StoreMarks, Marks}
@@ -42,17 +42,17 @@ pub use Rattle.refinement.specs.Memory.{Belongings, In, Memory, object_name, obj
 pub use Rattle.refinement.specs.RanCounts.{node_then, NodesStay, NodeGoes, NodesFork, NodesJoin, TasksOutStay, LetsGo, RanCounts}
 pub use Rattle.refinement.specs.ReadsReference.{FramesAreRead, HoldsRead, IsModelObject, TaskIsRead, ReadsReference, FrameIsRead, AllRead}
 pub use Rattle.refinement.specs.Since.{NotedAt, SameNotes, AllNoted, NotesStay, Noting, ForksNotes, JoinsNotes, OthersNotes, StoresNotes, Since, kept, MarksOn}
-pub use Rattle.refinement.specs.Stands.{Stands, Place, GivesLevel, BelongingsStand, IsSource, IsShown, small_chunks, large_chunks}
+pub use Rattle.refinement.specs.MemoryStands.{MemoryStands, LiesWithOwner, GivesLevel, BelongingsStand, IsSource, AboveIsShown, small_chunks, large_chunks}
 pub use Rattle.refinement.specs.Whole.{BegunStands, LeafCollectionBegins, handed, BegunBy, StandsFor, TreeCounts, TreeCountsStand, state_by, StandsForAll, by_end}
 pub use Rattle.refinement.specs.Worker.{WorkersFit, IsBy, WorkerFits}
 pub use Rattle.refinement.specs.below.heap_tree.{TaskNode, Ready}
 pub use Rattle.refinement.specs.below.hh_lang.{Instr, Set, Mov, Movr, Nil, Calc, Same, Jmp, Jz, Newm, Pack, Getr, Geti, Putr, Puti, Cntr, Cnti, Freeze, Cas, Call, Par, Ret, Out, ProgramText, IsProgram}
 pub use Rattle.refinement.specs.below.hh_model.{Name, Object, MachineState, TaskStatus, Running, Waiting, Ended, Joined, Task, is_waiting, is_joined, is_over, waits, names_from, registers, Frame, ref_in, object_at, row_of, task_names, is_on_path, owner_of, goes_on, is_running, can_step, asked, int_in, onward, place_in, runs, IsStored, Closed, Done, Trapped, Entangled, root, parents, parent_of, result_of, step}
-pub use Rattle.refinement.specs.below.ledger_step_laws.{Rests, StepsAlone, ChangesHeap, TasksCanJoin, ForksTask, JoinsTasks, StoresOne, StoresNumber, rested, EndsTask, WritesOther, LastKind, Private, Reading, Writing, Printing, Forking, Ending, Joining, Finishing, Halting, IsOfKind, GoesOn, Splits, RunsPrivateSteps, own, AlikeFor, Leaves, Wrote, Knows, WritesOne, ArePrivate, aside, WorkerTakes, SameTasks, Halts, stepped_by, onward_with, LastStepEndsRun, EndsLast}
+pub use Rattle.refinement.specs.below.ledger_step_laws.{Rests, StepsAlone, ChangesHeap, TasksCanJoin, ForksTask, JoinsTasks, StoresOne, StoresNumber, rested, EndsTask, WritesOther, LastKind, Private, Reading, Writing, Printing, Forking, Ending, Joining, Finishing, Halting, IsOfKind, GoesOn, Splits, RunsPrivateSteps, own, AlikeFor, Leaves, ChangesByWrite, LedgerIsKnown, WritesOne, ArePrivate, aside, WorkerTakes, SameTasks, Halts, stepped_by, onward_with, LastStepEndsRun, EndsLast}
 pub use Rattle.refinement.specs.below.object_layout.{Addr, Located, same_address}
 pub use Rattle.refinement.specs.below.plain_vec.{option_is}
 pub use Rattle.refinement.specs.below.remembered_set.{RefField}
-pub use Rattle.refinement.specs.below.run_ledger.{Heap, Ledger, heap_of, within, SoundLedger, held_in, marked_in, is_name, let_go, or_fresh, task_steps, heap_at, InHeaps, Keeps, names_of, snapshot_at, touched, collected, with_heap, Sound, after, is_out, ledger_of, collecting, Pool, chunk_words, is_small_size, in_use, on_asked, after_kind, chunk_units, with_chunk, kind_refusal, is_ready, swept_heap, refusal, is_legal, take_of, with_heap_at, out_from, ChunkGoes, UseGoes, Machine, opening, is_legal_from, after_all, is_private, allocated_in, settled, stepped_to, task_step}
+pub use Rattle.refinement.specs.below.run_ledger.{Heap, Ledger, heap_of, within, SoundLedger, held_in, marked_in, is_name, let_go, or_fresh, task_steps, heap_at, InHeaps, SomeHeapHas, heap_names, snapshot_at, touched, collected, with_heap, Sound, after, is_out, ledger_of, collecting, Pool, chunk_words, is_small_size, in_use, on_asked, after_kind, chunk_units, with_chunk, kind_refusal, is_ready, swept_heap, refusal, is_legal, take_of, with_heap_at, out_from, ChunkGoes, UseGoes, Machine, opening, is_legal_from, after_all, is_private, allocated_in, settled, stepped_to, task_step}
 pub use Rattle.refinement.specs.below.run_trace.{SettingsValue, EntryValue, End, Kind, Took, Ran, Chunk, Begin, PutOff, Mark, More, Sweep, Fuel}
 pub use Rattle.refinement.specs.below.task_frames.{CallFrame, ref_of, led_frame}
 pub use Rattle.refinement.specs.below.task_machine.{Begun}

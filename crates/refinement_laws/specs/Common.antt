@@ -1,5 +1,5 @@
 -- The names of lower crates that these specifications use. Declares nothing.
-pub use Rattle.refinement.specs.LeafCollectionBegins.{HoldsAt, IsRoot, LeadsAt}
+pub use Rattle.refinement.specs.LeafCollectionBegins.{HoldsAt, IsRememberedRoot, LeadsAt}
 pub use Rattle.refinement.specs.Changes.{Moves, KeepsJust, SameBut, SameObjects, gone_on}
 pub use Rattle.refinement.specs.Copies.{PartFits, CopyFits, EndsAt, part_before}
 pub use Rattle.refinement.specs.Counts.{CountsGo, IsQuiet, IsMarked}
@@ -12,12 +12,12 @@ pub use Rattle.refinement.specs.Memory.{Belongings, Memory, In, object_name, obj
 pub use Rattle.refinement.specs.RanCounts.{RanCounts}
 pub use Rattle.refinement.specs.ReadsReference.{FrameIsRead}
 pub use Rattle.refinement.specs.Since.{AllNoted, MarksOn, NotesStay, OthersNotes, kept}
-pub use Rattle.refinement.specs.Stands.{Stands, Place}
+pub use Rattle.refinement.specs.MemoryStands.{MemoryStands, LiesWithOwner}
 pub use Rattle.refinement.specs.Whole.{StandsForAll, handed, TreeCounts, TreeCountsStand, StandsFor, BegunBy}
 pub use Rattle.refinement.specs.Worker.{WorkerFits, IsBy, WorkersFit}
 pub use Rattle.refinement.specs.below.hh_lang.{ProgramText, IsProgram}
 pub use Rattle.refinement.specs.below.hh_model.{Running, Task, Name, Done, Frame}
-pub use Rattle.refinement.specs.below.ledger_step_laws.{Rests, rested, RunsPrivateSteps, Knows, StepsAlone, onward_with, stepped_by}
+pub use Rattle.refinement.specs.below.ledger_step_laws.{Rests, rested, RunsPrivateSteps, LedgerIsKnown, StepsAlone, onward_with, stepped_by}
 pub use Rattle.refinement.specs.below.object_layout.{Addr, Located}
 pub use Rattle.refinement.specs.below.run_ledger.{Heap, Ledger, heap_of, with_heap, collected, held_in, left_in, is_name, SoundLedger, ledger_of, is_legal, refusal, after, out_from, task_steps}
 pub use Rattle.refinement.specs.below.run_trace.{SettingsValue, EntryValue, Took, Ran, Sweep, End}

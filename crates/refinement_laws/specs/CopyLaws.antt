@@ -1,5 +1,5 @@
 -- The laws of leaf collections that have begun, of copies and of marks.
-use Rattle.refinement_laws.specs.Common.{PartFits, CopyFits, EndsAt, part_before, Heap, Ledger, heap_of, with_heap, collected, held_in, left_in, is_name, SoundLedger, Addr, Located, ProgramText, SettingsValue, Running, Task, Name, MarksStand, Belongings, Memory, In, object_name, objects, Rests, rested, Stands, with_belongings, Moves}
+use Rattle.refinement_laws.specs.Common.{PartFits, CopyFits, EndsAt, part_before, Heap, Ledger, heap_of, with_heap, collected, held_in, left_in, is_name, SoundLedger, Addr, Located, ProgramText, SettingsValue, Running, Task, Name, MarksStand, Belongings, Memory, In, object_name, objects, Rests, rested, MemoryStands, with_belongings, Moves}
 use Rattle.std.specs.List.{IsDistinct}
 use Rattle.std.specs.Prelude.{◌≡◌, ℕ, true, Some, None, slice_get, ◌↔◌, List}
 
@@ -16,5 +16,5 @@ CopiesEnd =
 -- each name once, and all of it is held
 abbrev pub MarksAreAll : Type 0
 MarksAreAll =
-    (v : Memory) (l : Ledger) (t : ℕ) (marked : List Addr) → Stands v l → Rests l t → IsDistinct is_name (heap_of l t).snapshot → ((n : Name) → In (heap_of l t).snapshot n → In (held_in (heap_of l t)) n)
+    (v : Memory) (l : Ledger) (t : ℕ) (marked : List Addr) → MemoryStands v l → Rests l t → IsDistinct is_name (heap_of l t).snapshot → ((n : Name) → In (heap_of l t).snapshot n → In (held_in (heap_of l t)) n)
     → MarksStand v l t marked → left_in (heap_of l t) ≡ 0 ↔ ((q : Located) → In (objects v t) q → In (heap_of l t).snapshot (object_name q) → In marked q.at)

@@ -1,5 +1,5 @@
 -- The laws of the whole relation: each accepted entry keeps it.
-use Rattle.refinement_laws.specs.Common.{RunsPrivateSteps, Rests, EntryMakes, taken_by, Marks, CountsGo, IsQuiet, IsMarked, RanCounts, EntryValue, Took, Ran, Sweep, End, SettingsValue, ledger_of, is_legal, refusal, after, out_from, task_steps, Ledger, heap_of, AllNoted, MarksOn, NotesStay, OthersNotes, StandsForAll, handed, TreeCounts, TreeCountsStand, StandsFor, CopyFits, EndsAt, Addr, ProgramText, IsProgram, Done, Belongings, Memory, Stands, part_for, KeepsJust, SameBut, SameObjects, WorkerFits}
+use Rattle.refinement_laws.specs.Common.{RunsPrivateSteps, Rests, EntryMakes, taken_by, Marks, CountsGo, IsQuiet, IsMarked, RanCounts, EntryValue, Took, Ran, Sweep, End, SettingsValue, ledger_of, is_legal, refusal, after, out_from, task_steps, Ledger, heap_of, AllNoted, MarksOn, NotesStay, OthersNotes, StandsForAll, handed, TreeCounts, TreeCountsStand, StandsFor, CopyFits, EndsAt, Addr, ProgramText, IsProgram, Done, Belongings, Memory, MemoryStands, part_for, KeepsJust, SameBut, SameObjects, WorkerFits}
 use Rattle.std.specs.Prelude.{◌≡◌, ℕ, suc, true, None, List, Some}
 use Rattle.refinement_laws.specs.First.{first}
 
@@ -51,7 +51,7 @@ DoneReturnsAll =
 
 abbrev pub WholeStands : Type 0
 WholeStands =
-    (v : Memory) (c : TreeCounts) (l : Ledger) → Stands v l → TreeCountsStand c l → ((t : ℕ) → Rests l t → (heap_of l t).begun ≡ None) → ((t : ℕ) → Rests l t → (v.belongings t).begun ≡ None) → AllNoted v l → StandsFor v c l
+    (v : Memory) (c : TreeCounts) (l : Ledger) → MemoryStands v l → TreeCountsStand c l → ((t : ℕ) → Rests l t → (heap_of l t).begun ≡ None) → ((t : ℕ) → Rests l t → (v.belongings t).begun ≡ None) → AllNoted v l → StandsFor v c l
 
 abbrev pub WholeNotes : Type 0
 WholeNotes = (v : Memory) (c : TreeCounts) (l : Ledger) → StandsFor v c l → AllNoted v l

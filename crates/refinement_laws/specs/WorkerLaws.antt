@@ -1,7 +1,7 @@
 -- The laws of what workers hold: an entry of one keeps what every other holds fitting, and what its own worker holds
 -- afterwards fits.
 use Rattle.std.specs.Prelude.{◌≡◌, ℕ, ℤ, true, Option, None, List, ◌∷◌, slice_set}
-use Rattle.refinement_laws.specs.Common.{Addr, ProgramText, EntryValue, SettingsValue, Took, Sweep, End, Ledger, refusal, after, heap_of, ledger_of, is_legal, task_steps, Frame as ModelFrame, CallFrame, Knows, StepsAlone, rested, onward_with, RunsPrivateSteps, stepped_by, Belongings, Memory, KeepsJust, SameBut, SameObjects, gone_on, FrameIsRead, Place, Stands, CopyFits, EndsAt, IsQuiet, Part, part_for, with_belongings, EntryMakes, BelongingsAfter, StepsTo, taken_by, TreeCounts, BegunBy, StandsForAll, IsBy, WorkerFits, WorkersFit, with_all_belongings, all_ahead}
+use Rattle.refinement_laws.specs.Common.{Addr, ProgramText, EntryValue, SettingsValue, Took, Sweep, End, Ledger, refusal, after, heap_of, ledger_of, is_legal, task_steps, Frame as ModelFrame, CallFrame, LedgerIsKnown, StepsAlone, rested, onward_with, RunsPrivateSteps, stepped_by, Belongings, Memory, KeepsJust, SameBut, SameObjects, gone_on, FrameIsRead, LiesWithOwner, MemoryStands, CopyFits, EndsAt, IsQuiet, Part, part_for, with_belongings, EntryMakes, BelongingsAfter, StepsTo, taken_by, TreeCounts, BegunBy, StandsForAll, IsBy, WorkerFits, WorkersFit, with_all_belongings, all_ahead}
 
 -- WHAT OTHER WORKERS HOLD
 
@@ -68,7 +68,7 @@ FramesGo =
     (p : ProgramText) (s : SettingsValue) (v : Memory) (l l' : Ledger) (t w k : ℕ) (h : Belongings) → (E : RunsPrivateSteps p s l l' t w k) → WorkerFits p s (part_for s t h k) v l
     → (f g : CallFrame) (fs : List CallFrame) (top : ModelFrame) (outs : List ℤ) → let m : Ledger = task_steps p l t k in
     StepsAlone m l' t → l' ≡ stepped_by m (record m.machine { tasks = slice_set m.machine.tasks t (record E.splits.task { top = top }); outputs = outs }) → h.frames ≡ f ∷ fs
-    → (FrameIsRead (Place (with_belongings v t h) (rested m t)) f E.splits.task.top → FrameIsRead (Place (with_belongings v t h) (rested m t)) g top) → StepsTo v l' t h (record h { frames = g ∷ fs })
+    → (FrameIsRead (LiesWithOwner (with_belongings v t h) (rested m t)) f E.splits.task.top → FrameIsRead (LiesWithOwner (with_belongings v t h) (rested m t)) g top) → StepsTo v l' t h (record h { frames = g ∷ fs })
 
 -- if it sets at most a number register: the read of a number or of a count of fields, a compare and swap that doesn't
 -- find what it expects, an output
@@ -82,4 +82,4 @@ NumbersGo =
 -- PARTS TOGETHER: any number of parts that fit a memory fit it together, with all belongings and the steps of all
 abbrev pub AllFitTogether : Type 0
 AllFitTogether =
-    (p : ProgramText) (s : SettingsValue) (qs : List Part) (v : Memory) (l : Ledger) → Knows l → l.machine.end ≡ None → Stands v l → WorkersFit p s qs v l → Stands (with_all_belongings v qs) (all_ahead p qs l)
+    (p : ProgramText) (s : SettingsValue) (qs : List Part) (v : Memory) (l : Ledger) → LedgerIsKnown l → l.machine.end ≡ None → MemoryStands v l → WorkersFit p s qs v l → MemoryStands (with_all_belongings v qs) (all_ahead p qs l)

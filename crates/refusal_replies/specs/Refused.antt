@@ -14,5 +14,5 @@ status_of_refusal (Line n) = Trace
 status_of_refusal (Entry r) = Trace
 status_of_refusal (ImageRefused f) = Image
 
-abbrev pub Refuses : Refusal → Reply → Type 0
-Refuses r = Says (status_of_refusal r) (refusal_line r)
+abbrev pub RepliesRefusal : Refusal → Reply → Type 0
+RepliesRefusal r = Says (status_of_refusal r) (refusal_line r)

@@ -2,7 +2,7 @@
 #![tactic(auto)]
 
 ghost use Rattle.std.specs.Prelude.{◌≡◌, IfOk};
-ghost use Rattle.refusal_replies.specs.Refused.{Refuses, status_of_refusal};
+ghost use Rattle.refusal_replies.specs.Refused.{RepliesRefusal, status_of_refusal};
 
 pub use io_traits::{Sink, Source};
 pub use read_write_all::ReadError;
@@ -25,7 +25,7 @@ fn status_of(refusal: Refusal) -> AnswerStatus
 
 /// The refusal of command-line arguments, or of an input.
 pub fn refused(alloc: Global, refusal: Refusal) -> Result<Reply, AllocError>
-    ensures { IfOk result (Refuses refusal) }
+    ensures { IfOk result (RepliesRefusal refusal) }
 {
     let text = refusal_text(alloc, refusal)?;
     Ok(Reply::of_text(status_of(refusal), text))

@@ -6,7 +6,7 @@ pub use Rattle.object_layout.specs.Chunks.{has_chunk}
 pub use Rattle.object_layout.specs.declared.word.Addr.{Addr}
 pub use Rattle.plain_vec.proofs.Members.{In, contains_from_in, in_append_cases, in_append_left, in_append_right, in_from_any, in_from_contains, in_from_kept, in_kept}
 pub use Rattle.remembered_set.specs.Laws.{LiftedAreThere, RewriteIsRead}
-pub use Rattle.remembered_set.specs.Moved.{new_of, address_key, same_address, AreInOrder, ArePlaces, target_of, led_by, new_reference, redirected, written, AreFields, into_by, targets_of}
+pub use Rattle.remembered_set.specs.Moved.{new_of, address_key, same_address, AreAscending, ArePlaces, target_of, led_by, new_reference, redirected, written, AreFields, into_by, targets_of}
 pub use Rattle.remembered_set.specs.Sources.{has_source, lifted, with_noted_source, outside, same_source, StandOnce, KnowsJust}
 pub use Rattle.remembered_set.specs.declared.remembered.RefField.{RefField}
 pub use Rattle.std.proofs.Common.{◌≡◌, Bool, true, false, cond, List, [], ◌∷◌, ◌++◌, fold, ◌⊎◌, inl, inr, refl, sym, ap, subst, ℕ, zero, suc, ◌+◌, ◌^◌, ◌<◌, ◌≤◌, length, get_or, arith, ⊎_elim, eqb, Some, None, ◌||◌, ◌∙◌, Option, length-set, ◌-◌, ◌/◌, drop, append_assoc, rules, ◌==◌, take}

@@ -1,5 +1,5 @@
 -- The new address of an address, in a sorted relocation list.
-use Rattle.remembered_set.proofs.Common.{◌≡◌, ℕ, zero, suc, ◌+◌, ◌^◌, ◌<◌, ◌≤◌, true, false, List, [], ◌∷◌, length, get_or, refl, ap, arith, ⊎_elim, eqb, Some, None, and_from, and_parts, cases_Bool, cases_lt, eq-eqb, eqb-true, get_or_default, Addr, new_of, address_key, same_address, AreInOrder, ArePlaces}
+use Rattle.remembered_set.proofs.Common.{◌≡◌, ℕ, zero, suc, ◌+◌, ◌^◌, ◌<◌, ◌≤◌, true, false, List, [], ◌∷◌, length, get_or, refl, ap, arith, ⊎_elim, eqb, Some, None, and_from, and_parts, cases_Bool, cases_lt, eq-eqb, eqb-true, get_or_default, Addr, new_of, address_key, same_address, AreAscending, ArePlaces}
 
 same_parts : (a b : Addr) → same_address a b ≡ true → (a.chunk ≡ b.chunk) × (a.offset ≡ b.offset)
 same_parts a b e =
@@ -19,7 +19,7 @@ number_same a b e =
     let offset : a.offset ≡ b.offset = p.1 in
     omega arith
 
-tail_in_order : (m : Addr × Addr) (ms : List (Addr × Addr)) → AreInOrder (m ∷ ms) → AreInOrder ms
+tail_in_order : (m : Addr × Addr) (ms : List (Addr × Addr)) → AreAscending (m ∷ ms) → AreAscending ms
 tail_in_order m ms h i j d l k = h (suc i) (suc j) d (omega arith) (omega arith)
 
 pub new_of-none : (ms : List (Addr × Addr)) (a : Addr) → ((i : ℕ) (d : Addr × Addr) → i < length ms → address_key (get_or ms i d).0 ≡ address_key a → ⊥) → new_of ms a ≡ None
@@ -30,7 +30,7 @@ new_of-none (m ∷ ms) a h =
     (λ (e : same_address m.0 a ≡ false). rw e (new_of-none ms a (λ i d l. h (suc i) d (omega arith))))
     (cases_Bool (same_address m.0 a))
 
-pub new_of-found : (ms : List (Addr × Addr)) → AreInOrder ms → (a : Addr) (i : ℕ) (d : Addr × Addr) → i < length ms → same_address (get_or ms i d).0 a ≡ true → new_of ms a ≡ Some (get_or ms i d).1
+pub new_of-found : (ms : List (Addr × Addr)) → AreAscending ms → (a : Addr) (i : ℕ) (d : Addr × Addr) → i < length ms → same_address (get_or ms i d).0 a ≡ true → new_of ms a ≡ Some (get_or ms i d).1
 new_of-found [] h a i d l e = absurd (omega arith)
 new_of-found (m ∷ ms) h a zero d l e = rw e
 new_of-found (m ∷ ms) h a (suc i) d l e =
@@ -44,7 +44,7 @@ new_of-found (m ∷ ms) h a (suc i) d l e =
     (cases_Bool (same_address m.0 a))
 
 -- one step of a search
-module _ (ms : List (Addr × Addr)) (order : AreInOrder ms) (m w : ℕ) (e : Addr × Addr) (l : m < length ms) where
+module _ (ms : List (Addr × Addr)) (order : AreAscending ms) (m w : ℕ) (e : Addr × Addr) (l : m < length ms) where
   pub below_more : address_key (get_or ms m e).0 < w → (i : ℕ) (d : Addr × Addr) → i < m + 1 → address_key (get_or ms i d).0 < w
   below_more less i d k =
       let same = ap (λ (x : Addr × Addr). address_key x.0) (get_or_default ms m e d l) in

@@ -32,8 +32,8 @@ new_reference ms None = None
 new_reference ms (Some a) = new_of ms a
 
 -- the old addresses are in ascending order, each once
-abbrev pub AreInOrder : List (Addr × Addr) → Type 0
-AreInOrder ms = (i j : ℕ) (d : Addr × Addr) → i < j → j < length ms → address_key (slice_index_or ms i d).0 < address_key (slice_index_or ms j d).0
+abbrev pub AreAscending : List (Addr × Addr) → Type 0
+AreAscending ms = (i j : ℕ) (d : Addr × Addr) → i < j → j < length ms → address_key (slice_index_or ms i d).0 < address_key (slice_index_or ms j d).0
 
 -- the new addresses are addresses of objects
 abbrev pub ArePlaces : List (Addr × Addr) → Type 0

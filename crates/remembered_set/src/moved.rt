@@ -1,7 +1,7 @@
 // The relocation list of a collection, and the new address of an address.
 
 ghost use Rattle.std.specs.Prelude.{◌≡◌, ◌^◌, ◌<◌};
-ghost use Rattle.remembered_set.specs.Moved.{new_of, address_key, AreInOrder};
+ghost use Rattle.remembered_set.specs.Moved.{new_of, address_key, AreAscending};
 
 use object_layout::Addr;
 
@@ -16,7 +16,7 @@ fn address_key(address: Addr) -> u64
 
 // The new address of the object that was moved from an old one.
 pub(crate) fn new_of(moved: &[(Addr, Addr)], old: Addr) -> Option<Addr>
-    requires { AreInOrder moved.now }
+    requires { AreAscending moved.now }
     ensures { result ≡ new_of moved.now old }
 {
     let wanted = address_key(old);

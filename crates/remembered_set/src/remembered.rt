@@ -2,7 +2,7 @@
 
 ghost use Rattle.std.specs.Prelude.{◌≡◌, ◌+◌, ◌<◌, ◌≤◌, [], fold, IfOk, None, OnErr, OnOk, length};
 ghost use Rattle.remembered_set.specs.Sources.{lifted, with_noted_source, notes_in, StandOnce};
-ghost use Rattle.remembered_set.specs.Moved.{redirected, targets_of, AreFields, AreInOrder, ArePlaces};
+ghost use Rattle.remembered_set.specs.Moved.{redirected, targets_of, AreFields, AreAscending, ArePlaces};
 
 use crate::table::FieldTable;
 use boxed::BoxedSlot;
@@ -135,7 +135,7 @@ impl Remembered {
     /// relocation list is sorted by the old addresses.
     pub fn rewrite<W: Words>(&self, words: &mut W, moved: &[(Addr, Addr)])
         requires fields { AreFields W.refs_at words.old self.now.sources }
-        requires order { AreInOrder moved.now }
+        requires order { AreAscending moved.now }
         requires places { ArePlaces moved.now }
         ensures led { words.new ≡ fold (redirected W.refs_at W.with_ref_at moved.now) words.old self.now.sources }
         ensures once { StandOnce self.now.sources }

@@ -4,7 +4,7 @@ ghost use Rattle.std.specs.Prelude.{◌≡◌, ℕ, ◌+◌, ◌-◌, ◌<◌, �
 ghost use Rattle.std.specs.HashSet.{contains, hash_set_len, spare};
 ghost use Rattle.remembered_set.specs.declared.remembered.RefField.{RefField};
 ghost use Rattle.remembered_set.specs.Sources.{has_chunk, has_source, lifted, with_noted_source, same_source, KnowsJust, StandOnce};
-ghost use Rattle.remembered_set.specs.Moved.{into_by, redirected, targets_of, AreFields, AreInOrder, ArePlaces};
+ghost use Rattle.remembered_set.specs.Moved.{into_by, redirected, targets_of, AreFields, AreAscending, ArePlaces};
 
 use crate::moved::new_of;
 use crate::remembered::RefField;
@@ -114,7 +114,7 @@ impl FieldTable {
     /// relocation list is sorted by the old addresses.
     pub fn rewrite<W: Words>(&self, words: &mut W, moved: &[(Addr, Addr)])
         requires fields { AreFields W.refs_at words.old self.now.sources }
-        requires order { AreInOrder moved.now }
+        requires order { AreAscending moved.now }
         requires places { ArePlaces moved.now }
         ensures led { words.new ≡ fold (redirected W.refs_at W.with_ref_at moved.now) words.old self.now.sources }
         ensures once { StandOnce self.now.sources }
@@ -212,7 +212,7 @@ fn number_chunks(numbers: &mut HashSet<u32>, chunks: &[Chunk])
 // Updates a source that still holds an old address to the new one.
 fn redirect<W: Words>(words: &mut W, source: RefField, moved: &[(Addr, Addr)])
     requires field { source.field < length (W.refs_at words.old source.object) }
-    requires order { AreInOrder moved.now }
+    requires order { AreAscending moved.now }
     requires places { ArePlaces moved.now }
     ensures { words.new ≡ redirected W.refs_at W.with_ref_at moved.now words.old source }
 {

@@ -1,5 +1,5 @@
 -- A step that `ran_alone` doesn't handle, and that neither forks nor returns, works on an object of another task.
-use Rattle.remote_access.proofs.Common.{◌≡◌, ℕ, ◌||◌, Bool, true, false, Some, None, refl, ap, ap₂, sym, ◌∙◌, MachineState, Task, task_steps, Private, SharedValue, accounts, IsSharedValue, Fits, IsShared}
+use Rattle.remote_access.proofs.Common.{◌≡◌, ℕ, ◌||◌, Bool, true, false, Some, None, refl, ap, ap₂, sym, ◌∙◌, MachineState, Task, task_steps, Private, SharedValue, accounts, IsSharedValue, WorkerPartFits, IsShared}
 use Rattle.step_commit.proofs.below.core_invariant.PartFitsMachine as link
 use Rattle.remote_access.proofs.ForeignObject.{x}
 
@@ -7,7 +7,7 @@ right_of : (a b : Bool) → a ≡ false → (a || b) ≡ true → b ≡ true
 right_of true b e h = absurd cc
 right_of false b e h = h
 
-module _ (w : SharedValue) (k : ℕ) (p : Private) (I : IsSharedValue w) (F : Fits w k p) (shared : IsShared w p) (on : (accounts w).end ≡ None) where
+module _ (w : SharedValue) (k : ℕ) (p : Private) (I : IsSharedValue w) (F : WorkerPartFits w k p) (shared : IsShared w p) (on : (accounts w).end ≡ None) where
   abbrev t : ℕ
   t = p.task
 

@@ -25,19 +25,19 @@ pub use Rattle.step_commit.proofs.below.task_machine.{born_is, born_object}
 pub use Rattle.step_commit.specs.Alone.{IsShared, GoesAlone, alone_entry}
 pub use Rattle.step_commit.specs.below.chunk_list.{Level}
 pub use Rattle.step_commit.specs.below.chunk_pool.{slot_at, owner_of, PoolValue}
-pub use Rattle.step_commit.specs.below.core_invariant.{SharedValue, accounts, IsSharedValue, Fits, frames_down, belongings_by, belongings_in, rest_at, value_of, chunks_of, belongings_of_part, next_line, belongings_of, no_belongings, value_by, with_marks, HeapForm, marks_at, noted_in, tree_counts_of, part_of, OthersFit, Enters}
-pub use Rattle.step_commit.specs.below.heap_tree.{is_on_path, TaskNode, parent_of}
+pub use Rattle.step_commit.specs.below.core_invariant.{SharedValue, accounts, IsSharedValue, WorkerPartFits, frames_down, belongings_by, belongings_in, rest_at, value_of, chunks_of, belongings_of_part, next_line, belongings_of, no_belongings, value_by, with_marks, HeapForm, marks_at, noted_in, tree_counts_of, part_of, OthersFit, Enters}
+pub use Rattle.step_commit.specs.below.heap_tree.{node_on_path, TaskNode, parent_of}
 pub use Rattle.step_commit.specs.below.hh_lang.{Instr, Getr, Geti, Putr, Puti, Cntr, Cnti, Freeze, Cas, Line, line_at, Set, Mov, Movr, Nil, Calc, Same, Jmp, Jz, Newm, Pack, Call, Par, Ret, Out}
 pub use Rattle.step_commit.specs.below.hh_model.{MachineState, Task, Name, same_name, Object, int_in, object_at, ref_in, task_names, Frame, fetched, onward, Trap, Range, Frozen, Effect, Goes, Stops, Traps, effect, or_trap, place_in, put_object, read_effect, unless_frozen, with_object, refs_of, precedes, can_step, follow, is_running, runs, setting, step, strand_of, IsStored, Closed, parents, path_by, through, is_waiting}
 pub use Rattle.step_commit.specs.below.leaf_heap.{LeafHeapValue, room_of}
 pub use Rattle.step_commit.specs.below.ledger_step_laws.{Rests, own, rested, Splits, JustReads, Reading, ReadsOther, RunsPrivateSteps, stepped_by, WritesOther, Writing}
-pub use Rattle.step_commit.specs.below.object_layout.{Addr, same_address, same_reference, Located, Birth, Born, Cell, cell_of, object_of, size_of, located, with_fields, IsPlace, with_int, with_ref}
+pub use Rattle.step_commit.specs.below.object_layout.{Addr, same_address, same_reference, Located, Birth, Born, Cell, cell_of, object_of, size_of, located, with_fields, BeginsInFirstUnit, cell_with_int, with_ref}
 pub use Rattle.step_commit.specs.below.plain_vec.{ReservedVecValue, option_is}
-pub use Rattle.step_commit.specs.below.refinement.{Lies, Memory, object_name, ReadsReference, Place, Stands, Belongings, In, objects, objects_of_chunks, with_belongings, AllRead, FrameIsRead, FramesAreRead, HoldsRead, Chunk, mapped_chunk, put_at, sources, WritesAt, words, BelongingsStand, StandsForAll, WorkerFits, gone_on, StoresInto, StoresNotes, Stores, BelongingsAfterStore, StoreMarks, StoresAt, StoresNumberAt, with_field, with_int_field, Keeps, OthersNotes, as_node, part_for, RanCounts, StandsFor, by_end, Noted}
+pub use Rattle.step_commit.specs.below.refinement.{Lies, Memory, object_name, ReadsReference, LiesWithOwner, MemoryStands, Belongings, In, objects, objects_of_chunks, with_belongings, AllRead, FrameIsRead, FramesAreRead, HoldsRead, Chunk, mapped_chunk, put_at, sources, WritesAt, words, BelongingsStand, StandsForAll, WorkerFits, gone_on, StoresInto, StoresNotes, Stores, BelongingsAfterStore, StoreMarks, StoresAt, StoresNumberAt, with_field, with_int_field, KeepsOldValue, OthersNotes, as_node, part_for, RanCounts, StandsFor, by_end, Noted}
 pub use Rattle.step_commit.specs.below.remembered_set.{RefField, has_source, with_noted_source}
 pub use Rattle.step_commit.specs.below.run_ledger.{task_steps, Ledger, owns, touched, heap_of, Heap, or_fresh}
 pub use Rattle.step_commit.specs.below.run_trace.{EntryValue}
 pub use Rattle.step_commit.specs.below.task_frames.{int_of, ref_of, CallFrame, with_next, with_reference, FramesValue}
 pub use Rattle.step_commit.specs.below.task_machine.{Private}
 pub use Rattle.step_commit.specs.below.task_slots.{ParkedTask, Work, Calls, Result}
-pub use Rattle.step_commit.specs.below.write_barrier.{IsOwned, SetOf, content_at, content_after, Content, content_of, is_down, with_source}
+pub use Rattle.step_commit.specs.below.write_barrier.{PointsIntoOwned, SetOf, content_at, content_after, Content, content_of, is_down, with_source}

@@ -1,9 +1,9 @@
 -- Addresses of names: which are equal, if one name's owner rests.
-use Rattle.remote_access.proofs.Common.{◌≡◌, ◌==◌, true, Option, Some, None, refl, ap, sym, subst, ◌∙◌, eq-eqb, and_from, same_Some, Name, same_name, Ledger, same_from_is_name, Addr, same_address, same_reference, Located, is_same, same_is, Rests, own, Lies, Memory, object_name, ReadsReference, Place, Stands, same_truth}
+use Rattle.remote_access.proofs.Common.{◌≡◌, ◌==◌, true, Option, Some, None, refl, ap, sym, subst, ◌∙◌, eq-eqb, and_from, same_Some, Name, same_name, Ledger, same_from_is_name, Addr, same_address, same_reference, Located, is_same, same_is, Rests, own, Lies, Memory, object_name, ReadsReference, LiesWithOwner, MemoryStands, same_truth}
 
-module _ (v : Memory) (l : Ledger) (W : Stands v l) where
+module _ (v : Memory) (l : Ledger) (W : MemoryStands v l) where
   -- the second name's owner rests
-  module _ (n m : Name) (a b : Addr) (P : Place v l n a) (Q : Place v l m b) (rests : Rests l (own l m)) where
+  module _ (n m : Name) (a b : Addr) (P : LiesWithOwner v l n a) (Q : LiesWithOwner v l m b) (rests : Rests l (own l m)) where
     name_is_there : Lies (v.belongings (own l m)).chunks m b
     name_is_there = Q.here rests
 
@@ -29,7 +29,7 @@ module _ (v : Memory) (l : Ledger) (W : Stands v l) where
     same_some = same_truth (same_address a b) (same_name (Some n) (Some m)) (λ h. is_name (one_name (same_is a b h))) (λ h. is_same a b (one_place (same_from_is_name n m h)))
 
   -- so the tests of references and of names agree
-  pub tests_same : (a b : Option Addr) (n m : Option Name) → ReadsReference (Place v l) a n → ReadsReference (Place v l) b m → ((z : Name) → m ≡ Some z → Rests l (own l z)) → same_reference a b ≡ same_name n m
+  pub tests_same : (a b : Option Addr) (n m : Option Name) → ReadsReference (LiesWithOwner v l) a n → ReadsReference (LiesWithOwner v l) b m → ((z : Name) → m ≡ Some z → Rests l (own l z)) → same_reference a b ≡ same_name n m
   tests_same None None None None p q r = refl
   tests_same None (Some b) None (Some m) p q r = refl
   tests_same (Some a) None (Some n) None p q r = refl

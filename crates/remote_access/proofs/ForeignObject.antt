@@ -1,6 +1,6 @@
 -- Before the run's end, the object in a register of a part that fits, if another task owns it, is in that task's heap,
 -- and no worker holds that task.
-use Rattle.remote_access.proofs.Common.{◌≡◌, ℕ, pos, true, Option, Some, None, ◌∷◌, slice_get, unwrap_or, inl, refl, ap, sym, subst, ◌∙◌, same_Some, Name, Object, Task, int_in, object_at, ref_in, task_names, at_in, in_registers, names_run, Ledger, task_steps, Addr, Birth, Born, Cell, cell_of, Located, Rests, own, rested, Belongings, In, Lies, Memory, objects, objects_of_chunks, with_belongings, AllRead, FrameIsRead, FramesAreRead, HoldsRead, ReadsReference, Place, field_of, at_belongings, Private, int_of, ref_of, ParkedTask, Work, Calls, Result, SharedValue, accounts, frames_down, belongings_by, belongings_in, rest_at, value_of, chunks_of, IsSharedValue, Fits, belongings_of_part, seen_object}
+use Rattle.remote_access.proofs.Common.{◌≡◌, ℕ, pos, true, Option, Some, None, ◌∷◌, slice_get, unwrap_or, inl, refl, ap, sym, subst, ◌∙◌, same_Some, Name, Object, Task, int_in, object_at, ref_in, task_names, at_in, in_registers, names_run, Ledger, task_steps, Addr, Birth, Born, Cell, cell_of, Located, Rests, own, rested, Belongings, In, Lies, Memory, objects, objects_of_chunks, with_belongings, AllRead, FrameIsRead, FramesAreRead, HoldsRead, ReadsReference, LiesWithOwner, field_of, at_belongings, Private, int_of, ref_of, ParkedTask, Work, Calls, Result, SharedValue, accounts, frames_down, belongings_by, belongings_in, rest_at, value_of, chunks_of, IsSharedValue, WorkerPartFits, belongings_of_part, seen_object}
 use Rattle.step_commit.specs.below.hh_model.{is_on_path}
 use Rattle.step_commit.proofs.below.core_invariant.PartFitsMachine as link
 
@@ -20,7 +20,7 @@ rest_chunks r (Result k b) = refl
 pub record IsForeign (w : SharedValue) (v : Memory) (l : Ledger) (t : ℕ) (n : Name) (a : Addr) : Type 0 where
   pub apart : own l n ≡ t → ⊥
   pub above : is_on_path l.machine.tasks (own l n) t ≡ true
-  pub place : Place v l n a
+  pub place : LiesWithOwner v l n a
   pub rests : Rests (accounts w) (own l n)
   pub rest : ParkedTask
   pub there : rest_at w.rests (own l n) ≡ Some rest
@@ -29,10 +29,10 @@ pub record IsForeign (w : SharedValue) (v : Memory) (l : Ledger) (t : ℕ) (n : 
   pub object : Object
   pub is : object_at l.machine.store n ≡ Some object
   pub mutable : (cell_of rest.heap.chunks a).mutable ≡ object.mutable
-  pub refs : AllRead (Place v l) (cell_of rest.heap.chunks a).refs object.refs
+  pub refs : AllRead (LiesWithOwner v l) (cell_of rest.heap.chunks a).refs object.refs
   pub ints : (cell_of rest.heap.chunks a).ints ≡ object.ints
 
-module _ (w : SharedValue) (k : ℕ) (p : Private) (I : IsSharedValue w) (F : Fits w k p) (on : (accounts w).end ≡ None) where
+module _ (w : SharedValue) (k : ℕ) (p : Private) (I : IsSharedValue w) (F : WorkerPartFits w k p) (on : (accounts w).end ≡ None) where
   abbrev t : ℕ
   t = p.task
 
@@ -55,16 +55,16 @@ module _ (w : SharedValue) (k : ℕ) (p : Private) (I : IsSharedValue w) (F : Fi
   x = (link.A w k p I F on).task
 
   -- ITS REGISTERS
-  frames : FramesAreRead (Place v' L) (frames_down p.frames) (x.top ∷ x.below)
+  frames : FramesAreRead (LiesWithOwner v' L) (frames_down p.frames) (x.top ∷ x.below)
   frames =
-      subst (λ (z : Belongings). FramesAreRead (Place v' L) z.frames (x.top ∷ x.below)) (at_belongings v t h)
-      (subst (HoldsRead (Place v' L) (v'.belongings t) x) (link.run_status w k p I F on) ((link.W w k p I F on).tasks t x (link.at_rest w k p I F on) (link.task_is_in_machine w k p I F on)))
+      subst (λ (z : Belongings). FramesAreRead (LiesWithOwner v' L) z.frames (x.top ∷ x.below)) (at_belongings v t h)
+      (subst (HoldsRead (LiesWithOwner v' L) (v'.belongings t) x) (link.run_status w k p I F on) ((link.W w k p I F on).tasks t x (link.at_rest w k p I F on) (link.task_is_in_machine w k p I F on)))
 
-  pub frame : FrameIsRead (Place v' L) p.frames.top x.top
+  pub frame : FrameIsRead (LiesWithOwner v' L) p.frames.top x.top
   frame = frames.0
 
-  pub register_at : (o : ℕ) → ReadsReference (Place v' L) (ref_of p.frames.top o) (ref_in x.top o)
-  register_at o = field_of (Place v' L) p.frames.top.refs x.top.refs o frame.refs
+  pub register_at : (o : ℕ) → ReadsReference (LiesWithOwner v' L) (ref_of p.frames.top o) (ref_in x.top o)
+  register_at o = field_of (LiesWithOwner v' L) p.frames.top.refs x.top.refs o frame.refs
 
   pub number_at : (o : ℕ) → int_of p.frames.top o ≡ int_in x.top o
   number_at o = ap (λ zs. unwrap_or (slice_get zs o) (pos 0)) frame.ints
@@ -73,7 +73,7 @@ module _ (w : SharedValue) (k : ℕ) (p : Private) (I : IsSharedValue w) (F : Fi
   holds o n e = names_run x n (link.run_status w k p I F on) (in_registers (x.top ∷ x.below) x.top n (inl refl) (at_in x.top.refs o n e))
 
   -- AN OBJECT OF ANOTHER
-  module _ (n : Name) (a : Addr) (P : Place v' L n a) (held : In (task_names x) n) (apart : own L n ≡ t → ⊥) where
+  module _ (n : Name) (a : Addr) (P : LiesWithOwner v' L n a) (held : In (task_names x) n) (apart : own L n ≡ t → ⊥) where
     abbrev u : ℕ
     u = own L n
 
@@ -109,7 +109,7 @@ module _ (w : SharedValue) (k : ℕ) (p : Private) (I : IsSharedValue w) (F : Fi
           object = q.0;
           is = ap (object_at L.machine.store) (sym y.2.name) ∙ q.1;
           mutable = ap (λ (d : Cell). d.mutable) (sym c) ∙ (ap (λ (s : Located). s.mutable) (sym z.is) ∙ q.2.mutable);
-          refs = subst (λ rs. AllRead (Place v' L) rs q.0.refs) (ap (λ (s : Located). s.refs) z.is ∙ ap (λ (d : Cell). d.refs) c) q.2.refs;
+          refs = subst (λ rs. AllRead (LiesWithOwner v' L) rs q.0.refs) (ap (λ (s : Located). s.refs) z.is ∙ ap (λ (d : Cell). d.refs) c) q.2.refs;
           ints = ap (λ (d : Cell). d.ints) (sym c) ∙ (ap (λ (s : Located). s.ints) (sym z.is) ∙ q.2.ints);
         }
 
@@ -119,5 +119,5 @@ module _ (w : SharedValue) (k : ℕ) (p : Private) (I : IsSharedValue w) (F : Fi
   -- the object in a register
   pub in_register : (o : ℕ) (n : Name) → ref_in x.top o ≡ Some n → (own L n ≡ t → ⊥) → (a : Addr) × (ref_of p.frames.top o ≡ Some a) × IsForeign w v' L t n a
   in_register o n e apart =
-      let r = reads_name (Place v' L) (ref_of p.frames.top o) (ref_in x.top o) n (register_at o) e in
+      let r = reads_name (LiesWithOwner v' L) (ref_of p.frames.top o) (ref_in x.top o) n (register_at o) e in
       (r.0, r.1, foreign n r.0 r.2 (holds o n e) apart)

@@ -1,6 +1,6 @@
 -- The next line of a part whose step works on an object that another task owns: the object, and what the step does with
 -- it.
-use Rattle.remote_access.proofs.Common.{◌≡◌, ℕ, ◌<◌, not, true, Option, Some, None, List, length, slice_get, is_some, refl, ap, ap₂, sym, subst, ◌∙◌, IsSome, false≢true, same_Some, none_some, Instr, Getr, Geti, Putr, Puti, Cntr, Cnti, Freeze, Cas, Line, line_at, Frame as ModelFrame, Name, MachineState, Task, ref_in, fetched, Ledger, owns, task_steps, touched, Addr, Cell, cell_of, object_of, slot_at, owner_of as pool_owner, CallFrame, ref_of, IsOwned, own, rested, Memory, with_belongings, Place, name_at, Private, born_is, born_object, SharedValue, accounts, rest_at, value_of, IsSharedValue, Fits, belongings_of_part, next_line, ParkedTask, owner_held, IsShared, machine_same, IsOther, IsReadable, SaysOther, TellsOther, is_other, is_other_by, is_other_line, object_named, other_step, then_places, OtherStep}
+use Rattle.remote_access.proofs.Common.{◌≡◌, ℕ, ◌<◌, not, true, Option, Some, None, List, length, slice_get, is_some, refl, ap, ap₂, sym, subst, ◌∙◌, IsSome, false≢true, same_Some, none_some, Instr, Getr, Geti, Putr, Puti, Cntr, Cnti, Freeze, Cas, Line, line_at, Frame as ModelFrame, Name, MachineState, Task, ref_in, fetched, Ledger, owns, task_steps, touched, Addr, Cell, cell_of, object_of, slot_at, owner_of as pool_owner, CallFrame, ref_of, PointsIntoOwned, own, rested, Memory, with_belongings, LiesWithOwner, name_at, Private, born_is, born_object, SharedValue, accounts, rest_at, value_of, IsSharedValue, WorkerPartFits, belongings_of_part, next_line, ParkedTask, owner_held, IsShared, machine_same, IsOther, IsReadable, SaysOther, TellsOther, is_other, is_other_by, is_other_line, object_named, other_step, then_places, OtherStep}
 use Rattle.std.proofs.lemmas.Bool.{eq-eqb}
 use Rattle.step_commit.specs.below.hh_model.{owner_of}
 use Rattle.step_commit.proofs.below.core_invariant.PartFitsMachine as link
@@ -35,7 +35,7 @@ touches_by : (tasks : List Task) (t : ℕ) (f : ModelFrame) (i : Instr) (o : Opt
 touches_by tasks t f i None e h = absurd (false≢true h)
 touches_by tasks t f i (Some n) e h = record { name = n; touches = e; apart = λ q. false≢true (sym (ap not (eq-eqb (owner_of tasks n.task) t q)) ∙ h) }
 
-module _ (w : SharedValue) (k : ℕ) (p : Private) (I : IsSharedValue w) (F : Fits w k p) (shared : IsShared w p) (other : IsOther w p) (on : (accounts w).end ≡ None) where
+module _ (w : SharedValue) (k : ℕ) (p : Private) (I : IsSharedValue w) (F : WorkerPartFits w k p) (shared : IsShared w p) (other : IsOther w p) (on : (accounts w).end ≡ None) where
   abbrev pub t : ℕ
   t = p.task
 
@@ -116,10 +116,10 @@ module _ (w : SharedValue) (k : ℕ) (p : Private) (I : IsSharedValue w) (F : Fi
       refs = λ i r e. readable_by_cases i r (ap (λ (c : Cell). slice_get c.refs i) (sym object_is) ∙ e);
     }
       where
-        readable_by_cases : (i : ℕ) (r : Option Addr) → slice_get (cell_of foreign.rest.heap.chunks address).refs i ≡ Some r → IsOwned (length w.tree) w.pool r
+        readable_by_cases : (i : ℕ) (r : Option Addr) → slice_get (cell_of foreign.rest.heap.chunks address).refs i ≡ Some r → PointsIntoOwned (length w.tree) w.pool r
         readable_by_cases i None e = tt
         readable_by_cases i (Some b) e =
-            let y = name_at (Place v' L) (cell_of foreign.rest.heap.chunks address).refs foreign.object.refs i b foreign.refs e in
+            let y = name_at (LiesWithOwner v' L) (cell_of foreign.rest.heap.chunks address).refs foreign.object.refs i b foreign.refs e in
             (in_use b.chunk (own L y.0) y.2.chunk, λ u h. owned b.chunk u h)
 
     abbrev pub step_is : OtherStep

@@ -1,5 +1,5 @@
 -- The value after an object of another task is written: only the object changes.
-use Rattle.remote_access.proofs.Common.{◌≡◌, ℕ, ◌<◌, length, cond, Option, Some, None, List, map, slice_get, slice_set, is_none, inl, inr, refl, ap, ap₂, sym, subst, ◌∙◌, option_flatten, cases_eq, cond-true, same_Some, got_other, got_same, got_within, Name, Ledger, heap_of, task_steps, Addr, Birth, Cell, size_of, cell_of, Located, located, with_fields, LeafHeapValue, room_of, Level, CallFrame, RefField, SetOf, Rests, own, rested, Chunk, Belongings, In, Memory, mapped_chunk, object_name, objects, objects_of_chunks, put_at, sources, WritesAt, with_belongings, words, BelongingsStand, in_chunk, at_belongings, off_belongings, Private, ParkedTask, Work, Calls, Result, SharedValue, accounts, belongings_by, belongings_in, belongings_of, no_belongings, rest_at, value_by, value_of, with_marks, chunks_of, HeapForm, IsSharedValue, Fits, belongings_of_part, IsWell, free_at_rest, by_chunks, seen_object, measured_written, chunks_elsewhere, chunks_put, chunks_same, form_written, room_written, put_rest}
+use Rattle.remote_access.proofs.Common.{◌≡◌, ℕ, ◌<◌, length, cond, Option, Some, None, List, map, slice_get, slice_set, is_none, inl, inr, refl, ap, ap₂, sym, subst, ◌∙◌, option_flatten, cases_eq, cond-true, same_Some, got_other, got_same, got_within, Name, Ledger, heap_of, task_steps, Addr, Birth, Cell, size_of, cell_of, Located, located, with_fields, LeafHeapValue, room_of, Level, CallFrame, RefField, SetOf, Rests, own, rested, Chunk, Belongings, In, Memory, mapped_chunk, object_name, objects, objects_of_chunks, put_at, sources, WritesAt, with_belongings, words, BelongingsStand, in_chunk, at_belongings, off_belongings, Private, ParkedTask, Work, Calls, Result, SharedValue, accounts, belongings_by, belongings_in, belongings_of, no_belongings, rest_at, value_by, value_of, with_marks, chunks_of, HeapForm, IsSharedValue, WorkerPartFits, belongings_of_part, IsWell, free_at_rest, by_chunks, seen_object, measured_written, chunks_elsewhere, chunks_put, chunks_same, form_written, room_written, put_rest}
 use Rattle.step_commit.proofs.below.core_invariant.PartFitsMachine as link
 use Rattle.remote_access.proofs.ForeignObject.{IsForeign}
 
@@ -15,7 +15,7 @@ resting l hs u = cond (is_none (heap_of l u).worker) (hs u) no_belongings
 pub resting_is : (l : Ledger) (hs : ℕ → Belongings) (u : ℕ) → Rests l u → resting l hs u ≡ hs u
 resting_is l hs u r = cond-true (is_none (heap_of l u).worker) (hs u) no_belongings (ap is_none r)
 
-module _ (w : SharedValue) (k : ℕ) (p : Private) (I : IsSharedValue w) (F : Fits w k p) (on : (accounts w).end ≡ None) where
+module _ (w : SharedValue) (k : ℕ) (p : Private) (I : IsSharedValue w) (F : WorkerPartFits w k p) (on : (accounts w).end ≡ None) where
   abbrev pub t : ℕ
   t = p.task
 

@@ -1,7 +1,7 @@
 -- Entries of a part's fresh steps and one that works on an object of another task, as the calls make them.
 use Rattle.remote_access.proofs.Common.{◌≡◌, ℕ, ℤ, ◌+◌, ◌++◌, Option, Some, ◌∷◌, [], ap, sym, subst, ◌∙◌, same_Some, ReservedVecValue, Line, Name, Task, onward, fetched, EntryValue, Ledger, task_steps, Addr, with_next, with_reference, Splits, FrameIsRead, all_set, goes_on, Private, SharedValue, accounts, IsSharedValue, GoesAlone, alone_entry, AsksAlone, AsksLast, OtherStep, SetsNumber, SetsReference, SaysOther, TellsOther, then_places}
 use Rattle.step_commit.specs.below.hh_model.{with_int, with_ref}
-use Rattle.step_commit.specs.below.task_frames.{with_int as with_number}
+use Rattle.step_commit.specs.below.task_frames.{frames_with_int as with_number}
 use Rattle.step_commit.proofs.AloneEntries as own
 use Rattle.step_commit.proofs.LastStepEntry as last
 use Rattle.remote_access.proofs.ReadEntered.{read_goes, read_world}

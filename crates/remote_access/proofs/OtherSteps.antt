@@ -1,5 +1,5 @@
 -- What the next step of a part does in the machine, if it works on an object that another task owns.
-use Rattle.remote_access.proofs.Common.{◌≡◌, ℕ, ℤ, pos, ◌==◌, Bool, true, false, cond, Option, Some, None, List, length, slice_get, slice_set, unwrap_or, inl, inr, refl, ap, ap₂, sym, subst, ◌∙◌, option_flatten, cases_eq, cond-false, cond-true, ne_eqb, Instr, Set, Mov, Movr, Nil as NilOf, Calc, Same, Jmp, Jz, Newm, Pack, Getr, Geti, Putr, Puti, Cntr, Cnti, Freeze, Cas, Call, Par, Ret, Out, Line, Frame, Name, Object, MachineState, Task, Trap, Range, Frozen as FrozenTrap, Effect, Goes, Stops as StopsBy, Traps as TrapsBy, effect, int_in, object_at, onward, or_trap, place_in, put_object, read_effect, ref_in, same_name, unless_frozen, with_object, refs_of, precedes, can_step, fetched, follow, is_running, runs, setting, step, strand_of, IsStored, Closed, at_in, named_from_in, seen, step_taken, run_stored, Ledger, task_steps, touched, Addr, Cell, cell_of, same_reference, is_on_path as tree_path, Rests, own, rested, JustReads, In, Memory, with_belongings, ReadsReference, Place, field_of, Private, int_of, ref_of, SharedValue, accounts, value_of, IsSharedValue, Fits, belongings_of_part, refs_long, OtherStep, SetsNumber, SetsReference, StoresReference, Swaps, StoresNumber, ReadsTo, SaysOther, object_named, or_frozen, or_range, other_step, reads_into, swaps, yields}
+use Rattle.remote_access.proofs.Common.{◌≡◌, ℕ, ℤ, pos, ◌==◌, Bool, true, false, cond, Option, Some, None, List, length, slice_get, slice_set, unwrap_or, inl, inr, refl, ap, ap₂, sym, subst, ◌∙◌, option_flatten, cases_eq, cond-false, cond-true, ne_eqb, Instr, Set, Mov, Movr, Nil as NilOf, Calc, Same, Jmp, Jz, Newm, Pack, Getr, Geti, Putr, Puti, Cntr, Cnti, Freeze, Cas, Call, Par, Ret, Out, Line, Frame, Name, Object, MachineState, Task, Trap, Range, Frozen as FrozenTrap, Effect, Goes, Stops as StopsBy, Traps as TrapsBy, effect, int_in, object_at, onward, or_trap, place_in, put_object, read_effect, ref_in, same_name, unless_frozen, with_object, refs_of, precedes, can_step, fetched, follow, is_running, runs, setting, step, strand_of, IsStored, Closed, at_in, named_from_in, seen, step_taken, run_stored, Ledger, task_steps, touched, Addr, Cell, cell_of, same_reference, node_on_path as tree_path, Rests, own, rested, JustReads, In, Memory, with_belongings, ReadsReference, LiesWithOwner, field_of, Private, int_of, ref_of, SharedValue, accounts, value_of, IsSharedValue, WorkerPartFits, belongings_of_part, refs_long, OtherStep, SetsNumber, SetsReference, StoresReference, Swaps, StoresNumber, ReadsTo, SaysOther, object_named, or_frozen, or_range, other_step, reads_into, swaps, yields}
 use Rattle.step_commit.specs.below.hh_model.{Nil as NilTrap, with_int, with_ref, goes_on, owner_of}
 use Rattle.step_commit.proofs.below.core_invariant.PartFitsMachine as link
 use Rattle.remote_access.specs.declared.other.OtherStep.TheVariants.{Stops, Traps}
@@ -7,7 +7,7 @@ use Rattle.remote_access.proofs.ForeignObject.{IsForeign, holds, number_at, regi
 use Rattle.remote_access.proofs.TreePaths.{paths_same}
 use Rattle.remote_access.proofs.ForeignAddresses.{tests_same}
 
-module _ (w : SharedValue) (k : ℕ) (p : Private) (I : IsSharedValue w) (F : Fits w k p) (on : (accounts w).end ≡ None) where
+module _ (w : SharedValue) (k : ℕ) (p : Private) (I : IsSharedValue w) (F : WorkerPartFits w k p) (on : (accounts w).end ≡ None) where
   abbrev t : ℕ
   t = p.task
 
@@ -30,7 +30,7 @@ module _ (w : SharedValue) (k : ℕ) (p : Private) (I : IsSharedValue w) (F : Fi
   top = X.top
 
   abbrev place : Name → Addr → Type 0
-  place = Place v' L
+  place = LiesWithOwner v' L
 
   task_is_in_machine : slice_get m.tasks t ≡ Some X
   task_is_in_machine = link.task_is_in_machine w k p I F on

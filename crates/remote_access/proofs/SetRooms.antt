@@ -1,5 +1,5 @@
 -- The shared value after only the spare capacity of its sets changes.
-use Rattle.remote_access.proofs.Common.{◌≡◌, ℕ, List, length, slice_get, refl, ap, sym, subst, ◌∙◌, SetOf, content_at, Memory, StandsForAll, WorkerFits, Private, SharedValue, accounts, marks_at, noted_in, tree_counts_of, value_of, IsSharedValue, Fits, part_of, noted_is, noted_of, SameButRoom}
+use Rattle.remote_access.proofs.Common.{◌≡◌, ℕ, List, length, slice_get, refl, ap, sym, subst, ◌∙◌, SetOf, content_at, Memory, StandsForAll, WorkerFits, Private, SharedValue, accounts, marks_at, noted_in, tree_counts_of, value_of, IsSharedValue, WorkerPartFits, part_of, noted_is, noted_of, SameButRoom}
 
 module _ (w : SharedValue) (sets : List SetOf) (many : length sets ≡ length w.sets) (same : (t : ℕ) → content_at sets t ≡ content_at w.sets t) where
   abbrev roomier : SharedValue
@@ -25,7 +25,7 @@ module _ (w : SharedValue) (sets : List SetOf) (many : length sets ≡ length w.
     measured = I.measured;
   }
 
-  pub roomier_fit : (k : ℕ) (p : Private) → Fits w k p → Fits roomier k p
+  pub roomier_fit : (k : ℕ) (p : Private) → WorkerPartFits w k p → WorkerPartFits roomier k p
   roomier_fit k p F = record {
     out = F.out;
     fits = subst (λ (v : Memory). WorkerFits w.program w.settings (part_of w.settings p) v (accounts w)) value_same F.fits;

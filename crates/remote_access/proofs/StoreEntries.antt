@@ -1,5 +1,5 @@
 -- Entries with a store into an object of another task, as the calls make them.
-use Rattle.remote_access.proofs.Common.{◌≡◌, ℕ, ℤ, pos, ◌+◌, ◌<◌, ◌++◌, Option, Some, None, List, [], ◌∷◌, length, slice_get, slice_set, option_map, refl, ap, sym, subst, ◌∙◌, IsSome, slice_index_or, same_Some, slice_get-get_or, ReservedVecValue, Frame, Name, Object, Task, ref_in, EntryValue, Ledger, task_steps, touched, Addr, Cell, IsPlace, with_int as cell_int, with_ref as cell_ref, cell_of, object_of, slot_at, owner_of as pool_owner, FramesValue, ref_of, SetOf, IsOwned, content_after, content_at, own, rested, JustReads, Splits, Belongings, Memory, gone_on, with_belongings, StoresInto, StoresNotes, Place, name_at, Private, born_is, born_object, ParkedTask, SharedValue, accounts, rest_at, value_of, IsSharedValue, belongings_of_part, owner_held, GoesAlone, alone_entry, AsksAlone, AsksLast, StoresNumber, IsWritable, SaysOther, TellsOther, WritesNumber, WritesReference, put_rest, store_frames, store_of, then_places}
+use Rattle.remote_access.proofs.Common.{◌≡◌, ℕ, ℤ, pos, ◌+◌, ◌<◌, ◌++◌, Option, Some, None, List, [], ◌∷◌, length, slice_get, slice_set, option_map, refl, ap, sym, subst, ◌∙◌, IsSome, slice_index_or, same_Some, slice_get-get_or, ReservedVecValue, Frame, Name, Object, Task, ref_in, EntryValue, Ledger, task_steps, touched, Addr, Cell, BeginsInFirstUnit, cell_with_int as cell_int, with_ref as cell_ref, cell_of, object_of, slot_at, owner_of as pool_owner, FramesValue, ref_of, SetOf, PointsIntoOwned, content_after, content_at, own, rested, JustReads, Splits, Belongings, Memory, gone_on, with_belongings, StoresInto, StoresNotes, LiesWithOwner, name_at, Private, born_is, born_object, ParkedTask, SharedValue, accounts, rest_at, value_of, IsSharedValue, belongings_of_part, owner_held, GoesAlone, alone_entry, AsksAlone, AsksLast, StoresNumber, IsWritable, SaysOther, TellsOther, WritesNumber, WritesReference, put_rest, store_frames, store_of, then_places}
 use Rattle.step_commit.proofs.below.core_invariant.PartFitsMachine as link
 use Rattle.step_commit.proofs.AloneEntries as own
 use Rattle.step_commit.proofs.LastStepEntry as last
@@ -52,16 +52,16 @@ module _ {w : SharedValue} {k : ℕ} {p : Private} (asks : AsksAlone w k p) wher
   owned b u e = made_there w I on u (sym ((link.alone w k p I F on).tree.made u) ∙ (link.W w k p I F on).made b u e)
 
   abbrev pub place : Name → Addr → Type 0
-  place = Place (with_belongings (value_of w) t h) (rested M t)
+  place = LiesWithOwner (with_belongings (value_of w) t h) (rested M t)
 
-  placed : (n : Name) (e : Addr) → place n e → IsOwned (length w.tree) w.pool (Some e)
+  placed : (n : Name) (e : Addr) → place n e → PointsIntoOwned (length w.tree) w.pool (Some e)
   placed n e P = (owner_held w.pool e.chunk (own (rested M t) n) P.chunk, λ u q. owned e.chunk u q)
 
   -- what a register holds may be written
-  register_owned : (b : ℕ) → IsOwned (length w.tree) w.pool (ref_of p.frames.top b)
+  register_owned : (b : ℕ) → PointsIntoOwned (length w.tree) w.pool (ref_of p.frames.top b)
   register_owned b = register_owned_by_cases (ref_of p.frames.top b) refl
     where
-      register_owned_by_cases : (r : Option Addr) → ref_of p.frames.top b ≡ r → IsOwned (length w.tree) w.pool r
+      register_owned_by_cases : (r : Option Addr) → ref_of p.frames.top b ≡ r → PointsIntoOwned (length w.tree) w.pool r
       register_owned_by_cases None e = tt
       register_owned_by_cases (Some a) e = let n = reads_address place (ref_of p.frames.top b) (ref_in X.top b) a (register_at w k p I F on b) e in placed n.0 a n.2
 
@@ -127,10 +127,10 @@ module _ {w : SharedValue} {k : ℕ} {p : Private} (asks : AsksAlone w k p) wher
         stored.field_there asked n store.writes.object store.touches store.writes.is store.writes.frame store.writes.store store.writes.does store.not store.o store.writes.named a store.at
         store.b store.j i (flag_of swap) store.writes.place store.pack (store_frames swap p.frames).top (store_top swap p.frames)
 
-    held_owned : IsOwned (length w.tree) w.pool (slice_index_or (object_of foreign.rest.heap.chunks a).refs i None)
+    held_owned : PointsIntoOwned (length w.tree) w.pool (slice_index_or (object_of foreign.rest.heap.chunks a).refs i None)
     held_owned = held_owned_by_cases (slice_index_or (object_of foreign.rest.heap.chunks a).refs i None) (ap (λ (q : Cell). slice_get q.refs i) (sym cell_is) ∙ slice_get-get_or (object_of foreign.rest.heap.chunks a).refs i None field_there)
       where
-        held_owned_by_cases : (q : Option Addr) → slice_get cell.refs i ≡ Some q → IsOwned (length w.tree) w.pool q
+        held_owned_by_cases : (q : Option Addr) → slice_get cell.refs i ≡ Some q → PointsIntoOwned (length w.tree) w.pool q
         held_owned_by_cases None e = tt
         held_owned_by_cases (Some z) e = let y = name_at place cell.refs foreign.object.refs i z foreign.refs e in placed y.0 z y.2
 
@@ -147,11 +147,11 @@ module _ {w : SharedValue} {k : ℕ} {p : Private} (asks : AsksAlone w k p) wher
       overwritten = held_owned;
     }
 
-    pub value_owned : IsOwned (length w.tree) w.pool r
-    value_owned = subst (IsOwned (length w.tree) w.pool) (sym store.value) (register_owned store.b)
+    pub value_owned : PointsIntoOwned (length w.tree) w.pool r
+    value_owned = subst (PointsIntoOwned (length w.tree) w.pool) (sym store.value) (register_owned store.b)
 
-    pub value_place : IsPlace r
-    value_place = subst IsPlace (sym store.value) ((own.is_safe asks).places store.b)
+    pub value_place : BeginsInFirstUnit r
+    value_place = subst BeginsInFirstUnit (sym store.value) ((own.is_safe asks).places store.b)
 
     abbrev pub part_after : Private
     part_after = record p { frames = store_frames swap p.frames; fresh = 0 }

@@ -1,5 +1,5 @@
 -- A store into an object of another task: how it changes the value, and what it notes.
-use Rattle.remote_access.proofs.Common.{◌≡◌, ◌⊎◌, ℕ, ℤ, ◌+◌, ◌<◌, ◌≤◌, ◌&&◌, not, arith, true, false, Option, Some, None, List, ◌∷◌, length, length-set, slice_get, option_map, inl, inr, refl, ap, ap₂, sym, subst, ◌∙◌, same_Some, false_from_ne_true, Name, Task, ref_in, parents, path_le, Ledger, heap_of, Addr, Birth, Cell, size_of, with_int as cell_int, with_ref as cell_ref, Located, located, owner_of as pool_owner, CallFrame, ref_of, int_of, is_on_path as tree_path, RefField, SetOf, content_after, content_at, own, Belongings, In, Memory, objects, sources, StoresAt, StoresNumberAt, gone_on, with_field, with_int_field, with_belongings, ReadsReference, Keeps, OthersNotes, StoresNotes, Place, Private, SharedValue, accounts, value_of, IsSharedValue, Fits, belongings_of_part, part_idle, stands_now}
+use Rattle.remote_access.proofs.Common.{◌≡◌, ◌⊎◌, ℕ, ℤ, ◌+◌, ◌<◌, ◌≤◌, ◌&&◌, not, arith, true, false, Option, Some, None, List, ◌∷◌, length, length-set, slice_get, option_map, inl, inr, refl, ap, ap₂, sym, subst, ◌∙◌, same_Some, false_from_ne_true, Name, Task, ref_in, parents, path_le, Ledger, heap_of, Addr, Birth, Cell, size_of, cell_with_int as cell_int, with_ref as cell_ref, Located, located, owner_of as pool_owner, CallFrame, ref_of, int_of, node_on_path as tree_path, RefField, SetOf, content_after, content_at, own, Belongings, In, Memory, objects, sources, StoresAt, StoresNumberAt, gone_on, with_field, with_int_field, with_belongings, ReadsReference, KeepsOldValue, OthersNotes, StoresNotes, LiesWithOwner, Private, SharedValue, accounts, value_of, IsSharedValue, WorkerPartFits, belongings_of_part, part_idle, stands_now}
 use Rattle.step_commit.specs.below.hh_model.{is_on_path}
 use Rattle.step_commit.proofs.below.refinement.Store as store
 use Rattle.step_commit.proofs.below.core_invariant.PartFitsMachine as link
@@ -15,7 +15,7 @@ reads_address at None (Some n) a h e = absurd h
 reads_address at (Some b) None a h e = absurd h
 reads_address at (Some b) (Some n) a h e = (n, refl, subst (at n) (same_Some b a e) h)
 
-module _ (w : SharedValue) (k : ℕ) (p : Private) (I : IsSharedValue w) (F : Fits w k p) (on : (accounts w).end ≡ None) where
+module _ (w : SharedValue) (k : ℕ) (p : Private) (I : IsSharedValue w) (F : WorkerPartFits w k p) (on : (accounts w).end ≡ None) where
   abbrev t : ℕ
   t = p.task
 
@@ -93,7 +93,7 @@ module _ (w : SharedValue) (k : ℕ) (p : Private) (I : IsSharedValue w) (F : Fi
 
       down : (e : Addr) (y z : ℕ) → ref_of p.frames.top b ≡ Some e → v0.owner a.chunk ≡ Some y → v0.owner e.chunk ≡ Some z → is_on_path L.machine.tasks z y ≡ false → In (sources new z) (record { object = a; field = i })
       down e y z er ea ee off =
-          let r = reads_address (Place (with_belongings (value_of w) t h) L) (ref_of p.frames.top b) (ref_in X.top b) e (register_at w k p I F on b) er in
+          let r = reads_address (LiesWithOwner (with_belongings (value_of w) t h) L) (ref_of p.frames.top b) (ref_in X.top b) e (register_at w k p I F on b) er in
           let yn : y ≡ u = same_Some y u (sym ea ∙ O.place.chunk) in
           let zr : z ≡ own L r.0 = same_Some z (own L r.0) (sym ee ∙ r.2.chunk) in
           let off' : is_on_path L.machine.tasks (own L r.0) u ≡ false = ap₂ (is_on_path L.machine.tasks) (sym zr) (sym yn) ∙ off in
@@ -123,7 +123,7 @@ module _ (w : SharedValue) (k : ℕ) (p : Private) (I : IsSharedValue w) (F : Fi
       old_field : (s : Located) (e : Addr) (birth : Birth) → s ≡ located s.at.chunk s.at.offset birth c → slice_get s.refs i ≡ Some (Some e) → overwritten ≡ Some e
       old_field s e birth is at = same_Some overwritten (Some e) (sym was ∙ (ap (λ (y : Located). slice_get y.refs i) (sym is) ∙ at))
 
-      keeps : (z : ℕ) → (z ≡ t → ⊥) → (old.noted z).keeps ≡ true → Keeps old new z a i
+      keeps : (z : ℕ) → (z ≡ t → ⊥) → (old.noted z).keeps ≡ true → KeepsOldValue old new z a i
       keeps z ne on' = record {
         marked = refl;
         more = (noting.kept_more w.tree w.pool w.sets sets a i overwritten value u O.place.chunk C z).0;

@@ -1,5 +1,5 @@
 -- Stores into objects of other tasks, as the calls make them.
-use Rattle.remote_access.proofs.Common.{◌≡◌, ℕ, ℤ, ◌<◌, Option, Some, None, List, length, slice_get, slice_set, option_map, refl, ap, sym, subst, ◌∙◌, slice_index_or, same_Some, slice_get-get_or, got_same, ReservedVecValue, Instr, Puti, Frame as ModelFrame, Name, Object, MachineState, Task, Goes, effect, int_in, object_at, place_in, ref_in, follow, runs, setting, place_within, EntryValue, touched, Addr, Cell, size_of, with_int as cell_int, with_ref as cell_ref, cell_of, object_of, CallFrame, int_of, ref_of, SetOf, content_after, content_at, own, rested, JustReads, WritesOther, Belongings, Memory, StoresAt, gone_on, with_field, with_int_field as number_field, with_belongings, StoresInto, StoresNotes, Private, born_object, ParkedTask, SharedValue, value_of, IsSharedValue, belongings_of_part, refs_long, GoesAlone, AsksLast, same_object, writing}
+use Rattle.remote_access.proofs.Common.{◌≡◌, ℕ, ℤ, ◌<◌, Option, Some, None, List, length, slice_get, slice_set, option_map, refl, ap, sym, subst, ◌∙◌, slice_index_or, same_Some, slice_get-get_or, got_same, ReservedVecValue, Instr, Puti, Frame as ModelFrame, Name, Object, MachineState, Task, Goes, effect, int_in, object_at, place_in, ref_in, follow, runs, setting, place_within, EntryValue, touched, Addr, Cell, size_of, cell_with_int as cell_int, with_ref as cell_ref, cell_of, object_of, CallFrame, int_of, ref_of, SetOf, content_after, content_at, own, rested, JustReads, WritesOther, Belongings, Memory, StoresAt, gone_on, with_field, with_int_field as number_field, with_belongings, StoresInto, StoresNotes, Private, born_object, ParkedTask, SharedValue, value_of, IsSharedValue, belongings_of_part, refs_long, GoesAlone, AsksLast, same_object, writing}
 use Rattle.step_commit.specs.below.hh_model.{owner_of}
 use Rattle.step_commit.proofs.below.core_invariant.PartFitsMachine as link
 use Rattle.step_commit.proofs.LastStepEntry as last

@@ -1,5 +1,5 @@
 -- The tree has the paths of the machine's tasks.
-use Rattle.remote_access.proofs.Common.{◌≡◌, ℕ, zero, suc, ◌<◌, ◌==◌, ◌||◌, Bool, true, false, Option, Some, None, length, slice_get, option_map, is_some, refl, ap, ◌∙◌, false≢true, same_Some, got_within, Task, parents, path_by, through, Ledger, heap_of, TaskNode, parent_of as tree_parent, is_on_path as tree_path, SharedValue, accounts, IsSharedValue, stands_now, parent_is, as_node}
+use Rattle.remote_access.proofs.Common.{◌≡◌, ℕ, zero, suc, ◌<◌, ◌==◌, ◌||◌, Bool, true, false, Option, Some, None, length, slice_get, option_map, is_some, refl, ap, ◌∙◌, false≢true, same_Some, got_within, Task, parents, path_by, through, Ledger, heap_of, TaskNode, parent_of as tree_parent, node_on_path as tree_path, SharedValue, accounts, IsSharedValue, stands_now, parent_is, as_node}
 use Rattle.step_commit.specs.below.hh_model.{is_on_path}
 
 same_through : (f g : ℕ → Bool) → ((u : ℕ) → f u ≡ g u) → (o q : Option ℕ) → o ≡ q → through o false f ≡ through q false g

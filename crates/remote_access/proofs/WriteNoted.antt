@@ -1,6 +1,6 @@
 -- What the write of a reference notes, in the sets of the heaps.
 use Rattle.std.proofs.Common.{ne_eqb}
-use Rattle.remote_access.proofs.Common.{◌≡◌, ◌⊎◌, ℕ, ◌<◌, ◌==◌, ◌&&◌, ◌++◌, not, Bool, true, false, cond, Option, Some, None, List, [], ◌∷◌, length, slice_get, option_map, inl, inr, refl, ap, ap₂, sym, subst, ◌∙◌, eq-eqb, option_to_list, and_parts, cond-true, false≢true, both_ways, not-true, same_Some, append-nil, in_append_cases, in_append_left, in_append_right, got_none, Addr, PoolValue, owner_of, TaskNode, is_on_path, RefField, has_source, with_noted_source, source_in, SetOf, Content, content_after, content_at, content_of, is_down, with_source, option_is, held_is, In, Noted, noted_in, noted_is, noted_of}
+use Rattle.remote_access.proofs.Common.{◌≡◌, ◌⊎◌, ℕ, ◌<◌, ◌==◌, ◌&&◌, ◌++◌, not, Bool, true, false, cond, Option, Some, None, List, [], ◌∷◌, length, slice_get, option_map, inl, inr, refl, ap, ap₂, sym, subst, ◌∙◌, eq-eqb, option_to_list, and_parts, cond-true, false≢true, both_ways, not-true, same_Some, append-nil, in_append_cases, in_append_left, in_append_right, got_none, Addr, PoolValue, owner_of, TaskNode, node_on_path, RefField, has_source, with_noted_source, source_in, SetOf, Content, content_after, content_at, content_of, is_down, with_source, option_is, held_is, In, Noted, noted_in, noted_is, noted_of}
 use Rattle.step_commit.specs.below.write_barrier.{heap_of, noted_in as noted_heap}
 
 -- ---- ONE SET
@@ -116,14 +116,14 @@ module _ (tree : List TaskNode) (pool : PoolValue) (sets sets' : List SetOf) (a 
       sources_grow_by_cases (Some c) i' = subst (λ xs. In xs s) (sym (sources_after t c)) (one (option_is into t) c i')
 
   -- if it points down it is noted
-  pub notes_down : (b : Addr) (t : ℕ) → value ≡ Some b → owner_of pool b.chunk ≡ Some t → is_on_path tree u t ≡ true → (u ≡ t → ⊥) → t < length sets → In (now t).sources source
+  pub notes_down : (b : Addr) (t : ℕ) → value ≡ Some b → owner_of pool b.chunk ≡ Some t → node_on_path tree u t ≡ true → (u ≡ t → ⊥) → t < length sets → In (now t).sources source
   notes_down b t ev eb path ne lt = subst (λ (x : Noted). In x.sources source) (sym (now_is t)) (notes_down_by_cases (slice_get sets t) refl)
     where
       into_is : into ≡ Some t
       into_is =
           ap (noted_heap tree pool a) ev
           ∙ (ap₂ (λ x y. cond (is_down tree x y) y None) owner eb
-          ∙ cond-true (is_on_path tree u t && not (u == t)) (Some t) None (ap₂ (λ x y. x && not y) path (ne_eqb u t ne)))
+          ∙ cond-true (node_on_path tree u t && not (u == t)) (Some t) None (ap₂ (λ x y. x && not y) path (ne_eqb u t ne)))
 
       one : (c : Content) → In (after t c).sources source
       one c =
@@ -137,18 +137,18 @@ module _ (tree : List TaskNode) (pool : PoolValue) (sets sets' : List SetOf) (a 
 
   -- and nothing else is
   abbrev pub IsNew : ℕ → RefField → Type 0
-  IsNew t s = (b : Addr) × (value ≡ Some b) × (owner_of pool b.chunk ≡ Some t) × (is_on_path tree u t ≡ true) × (u ≡ t → ⊥) × (s ≡ source)
+  IsNew t s = (b : Addr) × (value ≡ Some b) × (owner_of pool b.chunk ≡ Some t) × (node_on_path tree u t ≡ true) × (u ≡ t → ⊥) × (s ≡ source)
 
-  new_test : (t : ℕ) (s : RefField) (b : Addr) (d : ℕ) → value ≡ Some b → s ≡ source → owner_of pool b.chunk ≡ Some d → (x : Bool) → (is_on_path tree u d && not (u == d)) ≡ x → cond x (Some d) None ≡ Some t → IsNew t s
+  new_test : (t : ℕ) (s : RefField) (b : Addr) (d : ℕ) → value ≡ Some b → s ≡ source → owner_of pool b.chunk ≡ Some d → (x : Bool) → (node_on_path tree u d && not (u == d)) ≡ x → cond x (Some d) None ≡ Some t → IsNew t s
   new_test t s b d ev es q false y z = absurd cc
   new_test t s b d ev es q true y z =
       let same : d ≡ t = same_Some d t z in
-      let parts = and_parts (is_on_path tree u d) (not (u == d)) y in
-      (b, ev, q ∙ z, ap (is_on_path tree u) (sym same) ∙ parts.0, (λ k. both_ways (u == d) (not-true (u == d) parts.1) (eq-eqb u d (k ∙ sym same))), es)
+      let parts = and_parts (node_on_path tree u d) (not (u == d)) y in
+      (b, ev, q ∙ z, ap (node_on_path tree u) (sym same) ∙ parts.0, (λ k. both_ways (u == d) (not-true (u == d) parts.1) (eq-eqb u d (k ∙ sym same))), es)
 
   new_at : (t : ℕ) (s : RefField) (b : Addr) → value ≡ Some b → s ≡ source → (o : Option ℕ) → owner_of pool b.chunk ≡ o → cond (is_down tree (Some u) o) o None ≡ Some t → IsNew t s
   new_at t s b ev es None q z = absurd cc
-  new_at t s b ev es (Some d) q z = new_test t s b d ev es q (is_on_path tree u d && not (u == d)) refl z
+  new_at t s b ev es (Some d) q z = new_test t s b d ev es q (node_on_path tree u d && not (u == d)) refl z
 
   new_by : (t : ℕ) (s : RefField) (v : Option Addr) → value ≡ v → s ≡ source → noted_heap tree pool a v ≡ Some t → IsNew t s
   new_by t s None ev es e = none_down (owner_of pool a.chunk) e

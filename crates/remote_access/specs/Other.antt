@@ -7,14 +7,14 @@ use Rattle.step_commit.specs.below.hh_model.{Entangled, Trapped, Frame as ModelF
 use Rattle.step_commit.specs.below.run_ledger.{owns, touched}
 use Rattle.step_commit.specs.below.object_layout.{Addr, Cell, IsObject, cell_of, object_of, put_object, ChunkValue, same_reference}
 use Rattle.step_commit.specs.below.chunk_pool.{PoolValue, slot_at, owner_of}
-use Rattle.step_commit.specs.below.task_frames.{CallFrame, FramesValue, with_int as with_number, with_next, int_of, ref_of}
-use Rattle.step_commit.specs.below.heap_tree.{TaskNode, is_on_path}
-use Rattle.step_commit.specs.below.write_barrier.{content_at, IsOwned}
+use Rattle.step_commit.specs.below.task_frames.{CallFrame, FramesValue, frames_with_int as with_number, with_next, int_of, ref_of}
+use Rattle.step_commit.specs.below.heap_tree.{TaskNode, node_on_path}
+use Rattle.step_commit.specs.below.write_barrier.{content_at, PointsIntoOwned}
 use Rattle.step_commit.specs.below.ledger_step_laws.{rested, JustReads}
-use Rattle.step_commit.specs.below.refinement.{with_belongings, ReadsReference, Place}
+use Rattle.step_commit.specs.below.refinement.{with_belongings, ReadsReference, LiesWithOwner}
 use Rattle.step_commit.specs.below.task_machine.{Private}
 use Rattle.step_commit.specs.below.task_slots.{ParkedTask}
-use Rattle.step_commit.specs.below.core_invariant.{SharedValue, rest_at, value_of, Fits, belongings_of_part}
+use Rattle.step_commit.specs.below.core_invariant.{SharedValue, rest_at, value_of, WorkerPartFits, belongings_of_part}
 use Rattle.step_commit.specs.Alone.{machine_after, then_accounts}
 use Rattle.remote_access.specs.declared.other.OtherStep.{OtherStep}
 use Rattle.remote_access.specs.declared.other.OtherStep.TheVariants.{SetsNumber, SetsReference, Stops, Traps, StoresReference, Swaps, StoresNumber}
@@ -54,7 +54,7 @@ object_named f _ = None
 pub record IsReadable (made : ℕ) (pool : PoolValue) (t : ℕ) (ks : List ChunkValue) (a : Addr) : Type 0 where
   pub object : IsObject (cell_of ks a).mark
   pub reader : t < made
-  pub refs : (i : ℕ) (r : Option Addr) → slice_get (object_of ks a).refs i ≡ Some r → IsOwned made pool r
+  pub refs : (i : ℕ) (r : Option Addr) → slice_get (object_of ks a).refs i ≡ Some r → PointsIntoOwned made pool r
 
 -- ---- WHAT IT DOES
 
@@ -62,7 +62,7 @@ pub record IsReadable (made : ℕ) (pool : PoolValue) (t : ℕ) (ks : List Chunk
 -- is stopped
 abbrev pub yields : List TaskNode → ℕ → ℕ → Addr → Option ℕ → OtherStep
 yields tree t d a None = SetsReference d (Some a)
-yields tree t d a (Some u) = if is_on_path tree u t then SetsReference d (Some a) else Stops u
+yields tree t d a (Some u) = if node_on_path tree u t then SetsReference d (Some a) else Stops u
 
 abbrev pub reads_into : List TaskNode → PoolValue → ℕ → ℕ → Option Addr → OtherStep
 reads_into tree pool t d None = SetsReference d None
@@ -149,7 +149,7 @@ pub record TellsOtherOf (p : ProgramText) (at : Name → Addr → Type 0) (part 
 
 -- the addresses of names after the part's fresh steps
 abbrev pub then_places : SharedValue → Private → Name → Addr → Type 0
-then_places w p = Place (with_belongings (value_of w) p.task (belongings_of_part p)) (rested (then_accounts w p) p.task)
+then_places w p = LiesWithOwner (with_belongings (value_of w) p.task (belongings_of_part p)) (rested (then_accounts w p) p.task)
 
 abbrev pub TellsOther : SharedValue → Private → OtherStep → ℕ → Type 0
 TellsOther w p does number = TellsOtherOf w.program (then_places w p) p (then_accounts w p).machine p.task does number
@@ -167,7 +167,7 @@ pub record IsWritable (made : ℕ) (pool : PoolValue) (rests : List (Option Park
   pub there : rest_at rests owner ≡ Some rest
   pub object : IsObject (cell_of rest.heap.chunks a).mark
   pub field : i < length (object_of rest.heap.chunks a).refs
-  pub overwritten : IsOwned made pool (slice_index_or (object_of rest.heap.chunks a).refs i None)
+  pub overwritten : PointsIntoOwned made pool (slice_index_or (object_of rest.heap.chunks a).refs i None)
 
 -- the parked state of a task, after a cell of its heap is replaced
 abbrev pub put_rest : ParkedTask → Addr → Cell → ParkedTask
@@ -187,4 +187,4 @@ store_frames (Some d) s = with_next (with_number s d (pos 1)) (s.top.next + 1)
 pub record SameButRoom (w after : SharedValue) : Type 0 where
   pub same : after ≡ record w { sets = after.sets }
   pub sets : (t : ℕ) → content_at after.sets t ≡ content_at w.sets t
-  pub fit : (k : ℕ) (p : Private) → Fits w k p → Fits after k p
+  pub fit : (k : ℕ) (p : Private) → WorkerPartFits w k p → WorkerPartFits after k p

@@ -3,7 +3,7 @@
 ghost use Rattle.std.specs.Prelude.{◌≡◌, ◌<◌, pos, length, slice_get, unwrap_or, Some, None};
 ghost use Rattle.step_commit.specs.below.hh_model.{place_in};
 ghost use Rattle.step_commit.specs.below.object_layout.{IsObject, cell_of, object_of};
-ghost use Rattle.step_commit.specs.below.write_barrier.{IsOwned};
+ghost use Rattle.step_commit.specs.below.write_barrier.{PointsIntoOwned};
 ghost use Rattle.step_commit.specs.below.task_frames.{int_of, ref_of};
 ghost use Rattle.remote_access.specs.Other.{object_named, or_frozen, or_range, other_step, reads_into, swaps, IsReadable};
 
@@ -51,7 +51,7 @@ pub fn named(part: &Private, instr: Instr) -> Option<Addr>
 // The result of a read of a reference.
 fn yielded(tree: &Tree, pool: &Pool, reader: u32, register: RefReg, held: Option<Addr>) -> OtherStep
     requires reader { reader < length tree.now }
-    requires owned { IsOwned (length tree.now) pool.now held }
+    requires owned { PointsIntoOwned (length tree.now) pool.now held }
     ensures { result ≡ reads_into tree.now pool.now reader register held }
 {
     let Some(to) = held else {

@@ -1,9 +1,9 @@
 // A write of an object in the heap of a task that no worker holds, and the frames after it.
 
 ghost use Rattle.std.specs.Prelude.{◌≡◌, ◌<◌, ◌+◌, ◌^◌, OnErr, OnOk, None, ◌≤◌, ℕ, IsSome, Some, length, option_map, slice_index_or, slice_set};
-ghost use Rattle.step_commit.specs.below.object_layout.{with_int, with_ref, IsPlace, cell_of, object_of};
+ghost use Rattle.step_commit.specs.below.object_layout.{cell_with_int, with_ref, BeginsInFirstUnit, cell_of, object_of};
 ghost use Rattle.step_commit.specs.below.chunk_pool.{slot_at, owner_of};
-ghost use Rattle.step_commit.specs.below.write_barrier.{content_after, content_at, IsOwned};
+ghost use Rattle.step_commit.specs.below.write_barrier.{content_after, content_at, PointsIntoOwned};
 ghost use Rattle.step_commit.specs.below.core_invariant.{rest_at};
 ghost use Rattle.step_commit.specs.below.task_slots.{ParkedTask as RestOf};
 ghost use Rattle.remote_access.specs.Other.{store_frames, put_rest, IsWritable};
@@ -20,8 +20,8 @@ pub fn write_reference(
     value: Option<Addr>,
 ) -> Result<(), AllocError>
     requires there { IsWritable (length tree.now) heaps.old.pool heaps.old.task_slots.rests object field }
-    requires value { IsOwned (length tree.now) heaps.old.pool value }
-    requires place { IsPlace value }
+    requires value { PointsIntoOwned (length tree.now) heaps.old.pool value }
+    requires place { BeginsInFirstUnit value }
     requires task_slots { length tree.now ≤ length heaps.old.task_slots.rests }
     ensures pool { heaps.new.pool ≡ heaps.old.pool }
     ensures marks { heaps.new.task_slots.marks ≡ heaps.old.task_slots.marks }
@@ -50,7 +50,7 @@ pub fn write_number(heaps: &mut Heaps, object: Addr, field: u32, value: i64)
     requires there { (o : ℕ) → owner_of heaps.old.pool object.chunk ≡ Some o → IsSome (rest_at heaps.old.task_slots.rests o) }
     requires field { (o : ℕ) (r : RestOf) → owner_of heaps.old.pool object.chunk ≡ Some o → rest_at heaps.old.task_slots.rests o ≡ Some r → field < length (object_of r.heap.chunks object).ints }
     ensures pool { heaps.new.pool ≡ heaps.old.pool }
-    ensures written { (o : ℕ) (r : RestOf) → owner_of heaps.old.pool object.chunk ≡ Some o → rest_at heaps.old.task_slots.rests o ≡ Some r → heaps.new.task_slots ≡ record heaps.old.task_slots { rests = slice_set heaps.old.task_slots.rests o (Some (put_rest r object (with_int (cell_of r.heap.chunks object) field value))) } }
+    ensures written { (o : ℕ) (r : RestOf) → owner_of heaps.old.pool object.chunk ≡ Some o → rest_at heaps.old.task_slots.rests o ≡ Some r → heaps.new.task_slots ≡ record heaps.old.task_slots { rests = slice_set heaps.old.task_slots.rests o (Some (put_rest r object (cell_with_int (cell_of r.heap.chunks object) field value))) } }
 {
     let owner = heaps.pool.owner(object.chunk);
     heaps.task_slots.set_number(owner, object, field, value);

@@ -1,5 +1,5 @@
 -- A step of a renamed task is the renamed step.
-use Rattle.renaming_laws.proofs.Common.{◌≡◌, ℕ, ℤ, ◌+◌, ◌≤◌, Bool, Option, Some, None, List, [], ◌∷◌, ◌++◌, length, map, slice_get, slice_set, inl, inr, refl, ap, sym, subst, ◌∙◌, arith, length-append, length-set, option_map, slice_get-map, In, in_append_cases, in_append_left, in_append_right, in_map, Name, Edge, Object, Frame, TaskStatus, Running, Waiting, Ended, Joined, Task, End, MachineState, object_at, row_of, with_int, with_ref, can_step, edge, ended_by, goes_on, is_running, join_of, joined_task, result_at, result_in, resumed, runs, strand, with_task, IsRenaming, name_to, ref_to, edge_to, object_to, frame_to, status_to, task_to, end_to, AreAlike}
+use Rattle.renaming_laws.proofs.Common.{◌≡◌, ℕ, ℤ, ◌+◌, ◌≤◌, Bool, Option, Some, None, List, [], ◌∷◌, ◌++◌, length, map, slice_get, slice_set, inl, inr, refl, ap, sym, subst, ◌∙◌, arith, length-append, length-set, option_map, slice_get-map, In, in_append_cases, in_append_left, in_append_right, in_map, Name, Edge, Object, Frame, TaskStatus, Running, Waiting, Ended, Joined, Task, End, MachineState, object_at, row_of, with_int, with_ref, can_step, edge, ended_by, goes_on, is_running, join_of, joined_task, result_at, result_in, resumed, runs, strand, with_task, IsRenaming, name_to, ref_to, edge_to, object_to, frame_to, status_to, task_to, end_to, AreRenamed}
 use Rattle.renaming_laws.proofs.Effects.{set_carried}
 use Rattle.renaming_laws.proofs.Lists.{ListTo, from_map, push_to, set_to}
 
@@ -34,7 +34,7 @@ pub row_to : (f : ℕ → ℕ) (o : Option (List Object)) → row_of (option_map
 row_to f None = refl
 row_to f (Some row) = refl
 
-module _ (n : ℕ) (f g : ℕ → ℕ) (R : IsRenaming n f g) (m m' : MachineState) (A : AreAlike f m m') where
+module _ (n : ℕ) (f g : ℕ → ℕ) (R : IsRenaming n f g) (m m' : MachineState) (A : AreRenamed f m m') where
   abbrev TasksTo : List Task → List Task → Type 0
   TasksTo = ListTo f g R.back (task_to f)
 
@@ -54,7 +54,7 @@ module _ (n : ℕ) (f g : ℕ → ℕ) (R : IsRenaming n f g) (m m' : MachineSta
 
   -- a task's record becomes another
   pub own : (t : ℕ) (y y' : Task) (st st' : List (List Object)) (outs outs' : List ℤ) → y' ≡ task_to f y → StoreTo st st'
-      → AreAlike f (record m { tasks = slice_set m.tasks t y; store = st; outputs = outs }) (record m' { tasks = slice_set m'.tasks (f t) y'; store = st'; outputs = outs' })
+      → AreRenamed f (record m { tasks = slice_set m.tasks t y; store = st; outputs = outs }) (record m' { tasks = slice_set m'.tasks (f t) y'; store = st'; outputs = outs' })
   own t y y' st st' outs outs' e objects = record {
     limit = A.limit;
     count = length-set m'.tasks (f t) y' ∙ (A.count ∙ sym (length-set m.tasks t y));
@@ -64,10 +64,10 @@ module _ (n : ℕ) (f g : ℕ → ℕ) (R : IsRenaming n f g) (m m' : MachineSta
     end = A.end;
   }
 
-  pub written : (t : ℕ) (y y' : Task) → y' ≡ task_to f y → AreAlike f (with_task m t y) (with_task m' (f t) y')
+  pub written : (t : ℕ) (y y' : Task) → y' ≡ task_to f y → AreRenamed f (with_task m t y) (with_task m' (f t) y')
   written t y y' e = own t y y' m.store m'.store m.outputs m'.outputs e A.objects
 
-  pub halted : (e : End) → AreAlike f (ended_by m e) (ended_by m' (end_to f e))
+  pub halted : (e : End) → AreRenamed f (ended_by m e) (ended_by m' (end_to f e))
   halted e = record { limit = A.limit; count = A.count; tasks = A.tasks; objects = A.objects; edges = A.edges; end = refl }
 
   -- edges are added
@@ -93,7 +93,7 @@ module _ (n : ℕ) (f g : ℕ → ℕ) (R : IsRenaming n f g) (m m' : MachineSta
 
   -- two children join
   pub joins : (q l : ℕ) (xq xl xr : Task) (rl rr : ℤ × Option Name) → f (l + 1) ≡ f l + 1
-      → AreAlike f (join_of m q xq l xl xr rl rr) (join_of m' (f q) (task_to f xq) (f l) (task_to f xl) (task_to f xr) (result_to f rl) (result_to f rr))
+      → AreRenamed f (join_of m q xq l xl xr rl rr) (join_of m' (f q) (task_to f xq) (f l) (task_to f xl) (task_to f xr) (result_to f rl) (result_to f rr))
   joins q l xq xl xr rl rr pair = record {
     limit = A.limit;
     count =
@@ -121,7 +121,7 @@ module _ (n : ℕ) (f g : ℕ → ℕ) (R : IsRenaming n f g) (m m' : MachineSta
   -- two children start
   module _ (made : n ≤ length m.tasks) (rows : length m.store ≡ length m.tasks) (rows' : length m'.store ≡ length m'.tasks) where
     pub forks : (t : ℕ) (x y c d c' d' : Task) (a : ℕ) → c' ≡ task_to f c → d' ≡ task_to f d
-        → AreAlike f
+        → AreRenamed f
         (record m {
           tasks = slice_set m.tasks t y ++ c ∷ d ∷ [];
           store = m.store ++ [] ∷ [] ∷ [];

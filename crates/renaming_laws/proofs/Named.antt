@@ -1,5 +1,5 @@
 -- Places identify tasks.
-use Rattle.renaming_laws.proofs.Common.{◌≡◌, ℕ, zero, suc, ◌+◌, ◌<◌, ◌≤◌, ◌%◌, ◌⊎◌, inl, inr, true, false, Some, List, [], ◌∷◌, ◌++◌, Contains, length, slice_get, slice_set, refl, ap, sym, subst, ◌∙◌, arith, eq-eqb, ne_eqb, length-append, length-set, cases_eq, cases_lt, same_Some, In, contains_from_in, got_front, got_other, got_same, got_within, in_append_cases, in_append_left, in_append_right, in_from_contains, ProgramText, Strand, Edge, Task, MachineState, Running, Waiting, onward, child, edge, parent_of, parents, ended_task, is_left, is_running, joined_task, result_of, resumed, run_from, start, step, strand, strand_of, waits, start_is_fork_join_state, step_is_fork_join_state, runs_is, step_cases, PlacesAreNames, IsPlace, Place}
+use Rattle.renaming_laws.proofs.Common.{◌≡◌, ℕ, zero, suc, ◌+◌, ◌<◌, ◌≤◌, ◌%◌, ◌⊎◌, inl, inr, true, false, Some, List, [], ◌∷◌, ◌++◌, Contains, length, slice_get, slice_set, refl, ap, sym, subst, ◌∙◌, arith, eq-eqb, ne_eqb, length-append, length-set, cases_eq, cases_lt, same_Some, In, contains_from_in, got_front, got_other, got_same, got_within, in_append_cases, in_append_left, in_append_right, in_from_contains, ProgramText, Strand, Edge, Task, MachineState, Running, Waiting, onward, child, edge, parent_of, parents, ended_task, is_left, is_running, joined_task, result_of, resumed, run_from, start, step, strand, strand_of, waits, start_is_fork_join_state, step_is_fork_join_state, runs_is, step_cases, PlacesAreNames, IsForkPlace, ForkPlace}
 use Rattle.hh_model.proofs.ForkJoinStates.{IsForkJoinState}
 
 -- INVARIANTS of the edges of forks, which lead into first strands
@@ -249,7 +249,7 @@ module _ (tasks : List Task) (edges : List Edge) (F : Forks tasks edges) where
   into : (e : Edge) (t : ℕ) → In edges e → e.target ≡ strand t 0 → IsFork tasks e
   into e t i q = F.forks e i (ap (λ (s : Strand). s.joins) q)
 
-  each_by : (bound t : ℕ) → t < bound → t < length tasks → (place : Place) × IsPlace edges place t
+  each_by : (bound t : ℕ) → t < bound → t < length tasks → (place : ForkPlace) × IsForkPlace edges place t
   each_by zero t lt made = absurd (omega arith)
   each_by (suc bound) zero lt made = ([], refl)
   each_by (suc bound) (suc t) lt made =
@@ -269,7 +269,7 @@ module _ (tasks : List Task) (edges : List Edge) (F : Forks tasks edges) where
   never_first : (p k t : ℕ) → In edges (edge (strand p k) (strand t 0)) → t ≡ 0 → ⊥
   never_first p k t i z = let f = F.forks (edge (strand p k) (strand t 0)) i refl in let lt : p < t = f.later in omega arith
 
-  one_place : (place other : Place) (t : ℕ) → IsPlace edges place t → IsPlace edges other t → place ≡ other
+  one_place : (place other : ForkPlace) (t : ℕ) → IsForkPlace edges place t → IsForkPlace edges other t → place ≡ other
   one_place [] [] t a b = refl
   one_place [] (y ∷ ys) t a b = absurd (never_first b.0 y.0 t (fork_in b.0 y.0 t b.2) a)
   one_place (x ∷ xs) [] t a b = absurd (never_first a.0 x.0 t (fork_in a.0 x.0 t a.2) b)
@@ -278,10 +278,10 @@ module _ (tasks : List Task) (edges : List Edge) (F : Forks tasks edges) where
       let parent : a.0 ≡ b.0 = ap (λ (s : Strand). s.task) same in
       let joins : x.0 ≡ y.0 = ap (λ (s : Strand). s.joins) same in
       let side : x.1 ≡ y.1 = sym a.3 ∙ b.3 in
-      let above : xs ≡ ys = one_place xs ys b.0 (subst (IsPlace edges xs) parent a.1) b.1 in
+      let above : xs ≡ ys = one_place xs ys b.0 (subst (IsForkPlace edges xs) parent a.1) b.1 in
       λ i. (joins i, side i) ∷ above i
 
-  one_task : (place : Place) (t u : ℕ) → IsPlace edges place t → IsPlace edges place u → t ≡ u
+  one_task : (place : ForkPlace) (t u : ℕ) → IsForkPlace edges place t → IsForkPlace edges place u → t ≡ u
   one_task [] t u a b = a ∙ sym b
   one_task (x ∷ xs) t u a b =
       let parent : a.0 ≡ b.0 = one_task xs a.0 b.0 a.1 b.1 in

@@ -1,5 +1,5 @@
 -- Owners, and precedence of strands, under a renaming.
-use Rattle.renaming_laws.proofs.Common.{◌≡◌, ℕ, zero, suc, ◌<◌, ◌≤◌, Bool, true, false, cond, Option, Some, None, slice_get, ◌⊎◌, inl, inr, refl, ap, sym, subst, ◌∙◌, arith, option_map, cases_Bool, In, same_truth, Strand, Edge, TaskStatus, Running, Waiting, Ended, Joined, Task, MachineState, Precedes, precedes, is_joined, is_over, joined, owner_by, owner_of, parent_of, parents, through, IsForkJoinState, owner_here, IsRenaming, strand_to, edge_to, status_to, task_to, AreAlike}
+use Rattle.renaming_laws.proofs.Common.{◌≡◌, ℕ, zero, suc, ◌<◌, ◌≤◌, Bool, true, false, cond, Option, Some, None, slice_get, ◌⊎◌, inl, inr, refl, ap, sym, subst, ◌∙◌, arith, option_map, cases_Bool, In, same_truth, Strand, Edge, TaskStatus, Running, Waiting, Ended, Joined, Task, MachineState, Precedes, precedes, is_joined, is_over, joined, owner_by, owner_of, parent_of, parents, through, IsForkJoinState, owner_here, IsRenaming, strand_to, edge_to, status_to, task_to, AreRenamed}
 use Rattle.renaming_laws.proofs.Carried.{walk_to}
 
 pub over_to : (f : ℕ → ℕ) (s : TaskStatus) → is_over (status_to f s) ≡ is_over s
@@ -17,10 +17,10 @@ joined_to f None = refl
 joined_to f (Some x) = over_to f x.status
 
 -- what happens before a strand still does
-pub walks : (f : ℕ → ℕ) (a b : MachineState) → AreAlike f a b → (u v : Strand) → Precedes a.edges u v → Precedes b.edges (strand_to f u) (strand_to f v)
+pub walks : (f : ℕ → ℕ) (a b : MachineState) → AreRenamed f a b → (u v : Strand) → Precedes a.edges u v → Precedes b.edges (strand_to f u) (strand_to f v)
 walks f a b A u v w = walk_to f a.edges b.edges (λ e. (A.edges e).1) w.0 u v w.1
 
-module _ (n : ℕ) (f g : ℕ → ℕ) (R : IsRenaming n f g) (m m' : MachineState) (K : IsForkJoinState m) (K' : IsForkJoinState m') (A : AreAlike f m m') where
+module _ (n : ℕ) (f g : ℕ → ℕ) (R : IsRenaming n f g) (m m' : MachineState) (K : IsForkJoinState m) (K' : IsForkJoinState m') (A : AreRenamed f m m') where
   abbrev par : ℕ → Option ℕ
   par = parents m.tasks
 

@@ -1,5 +1,5 @@
 -- Runs of renamed tasks.
-use Rattle.renaming_laws.proofs.Common.{ℕ, suc, ◌+◌, ◌≤◌, List, [], ◌∷◌, length, map, slice_set, arith, length-append, length-set, ProgramText, Waiting, MachineState, Counted, onward, child, ended_task, joined_task, result_of, resumed, run_from, start, step, IsForkJoinState, counted_step, run_counted, start_counted, run_is_fork_join_state, start_is_fork_join_state, step_is_fork_join_state, step_cases, AreAlike, RunsAreCarried, IsRenaming}
+use Rattle.renaming_laws.proofs.Common.{ℕ, suc, ◌+◌, ◌≤◌, List, [], ◌∷◌, length, map, slice_set, arith, length-append, length-set, ProgramText, Waiting, MachineState, Counted, onward, child, ended_task, joined_task, result_of, resumed, run_from, start, step, IsForkJoinState, counted_step, run_counted, start_counted, run_is_fork_join_state, start_is_fork_join_state, step_is_fork_join_state, step_cases, AreRenamed, RunsAreCarried, IsRenaming}
 use Rattle.renaming_laws.proofs.Stepped.{step_to}
 
 -- tasks persist
@@ -23,7 +23,7 @@ run_grows p m [] K = omega arith
 run_grows p m (t ∷ ts) K = let a = step_grows p m t K in let b = run_grows p (step p m t) ts (step_is_fork_join_state p m t K) in omega arith
 
 pub run_to : (p : ProgramText) (n : ℕ) (f g : ℕ → ℕ) → IsRenaming n f g → (more : List ℕ) (m m' : MachineState) (k k' : ℕ) → IsForkJoinState m → IsForkJoinState m' → Counted k m.tasks m.store → Counted k' m'.tasks m'.store
-    → n ≤ length m.tasks → AreAlike f m m' → AreAlike f (run_from p m more) (run_from p m' (map f more))
+    → n ≤ length m.tasks → AreRenamed f m m' → AreRenamed f (run_from p m more) (run_from p m' (map f more))
 run_to p n f g R [] m m' k k' K K' I I' made A = A
 run_to p n f g R (t ∷ more) m m' k k' K K' I I' made A =
     let up = step_grows p m t K in

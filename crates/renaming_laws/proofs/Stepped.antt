@@ -1,5 +1,5 @@
 -- A step of a renamed task is the renamed step.
-use Rattle.renaming_laws.proofs.Common.{◌≡◌, ℕ, ℤ, ◌+◌, ◌-◌, ◌<◌, ◌≤◌, ◌==◌, Bool, true, false, cond, Option, Some, None, List, [], ◌∷◌, ◌++◌, length, map, nat_lt, slice_get, slice_set, refl, ap, sym, subst, ◌∙◌, arith, option_map, cond-true, cond-false, length-map, map-append, map-set, slice_get-map, Instr, Line, ProgramText, Name, Object, Frame, Waiting, Task, Depth, Done, Trapped, Entangled, MachineState, Effect, Goes, Prints, Calls, Forks, Returns, Traps, Stops, StepContext, effect, int_in, object_at, onward, ref_in, row_of, with_int, with_ref, back_in, called, can_step, child, child_ended_by, depth_limit, ended_by, ended_task, entry_frame, fetched, follow, forked, frame_limit, front_of, is_left, join_of, result_at, last_of, last_return, or_same, owner_of, parent_of, parents, result_of, returned, returned_to, setting, sibling, step, stepped, strand, with_task, IsForkJoinState, IsRenaming, ref_to, object_to, frame_to, task_to, AreAlike}
+use Rattle.renaming_laws.proofs.Common.{◌≡◌, ℕ, ℤ, ◌+◌, ◌-◌, ◌<◌, ◌≤◌, ◌==◌, Bool, true, false, cond, Option, Some, None, List, [], ◌∷◌, ◌++◌, length, map, nat_lt, slice_get, slice_set, refl, ap, sym, subst, ◌∙◌, arith, option_map, cond-true, cond-false, length-map, map-append, map-set, slice_get-map, Instr, Line, ProgramText, Name, Object, Frame, Waiting, Task, Depth, Done, Trapped, Entangled, MachineState, Effect, Goes, Prints, Calls, Forks, Returns, Traps, Stops, StepContext, effect, int_in, object_at, onward, ref_in, row_of, with_int, with_ref, back_in, called, can_step, child, child_ended_by, depth_limit, ended_by, ended_task, entry_frame, fetched, follow, forked, frame_limit, front_of, is_left, join_of, result_at, last_of, last_return, or_same, owner_of, parent_of, parents, result_of, returned, returned_to, setting, sibling, step, stepped, strand, with_task, IsForkJoinState, IsRenaming, ref_to, object_to, frame_to, task_to, AreRenamed}
 use Rattle.renaming_laws.proofs.Changed.{Change, Same, Grows, Edits, Edit, SetRef, SetNumber, Freezes, change_to, changed, edit_to, edited, put_in}
 use Rattle.renaming_laws.proofs.Effects.{EffectTo, Sees, SeenTo, TestTo, effect_carried, ref_carried, same_task, set_carried}
 use Rattle.renaming_laws.proofs.Lists.{front_map, last_map, set_to}
@@ -7,9 +7,9 @@ use Rattle.renaming_laws.proofs.Owners.{owner_to, test_to}
 use Rattle.renaming_laws.proofs.Follows.{StoreTo, can_to, forks, halted, joins, kept_to, object_there, own, result_to, row_to, written}
 
 module _ (p : ProgramText) (n : ℕ) (f g : ℕ → ℕ) (R : IsRenaming n f g) (m m' : MachineState) (K : IsForkJoinState m) (K' : IsForkJoinState m') (rows : length m.store ≡ length m.tasks) (rows' : length m'.store ≡ length m'.tasks)
-    (made : n ≤ length m.tasks) (A : AreAlike f m m') (t : ℕ) where
+    (made : n ≤ length m.tasks) (A : AreRenamed f m m') (t : ℕ) where
   abbrev Alike : MachineState → MachineState → Type 0
-  Alike = AreAlike f
+  Alike = AreRenamed f
 
   either : (b : Bool) (a c a' c' : MachineState) → Alike a a' → Alike c c' → Alike (cond b a c) (cond b a' c')
   either true a c a' c' h k = h

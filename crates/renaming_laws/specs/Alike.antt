@@ -7,7 +7,7 @@ use Rattle.hh_model.specs.declared.data.MachineState.{MachineState}
 use Rattle.renaming_laws.specs.Renaming.{edge_to, object_to, task_to, end_to}
 
 -- m' is m with each task t renamed to f t
-pub record AreAlike (f : ℕ → ℕ) (m m' : MachineState) : Type 0 where
+pub record AreRenamed (f : ℕ → ℕ) (m m' : MachineState) : Type 0 where
   pub limit : m'.field_limit ≡ m.field_limit
   pub count : length m'.tasks ≡ length m.tasks
   pub tasks : (t : ℕ) → slice_get m'.tasks (f t) ≡ option_map (task_to f) (slice_get m.tasks t)

@@ -3,7 +3,7 @@ use Rattle.std.specs.Prelude.{◌≡◌, ℕ, ◌+◌, ◌-◌, ◌≤◌, true,
 use Rattle.hh_lang.specs.Form.{ProgramText}
 use Rattle.hh_model.specs.Step.{run, run_from, step}
 use Rattle.renaming_laws.specs.Renaming.{IsRenaming}
-use Rattle.renaming_laws.specs.Alike.{AreAlike}
+use Rattle.renaming_laws.specs.Alike.{AreRenamed}
 
 -- the children n, n + 1 of one fork and n + 2, n + 3 of the next one, exchanged
 abbrev pub swap : ℕ → ℕ → ℕ
@@ -17,4 +17,4 @@ RunsAreCarried =
     (p : ProgramText) (n limit : ℕ) (f g : ℕ → ℕ) (ts us more : List ℕ)
     → let m = run p limit ts in
     let m' = run p limit us in
-    IsRenaming n f g → n ≤ length m.tasks → AreAlike f m m' → AreAlike f (run_from p m more) (run_from p m' (map f more))
+    IsRenaming n f g → n ≤ length m.tasks → AreRenamed f m m' → AreRenamed f (run_from p m more) (run_from p m' (map f more))

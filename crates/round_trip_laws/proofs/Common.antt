@@ -7,7 +7,7 @@ pub use Rattle.program_reader.specs.Program.{program_of, unless_refused}
 pub use Rattle.program_reader.specs.declared.cause.Cause.{Cause}
 pub use Rattle.program_reader.specs.declared.cause.Cause.TheVariants.{NotUtf8}
 pub use Rattle.program_reader.specs.declared.cause.TextFault.{TextFault}
-pub use Rattle.round_trip_laws.specs.RoundTrip.{CanFollow, InputsAreRead, IsReadAs, RecordedInputsAreRead}
+pub use Rattle.round_trip_laws.specs.RoundTrip.{TraceFollows, InputsAreRead, IsReadAsTrace, RecordedInputsAreRead}
 pub use Rattle.run_trace.proofs.ReadAgain.{texts_are_read_again}
 pub use Rattle.run_trace.specs.Trace.{AreTraceLines, fault_in, trace_text, version_by, version_of, version_of_words}
 pub use Rattle.run_trace.specs.declared.settings.Version.{Version}

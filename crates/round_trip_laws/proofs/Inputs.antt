@@ -1,5 +1,5 @@
 -- A program's text followed by a trace is read as these.
-use Rattle.round_trip_laws.proofs.Common.{◌≡◌, ◌∙◌, ◌≤◌, ◌+◌, ◌++◌, ℕ, Bool, cond, true, false, List, [], ◌∷◌, length, refl, ap, sym, subst, append_assoc, length-append, Option, Some, None, Result, Ok, Err, codes, bytes_eq, is_utf8, le-leb, ProgramText, lines_of, most_bytes, words_of, TextFault, first_fault, program_of, unless_refused, Version, Trace, AreTraceLines, fault_in, trace_text, version_by, version_of, version_of_words, texts_are_read_again, Source, TraceInput, begins_trace, bytes_above, is_trace_line, lines_above, program_part, trace_lines, trace_number, with_feeds, IsInput, as_bad_line, bad_line, first_input_fault as fault_of_parts, input_fault, is_too_old, parts_fault, too_long, CanFollow, InputsAreRead, IsReadAs, RecordedInputsAreRead}
+use Rattle.round_trip_laws.proofs.Common.{◌≡◌, ◌∙◌, ◌≤◌, ◌+◌, ◌++◌, ℕ, Bool, cond, true, false, List, [], ◌∷◌, length, refl, ap, sym, subst, append_assoc, length-append, Option, Some, None, Result, Ok, Err, codes, bytes_eq, is_utf8, le-leb, ProgramText, lines_of, most_bytes, words_of, TextFault, first_fault, program_of, unless_refused, Version, Trace, AreTraceLines, fault_in, trace_text, version_by, version_of, version_of_words, texts_are_read_again, Source, TraceInput, begins_trace, bytes_above, is_trace_line, lines_above, program_part, trace_lines, trace_number, with_feeds, IsInput, as_bad_line, bad_line, first_input_fault as fault_of_parts, input_fault, is_too_old, parts_fault, too_long, TraceFollows, InputsAreRead, IsReadAsTrace, RecordedInputsAreRead}
 use Rattle.round_trip_laws.proofs.Lines.{fed_lines, lines_behind}
 use Rattle.round_trip_laws.proofs.Above.{AreAbove, above_both, clean_above, cut_above, cut_behind}
 
@@ -87,7 +87,7 @@ module _ (input text : List ℕ) (above : List (List ℕ)) (l : List ℕ) (ls : 
       no_fault : length input ≤ most_bytes → input_fault input ≡ None
       no_fault le = ap (λ b. cond b (parts_fault input) (Some (Source too_long))) (le-leb (length input) most_bytes le) ∙ no_parts
 
-      read_as : (t : Trace) → v ≡ t.version → AreTraceLines (l ∷ ls) t → length input ≤ most_bytes → IsReadAs input p t
+      read_as : (t : Trace) → v ≡ t.version → AreTraceLines (l ∷ ls) t → length input ≤ most_bytes → IsReadAsTrace input p t
       read_as t e says le = λ read. (
         λ is. read_same read p t (is.program ∙ ap program_of part ∙ program) (same_trace (l ∷ ls) t read.trace says (subst (λ xs. AreTraceLines xs read.trace) traced is.trace)),
         λ is. subst (IsInput input) (sym is) (record {
@@ -105,11 +105,11 @@ clean_front : (text front : List ℕ) → text ≡ front ++ 10 ∷ [] → first_
 clean_front text front e none =
     above_both (lines_of front) (lines_of []) (subst AreAbove (ap lines_of e ∙ lines_behind front []) (clean_above text [] (lines_of text) none))
 
-module _ (text behind : List ℕ) (p : ProgramText) (t : Trace) (can : CanFollow text behind p t) where
+module _ (text behind : List ℕ) (p : ProgramText) (t : Trace) (can : TraceFollows text behind p t) where
   last_line : length (lines_of text) ≡ length (lines_of can.feed.0) + 1
   last_line = ap length (ap lines_of can.feed.1 ∙ lines_behind can.feed.0 []) ∙ length-append (lines_of can.feed.0) ([] ∷ [])
 
-  by_lines : (ls : List (List ℕ)) → lines_of behind ≡ ls → fault_in (length (lines_of text)) ls ≡ None → AreTraceLines ls t → IsReadAs (text ++ behind) p t
+  by_lines : (ls : List (List ℕ)) → lines_of behind ≡ ls → fault_in (length (lines_of text)) ls ≡ None → AreTraceLines ls t → IsReadAsTrace (text ++ behind) p t
   by_lines [] e none says = absurd says
   by_lines (l ∷ ls) e none says =
       let front = can.feed.0 in

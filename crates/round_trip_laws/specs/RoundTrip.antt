@@ -16,21 +16,21 @@ abbrev pub EndsInFeed : List ℕ → Type 0
 EndsInFeed text = (front : List ℕ) × (text ≡ front ++ 10 ∷ [])
 
 -- the text of a program, and a trace that isn't too old for it, together within the limit
-pub record CanFollow (text behind : List ℕ) (p : ProgramText) (t : Trace) : Type 0 where
+pub record TraceFollows (text behind : List ℕ) (p : ProgramText) (t : Trace) : Type 0 where
   pub program : reading_of text ≡ Ok p
   pub feed : EndsInFeed text
   pub new : is_too_old (Some t.version) p ≡ false
   pub within : length (text ++ behind) ≤ most_bytes
 
 -- the input is read as this program and this trace, and as nothing else
-abbrev pub IsReadAs : List ℕ → ProgramText → Trace → Type 0
-IsReadAs input p t = (read : TraceInput) → IsInput input read ↔ (read ≡ record { program = p; trace = t })
+abbrev pub IsReadAsTrace : List ℕ → ProgramText → Trace → Type 0
+IsReadAsTrace input p t = (read : TraceInput) → IsInput input read ↔ (read ≡ record { program = p; trace = t })
 
 -- the trace begins on the text's last line, the empty one after its line feed
 abbrev pub InputsAreRead : Type 0
-InputsAreRead = (text behind : List ℕ) (p : ProgramText) (t : Trace) → IsTraceText (length (lines_of text)) behind t → CanFollow text behind p t → IsReadAs (text ++ behind) p t
+InputsAreRead = (text behind : List ℕ) (p : ProgramText) (t : Trace) → IsTraceText (length (lines_of text)) behind t → TraceFollows text behind p t → IsReadAsTrace (text ++ behind) p t
 
 abbrev pub RecordedInputsAreRead : Type 0
 RecordedInputsAreRead =
-    (text : List ℕ) (p : ProgramText) (v : Version) (journal : List EntryValue) → All IsEntry journal → CanFollow text (trace_text v journal) p (record { version = v; entries = journal })
-    → IsReadAs (text ++ trace_text v journal) p (record { version = v; entries = journal })
+    (text : List ℕ) (p : ProgramText) (v : Version) (journal : List EntryValue) → All IsEntry journal → TraceFollows text (trace_text v journal) p (record { version = v; entries = journal })
+    → IsReadAsTrace (text ++ trace_text v journal) p (record { version = v; entries = journal })

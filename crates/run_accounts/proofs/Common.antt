@@ -22,7 +22,7 @@ pub use Rattle.next_steps.specs.Own.{is_own, is_own_by, is_own_line}
 pub use Rattle.plain_vec.proofs.Members.{got_same, got_other, In, got_front, got_within, contains_from_in, in_from_contains}
 pub use Rattle.plain_vec.proofs.Places.{got_set}
 pub use Rattle.plain_vec.specs.Options.{option_is}
-pub use Rattle.run_accounts.specs.Accounts.{AccountsValue, StaysSteady, stood, used_after, went_on, CachesAgree, taken_after, ArePaired, Steady, after_stood, Forks, large_by, next_large, used_by, places_in, FailsFor}
+pub use Rattle.run_accounts.specs.Accounts.{AccountsValue, StaysSteady, stood, used_after, went_on, CachesAgree, taken_after, ChildrenArePaired, Steady, after_stood, Forks, large_by, next_large, used_by, places_in, FailsFor}
 pub use Rattle.run_accounts.specs.declared.ran.Stood.{Stood}
 pub use Rattle.run_accounts.specs.declared.ran.Stood.TheVariants.{Not, Last}
 pub use Rattle.run_ledger.proofs.Booked.{BookedLedger, put_length, total_same, units_additive}

@@ -1,5 +1,5 @@
 -- How long snapshots are, and the positions of the children of a task.
-use Rattle.run_accounts.proofs.Common.{◌≡◌, ℕ, zero, suc, ◌+◌, ◌-◌, ◌<◌, ◌≤◌, ◌||◌, Bool, true, false, cond, Option, Some, None, List, [], ◌∷◌, ◌++◌, length, slice_get, slice_set, filter, sum_by, inl, inr, refl, ap, ◌∙◌, arith, length-set, false≢true, cases_eq, sum_by-cons, list_any, got_same, got_other, Name, Object, Task, End, TaskStatus, Running, Waiting, Ended, Joined, refs_at, is_left, is_joined, sibling, Heap, Ledger, holds_name, reached_by, fresh, heap_at, heap_of, or_fresh, with_heap, with_heap_at, held_in, roots_of, within, put_last, is_small_size, forked_heap, emptied, let_go, allocated_by, at_fork, at_join, join_heaps, moved_on, moved_to, settled, SoundLedger, weight, total, kept_weight, with_heap_any, ArePaired}
+use Rattle.run_accounts.proofs.Common.{◌≡◌, ℕ, zero, suc, ◌+◌, ◌-◌, ◌<◌, ◌≤◌, ◌||◌, Bool, true, false, cond, Option, Some, None, List, [], ◌∷◌, ◌++◌, length, slice_get, slice_set, filter, sum_by, inl, inr, refl, ap, ◌∙◌, arith, length-set, false≢true, cases_eq, sum_by-cons, list_any, got_same, got_other, Name, Object, Task, End, TaskStatus, Running, Waiting, Ended, Joined, refs_at, is_left, is_joined, sibling, Heap, Ledger, holds_name, reached_by, fresh, heap_at, heap_of, or_fresh, with_heap, with_heap_at, held_in, roots_of, within, put_last, is_small_size, forked_heap, emptied, let_go, allocated_by, at_fork, at_join, join_heaps, moved_on, moved_to, settled, SoundLedger, weight, total, kept_weight, with_heap_any, ChildrenArePaired}
 use Rattle.run_accounts.proofs.Uses.{one_of}
 
 -- SNAPSHOTS
@@ -89,7 +89,7 @@ module _ (most : ℕ) (l : Ledger) (t : ℕ) (few : total (weight one_each) l.he
 
 -- CHILDREN
 
-pub sound_paired : (l : Ledger) → SoundLedger l → ArePaired l
+pub sound_paired : (l : Ledger) → SoundLedger l → ChildrenArePaired l
 sound_paired l S t p e =
     let T = S.fork_join.tree in
     let a = T.low t p e in
@@ -103,29 +103,29 @@ sound_paired l S t p e =
     sound_paired_by_cases true a b c d f = (omega arith, omega arith)
     sound_paired_by_cases false a b c d f = (omega arith, omega arith)
 
-paired_set : (l : Ledger) (t : ℕ) (f : Heap → Heap) → ArePaired (with_heap l t f) → ArePaired l
+paired_set : (l : Ledger) (t : ℕ) (f : Heap → Heap) → ChildrenArePaired (with_heap l t f) → ChildrenArePaired l
 paired_set l t f = paired_set_by_cases (heap_at l t)
   where
-    paired_set_by_cases : (o : Option Heap) → ArePaired (with_heap_at l t f o) → ArePaired l
+    paired_set_by_cases : (o : Option Heap) → ChildrenArePaired (with_heap_at l t f o) → ChildrenArePaired l
     paired_set_by_cases None P = P
     paired_set_by_cases (Some h) P = λ u p e. (let a = P u p e in let b = length-set l.heaps t (f h) in (a.0, omega arith))
 
 module _ (k : Ledger) (t : ℕ) where
-  paired_join : (parent : Option ℕ) → ArePaired (at_join k t parent) → ArePaired k
+  paired_join : (parent : Option ℕ) → ChildrenArePaired (at_join k t parent) → ChildrenArePaired k
   paired_join None P = P
   paired_join (Some p) P = paired_set k p _ (paired_set _ _ emptied (paired_set _ _ emptied P))
 
-  paired_to : (o : Option Task) → is_joined o ≡ true → ArePaired (moved_to k t o) → ArePaired k
+  paired_to : (o : Option Task) → is_joined o ≡ true → ChildrenArePaired (moved_to k t o) → ChildrenArePaired k
   paired_to None j P = absurd (false≢true j)
   paired_to (Some x) j P = paired_to_by_cases x.status j P
     where
-      paired_to_by_cases : (s : TaskStatus) → is_joined (Some (record x { status = s })) ≡ true → ArePaired (moved_on k t x.parent s) → ArePaired k
+      paired_to_by_cases : (s : TaskStatus) → is_joined (Some (record x { status = s })) ≡ true → ChildrenArePaired (moved_on k t x.parent s) → ChildrenArePaired k
       paired_to_by_cases Running j Q = Q
       paired_to_by_cases Waiting j Q = absurd (false≢true j)
       paired_to_by_cases (Ended i r) j Q = absurd (false≢true j)
       paired_to_by_cases Joined j Q = paired_join x.parent Q
 
   -- a task that has joined is one of a pair of children
-  pub settled_paired : (o : Option End) → is_joined (slice_get k.machine.tasks t) ≡ true → ArePaired (settled k t o) → ArePaired k
+  pub settled_paired : (o : Option End) → is_joined (slice_get k.machine.tasks t) ≡ true → ChildrenArePaired (settled k t o) → ChildrenArePaired k
   settled_paired None j P = paired_to (slice_get k.machine.tasks t) j P
   settled_paired (Some e) j P = P

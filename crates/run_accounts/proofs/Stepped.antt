@@ -1,5 +1,5 @@
 -- One step of a task, put together from its parts.
-use Rattle.run_accounts.proofs.Common.{◌≡◌, ℕ, ◌+◌, ◌<◌, ◌≤◌, ◌^◌, ◌==◌, not, Bool, true, false, cond, List, [], ◌∷◌, ◌++◌, Option, Some, None, slice_get, slice_set, inl, inr, refl, ap, ap₂, sym, subst, ◌∙◌, arith, nat_lt, false≢true, cases_eq, eqb-true, leb-true, cond-true, not-false, same_Some, In, got_same, got_other, got_front, got_within, contains_from_in, in_from_contains, ProgramText, Name, Task, MachineState, End, TaskStatus, Running, Waiting, Ended, Joined, step, can_step, asked, is_joined, is_waiting, Heap, Ledger, heap_of, or_fresh, heap_at, fresh, with_heap, with_heap_at, held_in, in_use, with_allocation, is_small_size, lacks_room, units, units_in, within, forked_heap, allocated_in, allocated_by, task_step, settled, moved_to, moved_on, at_fork, is_in_need, on_asked, heap_machine, placed_since, AreOwned, AccountsValue, Steady, ArePaired, Forks, large_by, next_large, used_by, used_after, went_on}
+use Rattle.run_accounts.proofs.Common.{◌≡◌, ℕ, ◌+◌, ◌<◌, ◌≤◌, ◌^◌, ◌==◌, not, Bool, true, false, cond, List, [], ◌∷◌, ◌++◌, Option, Some, None, slice_get, slice_set, inl, inr, refl, ap, ap₂, sym, subst, ◌∙◌, arith, nat_lt, false≢true, cases_eq, eqb-true, leb-true, cond-true, not-false, same_Some, In, got_same, got_other, got_front, got_within, contains_from_in, in_from_contains, ProgramText, Name, Task, MachineState, End, TaskStatus, Running, Waiting, Ended, Joined, step, can_step, asked, is_joined, is_waiting, Heap, Ledger, heap_of, or_fresh, heap_at, fresh, with_heap, with_heap_at, held_in, in_use, with_allocation, is_small_size, lacks_room, units, units_in, within, forked_heap, allocated_in, allocated_by, task_step, settled, moved_to, moved_on, at_fork, is_in_need, on_asked, heap_machine, placed_since, AreOwned, AccountsValue, Steady, ChildrenArePaired, Forks, large_by, next_large, used_by, used_after, went_on}
 use Rattle.run_accounts.proofs.Snaps.{settled_paired}
 
 pub allocated_machine : (l : Ledger) (t : ℕ) (o : Option ℕ) → (allocated_by l t o).machine ≡ l.machine
@@ -156,13 +156,13 @@ stepped_owned s s1 s2 s3 t used can e1 e2 e3 S w =
 
 pub stepped_paired : (s s1 s2 s3 : AccountsValue) (t used : ℕ) → can_step s.ledger.machine t ≡ true
     → s1 ≡ record s { ledger = allocated_in s.program s.ledger t } → s2 ≡ record s1 { ledger = advanced s1.program s1.ledger t } → s3 ≡ record s2 { used = used }
-    → Steady (task_step s.program s.ledger t) → is_joined (slice_get s3.ledger.machine.tasks t) ≡ true → ArePaired s3.ledger
+    → Steady (task_step s.program s.ledger t) → is_joined (slice_get s3.ledger.machine.tasks t) ≡ true → ChildrenArePaired s3.ledger
 stepped_paired s s1 s2 s3 t used can e1 e2 e3 S j =
     let k = advanced s.program (allocated_in s.program s.ledger t) t in
     let same : s3.ledger ≡ k = ap (λ (q : AccountsValue). q.ledger) (e3 ∙ ap (λ (q : AccountsValue). record q { used = used }) (e2 ∙ ap (λ (q : AccountsValue). record q { ledger = advanced q.program q.ledger t }) e1)) in
-    subst ArePaired (sym same)
+    subst ChildrenArePaired (sym same)
     (settled_paired k t k.machine.end (ap (λ (q : Ledger). is_joined (slice_get q.machine.tasks t)) (sym same) ∙ j)
-    (subst ArePaired (sym (step_is s.program s.ledger t can)) S.paired))
+    (subst ChildrenArePaired (sym (step_is s.program s.ledger t can)) S.paired))
 
 -- a fork, by what is computed for it
 pub fork_is : (v s : AccountsValue) → v ≡ s → (t : ℕ) (m : MachineState) → m ≡ v.ledger.machine → (names : List Name)

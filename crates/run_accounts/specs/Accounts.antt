@@ -51,8 +51,8 @@ abbrev pub left_of_pair : ℕ → ℕ
 left_of_pair t = if is_left t then t else t - 1
 
 -- each task with a parent is one of two children with consecutive numbers, above their parent's, and both have a heap
-abbrev pub ArePaired : Ledger → Type 0
-ArePaired l = (t p : ℕ) → parents l.machine.tasks t ≡ Some p → (p < left_of_pair t) × (left_of_pair t + 1 < length l.heaps)
+abbrev pub ChildrenArePaired : Ledger → Type 0
+ChildrenArePaired l = (t p : ℕ) → parents l.machine.tasks t ≡ Some p → (p < left_of_pair t) × (left_of_pair t + 1 < length l.heaps)
 
 -- the counts of accounts fit their types; this holds for every legal journal
 pub record Steady (l : Ledger) : Type 0 where
@@ -64,7 +64,7 @@ pub record Steady (l : Ledger) : Type 0 where
   pub since : (t : ℕ) → (heap_of l t).since < 2 ^ 61
   pub snapshot : (t : ℕ) → length (heap_of l t).snapshot < 2 ^ 31
   pub owned : AreOwned l.machine.tasks l.heaps
-  pub paired : ArePaired l
+  pub paired : ChildrenArePaired l
 
 -- these heaps become those in which the task t has forked, in whose heap these names are reachable
 abbrev pub Forks : List Heap → List Heap → ℕ → List Name → Type 0

@@ -5,7 +5,7 @@ ghost use Rattle.run_ledger.specs.Heaps.{heap_of, in_use, or_fresh, with_heap, l
 ghost use Rattle.run_ledger.specs.Steps.{allocated_in, is_in_need, task_step, at_fork, at_join, settled};
 ghost use Rattle.hh_model.specs.Step.{asked, step, is_joined, is_waiting};
 ghost use Rattle.ledger_heaps.specs.Accounts.{AreOwned};
-ghost use Rattle.run_accounts.specs.Accounts.{Steady, Forks, JoinsHeaps, ArePaired, left_of_pair, next_large, used_after, went_on};
+ghost use Rattle.run_accounts.specs.Accounts.{Steady, Forks, JoinsHeaps, ChildrenArePaired, left_of_pair, next_large, used_after, went_on};
 
 use crate::accounts::Accounts;
 use hh_model::{MachineState, Name, TaskStatus};
@@ -83,7 +83,7 @@ impl<'p> Accounts<'p> {
     fn settle(&mut self, t: u32) -> Result<(), AllocError>
         requires since { (u : ℕ) → (heap_of self.old.ledger u).since < 2 ^ 62 }
         requires owned { is_waiting (slice_get self.old.ledger.machine.tasks t) ≡ true → AreOwned self.old.ledger.machine.tasks self.old.ledger.heaps }
-        requires paired { is_joined (slice_get self.old.ledger.machine.tasks t) ≡ true → ArePaired self.old.ledger }
+        requires paired { is_joined (slice_get self.old.ledger.machine.tasks t) ≡ true → ChildrenArePaired self.old.ledger }
         ensures { OnOk result (self.new ≡ record self.old { ledger = settled self.old.ledger t self.old.ledger.machine.end }) }
     {
         if let Some(end) = self.machine.end() {

@@ -14,15 +14,15 @@ if_there None go = None
 if_there (Some x) go = go x
 
 -- the object of a reference register
-abbrev pub with_object : Frame → List (List Object) → ℕ → (Name → Object → Option Deed) → Option Deed
-with_object f store o go = if_there (ref_in f o) (λ n. if_there (object_at store n) (go n))
+abbrev pub deed_on_object : Frame → List (List Object) → ℕ → (Name → Object → Option Deed) → Option Deed
+deed_on_object f store o go = if_there (ref_in f o) (λ n. if_there (object_at store n) (go n))
 
 -- and a reference field, or a number field, of it: where the index register says
 abbrev pub with_reference : Frame → List (List Object) → ℕ → ℕ → (Name → Object → ℕ → Option Deed) → Option Deed
-with_reference f store o k go = with_object f store o (λ n x. if_there (place_in (length x.refs) (int_in f k)) (go n x))
+with_reference f store o k go = deed_on_object f store o (λ n x. if_there (place_in (length x.refs) (int_in f k)) (go n x))
 
 abbrev pub with_number : Frame → List (List Object) → ℕ → ℕ → (Name → Object → ℕ → Option Deed) → Option Deed
-with_number f store o k go = with_object f store o (λ n x. if_there (place_in (length x.ints) (int_in f k)) (go n x))
+with_number f store o k go = deed_on_object f store o (λ n x. if_there (place_in (length x.ints) (int_in f k)) (go n x))
 
 -- the place of a number among all fields of an object, of which the references come first
 abbrev pub number_place : Object → ℕ → ℕ
@@ -36,8 +36,8 @@ abbrev pub number_in : Object → ℕ → ℤ
 number_in x at = unwrap_or (slice_get x.ints at) (pos 0)
 
 -- nothing is done to an object that is immutable
-abbrev pub unless_frozen : Object → Deed → Option Deed
-unless_frozen x d = if x.mutable then Some d else None
+abbrev pub deed_unless_frozen : Object → Deed → Option Deed
+deed_unless_frozen x d = if x.mutable then Some d else None
 
 -- what an instruction does, in a frame of the task t of this state
 abbrev pub deed : MachineState → ℕ → Frame → Instr → Option Deed
@@ -45,13 +45,13 @@ deed m t f (Newm d a b) = if_there (counts_in m.field_limit (int_in f a) (int_in
 deed m t f (Pack d r i) = Some (Allocates (next_name t m.store))
 deed m t f (Getr d o k) = with_reference f m.store o k (λ n x at. Some (Reads n at (Reference (reference_in x at))))
 deed m t f (Geti d o k) = with_number f m.store o k (λ n x at. Some (Reads n (number_place x at) (Number (number_in x at))))
-deed m t f (Putr o k v) = with_reference f m.store o k (λ n x at. unless_frozen x (Writes n at (Reference (ref_in f v))))
-deed m t f (Puti o k v) = with_number f m.store o k (λ n x at. unless_frozen x (Writes n (number_place x at) (Number (int_in f v))))
+deed m t f (Putr o k v) = with_reference f m.store o k (λ n x at. deed_unless_frozen x (Writes n at (Reference (ref_in f v))))
+deed m t f (Puti o k v) = with_number f m.store o k (λ n x at. deed_unless_frozen x (Writes n (number_place x at) (Number (int_in f v))))
 deed m t f (Cas d o k e v) =
-    with_reference f m.store o k (λ n x at. unless_frozen x (Swaps n at (ref_in f v) (same_name (reference_in x at) (ref_in f e))))
-deed m t f (Cntr d o) = with_object f m.store o (λ n x. Some (Counts n))
-deed m t f (Cnti d o) = with_object f m.store o (λ n x. Some (Counts n))
-deed m t f (Freeze o) = with_object f m.store o (λ n x. if owner_of m.tasks n.task == t then Some (Freezes n) else None)
+    with_reference f m.store o k (λ n x at. deed_unless_frozen x (Swaps n at (ref_in f v) (same_name (reference_in x at) (ref_in f e))))
+deed m t f (Cntr d o) = deed_on_object f m.store o (λ n x. Some (Counts n))
+deed m t f (Cnti d o) = deed_on_object f m.store o (λ n x. Some (Counts n))
+deed m t f (Freeze o) = deed_on_object f m.store o (λ n x. if owner_of m.tasks n.task == t then Some (Freezes n) else None)
 deed m t f (Out a) = Some (Prints (int_in f a))
 deed m t f _ = None
 

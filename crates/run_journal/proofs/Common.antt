@@ -23,7 +23,7 @@ pub use Rattle.run_ledger.proofs.Held.{placed_since}
 pub use Rattle.run_ledger.proofs.Journals.{none_where, none_unless, entry_tells, legal_sound, out_tells}
 pub use Rattle.run_ledger.proofs.Machine.{stepped_machine}
 pub use Rattle.run_ledger.proofs.Moves.{Moves}
-pub use Rattle.run_ledger.proofs.Sound.{SoundLedger, names_of, collecting}
+pub use Rattle.run_ledger.proofs.Sound.{SoundLedger, heap_names, collecting}
 pub use Rattle.run_ledger.proofs.Space.{heaps_fit, use_is_bounded, legal_booked}
 pub use Rattle.run_ledger.proofs.Steps.{SoundAt, heap_of_task, can_tells, task_step_sound}
 pub use Rattle.run_ledger.proofs.Stocks.{names_are_held_once, StockedLedger, G, L, with_heap_any, same_weight, chunk_lighter, allocated_total, task_step_stocked, legal_stocked}
@@ -33,7 +33,7 @@ pub use Rattle.run_ledger.specs.Heaps.{heap_of, or_fresh, held, held_in, words_a
 pub use Rattle.run_ledger.specs.Journals.{ledger_of, is_legal, opening, after_all, first_refused_from, refused_or, is_legal_from}
 pub use Rattle.run_ledger.specs.Laws.{HoldsOnce}
 pub use Rattle.run_ledger.specs.Report.{held_not_running}
-pub use Rattle.run_ledger.specs.Space.{AllFit, store_words}
+pub use Rattle.run_ledger.specs.Space.{HeapsFitChunks, store_words}
 pub use Rattle.run_ledger.specs.Steps.{allocated_in, allocated_by, stepped_to, task_step, task_steps, is_due, is_in_need, is_private, standing, on_asked}
 pub use Rattle.run_ledger.specs.declared.data.Heap.{Heap}
 pub use Rattle.run_ledger.specs.declared.data.Ledger.{Ledger}

@@ -1,5 +1,5 @@
 -- Counts of what the heaps of tasks that don't run hold.
-use Rattle.run_journal.proofs.Common.{◌≡◌, ℕ, zero, suc, ◌*◌, ◌≤◌, true, List, [], ◌∷◌, slice_get, length, sym, subst, arith, length-append, flat_map, sum_by-append, contains_from_in, EntryValue, SettingsValue, AreSettings, ProgramText, Heap, Ledger, heap_of, or_fresh, held, held_in, words_at, words_sum, in_use, ledger_of, is_legal, held_not_running, HoldsOnce, AllFit, kept_least, stored_most, names_are_held_once, heaps_fit, use_is_bounded, IsCountable, IsLegalLedger}
+use Rattle.run_journal.proofs.Common.{◌≡◌, ℕ, zero, suc, ◌*◌, ◌≤◌, true, List, [], ◌∷◌, slice_get, length, sym, subst, arith, length-append, flat_map, sum_by-append, contains_from_in, EntryValue, SettingsValue, AreSettings, ProgramText, Heap, Ledger, heap_of, or_fresh, held, held_in, words_at, words_sum, in_use, ledger_of, is_legal, held_not_running, HoldsOnce, HeapsFitChunks, kept_least, stored_most, names_are_held_once, heaps_fit, use_is_bounded, IsCountable, IsLegalLedger}
 
 -- COUNTS
 
@@ -15,7 +15,7 @@ module _ (p : ProgramText) (s : SettingsValue) (A : AreSettings s) where
   legal_countable journal legal =
       let l : Ledger = ledger_of p s journal in
       let H : HoldsOnce l = names_are_held_once p s journal legal in
-      let F : AllFit l = heaps_fit p s journal legal in
+      let F : HeapsFitChunks l = heaps_fit p s journal legal in
       let u : in_use l ≤ s.chunks = (use_is_bounded p s journal legal).now in
       let c : s.chunks ≤ 65536 = A.chunks.1 in
       let w : words_sum l.machine (held l) ≤ 1024 * in_use l = F.words in

@@ -1,5 +1,5 @@
 -- The counts of the accounts of every legal journal fit their types.
-use Rattle.run_journal.proofs.Common.{◌≡◌, ℕ, zero, suc, ◌+◌, ◌*◌, ◌<◌, ◌≤◌, ◌^◌, ◌||◌, Bool, true, false, cond, Option, Some, None, List, [], ◌∷◌, ◌++◌, length, slice_get, slice_set, nat_lt, is_none, is_some, inl, inr, refl, ap, sym, subst, ◌∙◌, arith, length-append, length-set, false≢true, and_parts, in_from_contains, Kind, Took, Ran, Chunk, Begin, End as EndOf, PutOff, Mark, More, Sweep, Fuel, EntryValue, SettingsValue, AreSettings, ProgramText, Name, MachineState, step, can_step, asked, next_name, Heap, Ledger, Pool, heap_of, heap_at, or_fresh, fresh, words_in, units_in, in_use, is_small_size, lacks_room, with_allocation, with_heap, with_heap_at, let_go, forked_heap, merged, emptied, collected, swept_heap, allocated_in, allocated_by, stepped_to, task_step, task_steps, is_due, is_in_need, is_private, standing, on_asked, refusal, after_kind, after, chunk_units, with_chunk, opening, ledger_of, is_legal, is_legal_from, store_words, stepped_machine, SoundLedger, names_of, collecting, Moves, placed_since, SoundAt, heap_of_task, can_tells, task_step_sound, weight, weight_additive, total, total_set, moves_total, collected_weight, swept_weight, StockedLedger, G, L, with_heap_any, same_weight, chunk_lighter, allocated_total, task_step_stocked, legal_stocked, BookedLedger, task_steps_booked, heap_words, legal_booked, legal_sound, entry_tells, out_tells, after_cut, cut_legal, asked_bounds, stands_by, ran_tells, task_steps_steps, steps_are_bounded, since_additive, since_in, Steady, StaysSteady, small_enough, one_each, Snaps, snaps_set, snaps_allocated, snaps_settled, sound_paired, one_of, step_used}
+use Rattle.run_journal.proofs.Common.{◌≡◌, ℕ, zero, suc, ◌+◌, ◌*◌, ◌<◌, ◌≤◌, ◌^◌, ◌||◌, Bool, true, false, cond, Option, Some, None, List, [], ◌∷◌, ◌++◌, length, slice_get, slice_set, nat_lt, is_none, is_some, inl, inr, refl, ap, sym, subst, ◌∙◌, arith, length-append, length-set, false≢true, and_parts, in_from_contains, Kind, Took, Ran, Chunk, Begin, End as EndOf, PutOff, Mark, More, Sweep, Fuel, EntryValue, SettingsValue, AreSettings, ProgramText, Name, MachineState, step, can_step, asked, next_name, Heap, Ledger, Pool, heap_of, heap_at, or_fresh, fresh, words_in, units_in, in_use, is_small_size, lacks_room, with_allocation, with_heap, with_heap_at, let_go, forked_heap, merged, emptied, collected, swept_heap, allocated_in, allocated_by, stepped_to, task_step, task_steps, is_due, is_in_need, is_private, standing, on_asked, refusal, after_kind, after, chunk_units, with_chunk, opening, ledger_of, is_legal, is_legal_from, store_words, stepped_machine, SoundLedger, heap_names, collecting, Moves, placed_since, SoundAt, heap_of_task, can_tells, task_step_sound, weight, weight_additive, total, total_set, moves_total, collected_weight, swept_weight, StockedLedger, G, L, with_heap_any, same_weight, chunk_lighter, allocated_total, task_step_stocked, legal_stocked, BookedLedger, task_steps_booked, heap_words, legal_booked, legal_sound, entry_tells, out_tells, after_cut, cut_legal, asked_bounds, stands_by, ran_tells, task_steps_steps, steps_are_bounded, since_additive, since_in, Steady, StaysSteady, small_enough, one_each, Snaps, snaps_set, snaps_allocated, snaps_settled, sound_paired, one_of, step_used}
 
 -- the most words of one object, in the runs that legal journals have
 abbrev most : ℕ
@@ -187,7 +187,7 @@ module _ (p : ProgramText) (s : SettingsValue) (A : AreSettings s) where
         since = λ t. let a = one_of since_in l.heaps t refl in omega arith;
         snapshot = λ t. let a = X.snapshots t in omega arith;
         paired = sound_paired l S;
-        owned = λ t n i. (S.owners t n (in_from_contains (names_of (slice_get l.heaps t)) n i)).1;
+        owned = λ t n i. (S.owners t n (in_from_contains (heap_names (slice_get l.heaps t)) n i)).1;
       }
 
   -- ENTRIES

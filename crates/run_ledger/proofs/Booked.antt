@@ -3,7 +3,7 @@
 use Rattle.run_ledger.proofs.Common.{◌≡◌, ℕ, zero, suc, ◌+◌, ◌-◌, ◌*◌, ◌<◌, ◌≤◌, ◌==◌, ◌||◌, not, max, Bool, true, false, cond, Option, Some, None, List, [], ◌∷◌, ◌++◌, length, slice_get, slice_set, sum_by, nat_lt, inl, inr, refl, ap, ap₂, sym, subst, ◌∙◌, arith, is_some, length-append, false≢true, both_ways, cases_eq, ltb-false, eqb-true, cases_lt, sum_by-append, sum_by-cons, same_Some, In, got_same, got_other, got_within, in_append_left, in_append_right, none_some, SettingsValue, ProgramText, Name, Waiting, Task, MachineState, onward, runs, is_running, child, joined_task, resumed, ended_task, result_of, step, can_step, asked, asked_by, asked_line, fetched, next_name, IsForkJoinState, step_cases, step_limit, waiting, grown_other, three_other, wp, below, waiting_stops, Heap, Ledger, units, is_small_size, object_words_of, words_at, small_in, held_in, begun_in, units_in, fresh, heap_of, or_fresh, with_heap_at, in_use, with_allocation, put_last, lacks_room, take_of, chunk_words, allocated_by, allocated_in, stepped_to, task_step, task_steps, is_due, is_in_need, is_private, standing, last_words}
 use Rattle.run_ledger.proofs.Chunks.{sum_same, Full, full_same, last_same, last_full, put_last_words, put_full, append_full, last_append}
 use Rattle.run_ledger.proofs.Machine.{stepped_machine}
-use Rattle.run_ledger.proofs.Sound.{collecting, names_of}
+use Rattle.run_ledger.proofs.Sound.{collecting, heap_names}
 use Rattle.run_ledger.proofs.Moves.{moves_each}
 use Rattle.run_ledger.proofs.Steps.{SoundAt, StepLeaves, heap_of_task, can_tells, step_keeps, task_step_sound}
 use Rattle.run_ledger.proofs.Grown.{Grown}
@@ -121,7 +121,7 @@ module _ (p : ProgramText) (s : SettingsValue) (l : Ledger) (t : ℕ) (S : Sound
   leaves = L p l t S I can
 
   words_same : (u : ℕ) (h : Heap) (n : Name) → slice_get l.heaps u ≡ Some h → In (held_in h) n → words_at m' n ≡ words_at m n
-  words_same u h n e i = grown.words n (I.stored n (u, subst (λ o. In (names_of o) n) (sym e) i))
+  words_same u h n e i = grown.words n (I.stored n (u, subst (λ o. In (heap_names o) n) (sym e) i))
 
   take_same : (u : ℕ) (h : Heap) → slice_get l.heaps u ≡ Some h → take_of m' h ≡ take_of m h
   take_same u h e =

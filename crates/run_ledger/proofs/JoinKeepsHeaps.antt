@@ -2,7 +2,7 @@
 use Rattle.run_ledger.proofs.Common.{◌≡◌, ℕ, ℤ, ◌+◌, ◌-◌, ◌<◌, Bool, true, false, Option, Some, None, List, length, slice_get, slice_set, ◌⊎◌, inl, inr, refl, ap, ap₂, sym, subst, ◌∙◌, arith, length-set, is_some, cases_eq, both_ways, false≢true, cond-true, cond-false, fun_ext, In, got_same, got_other, got_within, got_some, Name, Task, MachineState, runs, waits, is_over, is_running, is_waiting, is_joined, is_left, parent_of, parents, joined, owner_in, owner_of, joined_task, resumed, child, join_of, owner_joins, waiting, running_tells, three_length, three_top, three_left, three_right, three_other, three_view, parl, parr, below, dp, wp, drest, IsForkJoinStateIn, Closed, Disentangled, Heap, Ledger, held_in, with_heap, with_heap_at, merged, emptied, or_fresh, join_heaps, at_join, moved_to, settled, stepped_to}
 use Rattle.run_ledger.proofs.Held.{merged_cases, merged_left, merged_right, merged_own}
 use Rattle.run_ledger.proofs.Moves.{Moves}
-use Rattle.run_ledger.proofs.Sound.{names_of, InHeaps, Keeps, Owners, Spares, collecting, snapshot_at, survivors_at, Sound, SoundLedger, closed_same}
+use Rattle.run_ledger.proofs.Sound.{heap_names, InHeaps, SomeHeapHas, Owners, Spares, collecting, snapshot_at, survivors_at, Sound, SoundLedger, closed_same}
 
 pub heap_there : (tasks : List Task) (heaps : List Heap) (t : ℕ) → length heaps ≡ length tasks → t < length tasks → (h : Heap) × (slice_get heaps t ≡ Some h)
 heap_there tasks heaps t len lt = got_some heaps t (omega arith)
@@ -27,7 +27,7 @@ StepLeaves t l b k = SoundLedger k × (collecting (slice_get k.heaps t) ≡ fals
 -- what has to be shown of a state after the step
 abbrev pub Owes : ℕ → Ledger → Ledger → MachineState → Type 0
 Owes t l b m' =
-    IsForkJoinStateIn m'.tasks m'.edges m'.store → Disentangled m'.tasks m'.store → Closed m'.tasks m'.store (Keeps b.heaps)
+    IsForkJoinStateIn m'.tasks m'.edges m'.store → Disentangled m'.tasks m'.store → Closed m'.tasks m'.store (SomeHeapHas b.heaps)
     → ((u : ℕ) (ns : List Name) → (u ≡ t → ⊥) → Spares l.machine.tasks l.machine.store l.heaps u ns → Spares m'.tasks m'.store b.heaps u ns)
     → StepLeaves t l b (stepped_to b t m')
 
@@ -154,10 +154,10 @@ module _ (l : Ledger) (S : SoundLedger l) (t : ℕ) (going : l.machine.end ≡ N
     not_t u ne e = elim side [ inl s ↦ ne.0 (e ∙ s.0) | inr s ↦ ne.1 (e ∙ s.0) ]
 
     at_named : (u : ℕ) (n : Name) (hs : List Heap) (k : ℕ) (h : Heap) → u ≡ k → slice_get hs k ≡ Some h → InHeaps hs u n → In (held_in h) n
-    at_named u n hs k h e is' i = subst (λ o. In (names_of o) n) is' (subst (λ v. InHeaps hs v n) e i)
+    at_named u n hs k h e is' i = subst (λ o. In (heap_names o) n) is' (subst (λ v. InHeaps hs v n) e i)
 
     named_at : (u : ℕ) (n : Name) (hs : List Heap) (h : Heap) → slice_get hs u ≡ Some h → In (held_in h) n → InHeaps hs u n
-    named_at u n hs h is' i = subst (λ o. In (names_of o) n) (sym is') i
+    named_at u n hs h is' i = subst (λ o. In (heap_names o) n) (sym is') i
 
     abbrev Came : ℕ → Name → Type 0
     Came u n = (v : ℕ) × InHeaps b.heaps v n × (((u ≡ parent) × ((v ≡ parent) ⊎ ((v ≡ c) ⊎ (v ≡ c + 1)))) ⊎ ((u ≡ v) × Other u))
@@ -175,15 +175,15 @@ module _ (l : Ledger) (S : SoundLedger l) (t : ℕ) (going : l.machine.end ≡ N
         | inl e ↦ absurd (at_named u n j4 c (emptied hl) e j4_l i)
         | inr more' ↦ elim more' [
           | inl e ↦ absurd (at_named u n j4 (c + 1) (emptied hr) e j4_r i)
-          | inr ne ↦ (u, subst (λ o. In (names_of o) n) (j4_o u ne) i, inr (refl, ne))
+          | inr ne ↦ (u, subst (λ o. In (heap_names o) n) (j4_o u ne) i, inr (refl, ne))
         ]
       ]
     ]
 
     up_other : (u : ℕ) (n : Name) → Other u → InHeaps b.heaps u n → InHeaps j4 u n
-    up_other u n ne i = subst (λ o. In (names_of o) n) (sym (j4_o u ne)) i
+    up_other u n ne i = subst (λ o. In (heap_names o) n) (sym (j4_o u ne)) i
 
-    up4 : (v : ℕ) (n : Name) → InHeaps b.heaps v n → Keeps j4 n
+    up4 : (v : ℕ) (n : Name) → InHeaps b.heaps v n → SomeHeapHas j4 n
     up4 v n i = elim (which v) [
       | inl e ↦ (parent, named_at parent n j4 (merged hp hl hr) j4_p (merged_own hp hl hr n (at_named v n b.heaps parent hp e e_p i)))
       | inr more ↦ elim more [
@@ -195,11 +195,11 @@ module _ (l : Ledger) (S : SoundLedger l) (t : ℕ) (going : l.machine.end ≡ N
       ]
     ]
 
-    down_keeps : (n : Name) → Keeps j4 n → Keeps b.heaps n
+    down_keeps : (n : Name) → SomeHeapHas j4 n → SomeHeapHas b.heaps n
     down_keeps n k = let d = down4 k.0 n k.1 in (d.0, d.1)
 
     down_other : (u : ℕ) (n : Name) → Other u → InHeaps j4 u n → InHeaps b.heaps u n
-    down_other u n ne i = subst (λ o. In (names_of o) n) (j4_o u ne) i
+    down_other u n ne i = subst (λ o. In (heap_names o) n) (j4_o u ne) i
 
     to4 : (u : ℕ) (ns : List Name) → Other u → Spares after l.machine.store b.heaps u ns → Spares after l.machine.store j4 u ns
     to4 u ns ne sp =
@@ -286,7 +286,7 @@ module _ (l : Ledger) (S : SoundLedger l) (t : ℕ) (going : l.machine.end ≡ N
       λ e. both_ways (runs xp.status) stops_p (ap is_running (sym (ap (slice_get tasks) e ∙ ip)) ∙ r),
     )
 
-    join_sound : IsForkJoinStateIn after mj.edges l.machine.store → Disentangled after l.machine.store → Closed after l.machine.store (Keeps b.heaps)
+    join_sound : IsForkJoinStateIn after mj.edges l.machine.store → Disentangled after l.machine.store → Closed after l.machine.store (SomeHeapHas b.heaps)
         → ((u : ℕ) (ns : List Name) → (u ≡ t → ⊥) → Spares tasks l.machine.store l.heaps u ns → Spares after l.machine.store b.heaps u ns) → Sound after mj.edges l.machine.store j4
     join_sound K D C sp = record {
       fork_join = K;

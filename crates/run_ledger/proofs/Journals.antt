@@ -1,7 +1,7 @@
 -- Invariants of legal journals: nothing reachable is freed.
 use Rattle.run_ledger.proofs.Common.{◌≡◌, ℕ, zero, suc, ◌+◌, ◌&&◌, Bool, true, false, not, cond, Option, Some, None, List, [], ◌∷◌, ◌++◌, length, slice_get, slice_set, nat_lt, nat_le, inl, inr, refl, ap, sym, subst, ◌∙◌, is_some, is_none, cases_eq, both_ways, false≢true, and_parts, same_Some, In, in_from_contains, contains_from_in, none_of, ProgramText, Name, Task, refs_at, registers, task_names, is_running, is_waiting, is_joined, parents, joined, owner_of, is_on_path, root, start, asked, not_above, owner_not_joined, waiting, running_tells, start_is_fork_join_state, runs_is, run_names, Closed, start_disentangled, Kind, Took, Ran, Chunk, Begin, End, PutOff, Mark, More, Sweep, Fuel, EntryValue, SettingsValue, field_limit, reached_within, option_is, Heap, Ledger, Refused, Pool, held, held_in, heap_at, heap_of, or_fresh, frames_of, within, with_heap, with_heap_at, fresh, chunk_words, in_use, is_small_size, take_of, collected, swept_heap, on_asked, kind_refusal, refusal, refused_unless, refused_if, is_out, on_running, on_waiting, after_kind, after, chunk_units, is_fuel, opening, after_all, ledger_of, is_legal_from, is_legal, IsNamedByTask, Refers, KeepsReachable, NothingReachableIsFreed}
 use Rattle.run_ledger.proofs.Held.{chunk_down, chunk_up, collected_down, collected_up, swept_down, swept_up}
-use Rattle.run_ledger.proofs.Sound.{InHeaps, Keeps, Spares, collecting, snapshot_at, survivors_at, Sound, SoundLedger, closed_same, frozen, renewed, changed, cut, spares_kept, up_with, down, in_held, held_keeps}
+use Rattle.run_ledger.proofs.Sound.{InHeaps, SomeHeapHas, Spares, collecting, snapshot_at, survivors_at, Sound, SoundLedger, closed_same, frozen, renewed, changed, cut, spares_kept, up_with, down, in_held, held_keeps}
 use Rattle.run_ledger.proofs.Steps.{named_live, task_steps_sound}
 
 -- a test that refuses nothing
@@ -54,7 +54,7 @@ module _ (l : Ledger) (S : SoundLedger l) (t : ℕ) (run : is_running (slice_get
     | inr ne ↦ absurd (both_ways (is_on_path l.machine.tasks t u) (not_above_t u (ap is_joined e ∙ named_live z.status r z refl i) (λ e'. ne (sym e'))) h)
   ]
 
-  alone : (n : Name) → Keeps l.heaps n → is_on_path l.machine.tasks t (owner_of l.machine.tasks n.task) ≡ true → owner_of l.machine.tasks n.task ≡ t
+  alone : (n : Name) → SomeHeapHas l.heaps n → is_on_path l.machine.tasks t (owner_of l.machine.tasks n.task) ≡ true → owner_of l.machine.tasks n.task ≡ t
   alone n k h = elim (cases_eq t (owner_of l.machine.tasks n.task)) [
     | inl same ↦ sym same
     | inr ne ↦ absurd (both_ways (is_on_path l.machine.tasks t (owner_of l.machine.tasks n.task))
@@ -68,8 +68,8 @@ module _ (l : Ledger) (S : SoundLedger l) (t : ℕ) (run : is_running (slice_get
   pub begin_sound : (k : Heap → ℕ) → SoundLedger (with_heap l t (λ h. record h { begun = Some (k h); survivors = within l t }))
   begin_sound k = with_heap_sound l t _ S (λ h e.
       let h' : Heap = record h { begun = Some (k h); survivors = within l t } in
-      let all' : Closed l.machine.tasks l.machine.store (Keeps (slice_set l.heaps t h')) =
-      closed_same l.machine.tasks l.machine.store (Keeps l.heaps) (Keeps (slice_set l.heaps t h'))
+      let all' : Closed l.machine.tasks l.machine.store (SomeHeapHas (slice_set l.heaps t h')) =
+      closed_same l.machine.tasks l.machine.store (SomeHeapHas l.heaps) (SomeHeapHas (slice_set l.heaps t h'))
       (λ n q. (q.0, up_with l.machine.tasks l.machine.edges l.machine.store l.heaps S t h h' e (λ m i. i) (λ m i. i) q.0 n q.1))
       (λ n q. (q.0, down l.machine.tasks l.machine.edges l.machine.store l.heaps S t h h' e (λ m i. i) q.0 n q.1)) S.all in
       changed l.machine.tasks l.machine.edges l.machine.store l.heaps S t h h' e (λ m i. i) all'
@@ -192,7 +192,7 @@ opening_sound p s = record {
 
 pub sound_keeps : (l : Ledger) → SoundLedger l → KeepsReachable l
 sound_keeps l S = record {
-  reachable = λ n w. contains_from_in (held l) n (in_held l n (reached_within (IsNamedByTask l.machine) (Refers l.machine) (Keeps l.heaps)
+  reachable = λ n w. contains_from_in (held l) n (in_held l n (reached_within (IsNamedByTask l.machine) (Refers l.machine) (SomeHeapHas l.heaps)
       (λ r i. S.all.of_task i.0 i.1 r i.2 (in_from_contains (task_names i.1) r i.3))
       (λ o r k i. S.all.of_object o r k (in_from_contains (refs_at l.machine.store o) r i)) n w));
   references = λ n r c f. contains_from_in (held l) r (in_held l r (S.all.of_object n r (held_keeps l n (in_from_contains (held l) n c)) (in_from_contains (refs_at l.machine.store n) r f)));

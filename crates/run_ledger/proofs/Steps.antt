@@ -2,7 +2,7 @@
 use Rattle.run_ledger.proofs.Common.{◌≡◌, ℕ, ℤ, zero, suc, ◌+◌, ◌<◌, ◌≤◌, Bool, true, false, cond, Option, Some, None, List, [], ◌∷◌, ◌++◌, length, slice_get, slice_set, ◌⊎◌, inl, inr, refl, ap, sym, subst, ◌∙◌, arith, length-set, length-append, is_some, cases_eq, cases_lt, both_ways, false≢true, same_Some, fun_ext, In, got_same, got_other, got_front, got_past, got_within, same_view, in_append_left, ProgramText, Name, TaskStatus, Running, Waiting, Ended, Joined, Task, Done, MachineState, onward, int_in, ref_in, names_of_references, registers, names_from, task_names, runs, waits, is_over, is_running, is_waiting, is_joined, parent_of, parents, joined, owner_in, owner_of, is_on_path, child, step, can_step, goes_on, asked, ended_task, result_of, ended_by, strand, strand_of, edge, owner_le, owner_same, path_same, not_above, owner_not_joined, next_name, named_from_in, waiting, running_tells, grown_length, grown_view, grown_view_front, grown_at, grown_other, wrest_fork, below, IsForkJoinStateIn, step_is_fork_join_state, step_cases, runs_is, register_cases, Closed, closed_step, grown_cases, owner_here, Disentangled, disentangled_step, Heap, Ledger, frames_of, within, with_allocation, with_heap_at, fresh, let_go, forked_heap, allocated_by, allocated_in, moved_on, moved_to, settled, stepped_to, task_step, task_steps}
 use Rattle.hh_model.specs.declared.data.End.{End}
 use Rattle.run_ledger.proofs.Held.{placed_cases, placed_old, placed_new, placed_begun}
-use Rattle.run_ledger.proofs.Sound.{names_of, InHeaps, Keeps, Owners, Spares, collecting, snapshot_at, survivors_at, Sound, SoundLedger, closed_same, frozen, renewed}
+use Rattle.run_ledger.proofs.Sound.{heap_names, InHeaps, SomeHeapHas, Owners, Spares, collecting, snapshot_at, survivors_at, Sound, SoundLedger, closed_same, frozen, renewed}
 pub use Rattle.run_ledger.specs.Sound.{SoundAt}
 use Rattle.run_ledger.proofs.JoinKeepsHeaps.{Owes, join_case}
 pub use Rattle.run_ledger.proofs.JoinKeepsHeaps.{StepLeaves, heap_there, worker_at}
@@ -27,17 +27,17 @@ allots l t h is None = record {
 }
 allots l t h is (Some w) = subst (λ (k : Ledger). Allots t next true l.heaps k.heaps) (sym (ap (with_heap_at l t (λ h. with_allocation h next w)) is)) (record {
   down = λ u n i. elim (cases_eq u t) [
-    | inl e ↦ elim (placed_cases h next w n (subst (λ o. In (names_of o) n) allots_at (subst (λ v. InHeaps heaps1 v n) e i))) [
-      | inl old ↦ inl (subst (λ v. InHeaps l.heaps v n) (sym e) (subst (λ o. In (names_of o) n) (sym is) old))
+    | inl e ↦ elim (placed_cases h next w n (subst (λ o. In (heap_names o) n) allots_at (subst (λ v. InHeaps heaps1 v n) e i))) [
+      | inl old ↦ inl (subst (λ v. InHeaps l.heaps v n) (sym e) (subst (λ o. In (heap_names o) n) (sym is) old))
       | inr new ↦ inr (e, sym new)
     ]
-    | inr ne ↦ inl (subst (λ o. In (names_of o) n) (got_other l.heaps t u h1 ne) i)
+    | inr ne ↦ inl (subst (λ o. In (heap_names o) n) (got_other l.heaps t u h1 ne) i)
   ];
   up = λ u n i. elim (cases_eq u t) [
-    | inl e ↦ subst (λ v. InHeaps heaps1 v n) (sym e) (subst (λ o. In (names_of o) n) (sym allots_at) (placed_old h next w n (subst (λ o. In (names_of o) n) is (subst (λ v. InHeaps l.heaps v n) e i))))
-    | inr ne ↦ subst (λ o. In (names_of o) n) (sym (got_other l.heaps t u h1 ne)) i
+    | inl e ↦ subst (λ v. InHeaps heaps1 v n) (sym e) (subst (λ o. In (heap_names o) n) (sym allots_at) (placed_old h next w n (subst (λ o. In (heap_names o) n) is (subst (λ v. InHeaps l.heaps v n) e i))))
+    | inr ne ↦ subst (λ o. In (heap_names o) n) (sym (got_other l.heaps t u h1 ne)) i
   ];
-  new = λ e. subst (λ o. In (names_of o) next) (sym allots_at) (placed_new h next w);
+  new = λ e. subst (λ o. In (heap_names o) next) (sym allots_at) (placed_new h next w);
   others = λ u ne. got_other l.heaps t u h1 ne;
   long = length-set l.heaps t h1;
   still = ap collecting allots_at ∙ (begun_same ∙ sym (ap collecting is));
@@ -59,14 +59,14 @@ allots l t h is (Some w) = subst (λ (k : Ledger). Allots t next true l.heaps k.
     begun_same = ap is_some (placed_begun h (next_name t l.machine.store) w)
 
 -- two fresh heaps hold nothing
-fresh_down : (hs : List Heap) (u : ℕ) (n : Name) → In (names_of (slice_get (hs ++ fresh ∷ fresh ∷ []) u)) n → In (names_of (slice_get hs u)) n
+fresh_down : (hs : List Heap) (u : ℕ) (n : Name) → In (heap_names (slice_get (hs ++ fresh ∷ fresh ∷ []) u)) n → In (heap_names (slice_get hs u)) n
 fresh_down [] zero n i = i
 fresh_down [] (suc zero) n i = i
 fresh_down [] (suc (suc u)) n i = i
 fresh_down (h ∷ hs) zero n i = i
 fresh_down (h ∷ hs) (suc u) n i = fresh_down hs u n i
 
-fresh_up : (hs : List Heap) (u : ℕ) (n : Name) → In (names_of (slice_get hs u)) n → In (names_of (slice_get (hs ++ fresh ∷ fresh ∷ []) u)) n
+fresh_up : (hs : List Heap) (u : ℕ) (n : Name) → In (heap_names (slice_get hs u)) n → In (heap_names (slice_get (hs ++ fresh ∷ fresh ∷ []) u)) n
 fresh_up [] u n i = absurd i
 fresh_up (h ∷ hs) zero n i = i
 fresh_up (h ∷ hs) (suc u) n i = fresh_up hs u n i
@@ -111,21 +111,21 @@ module _ (p : ProgramText) (l : Ledger) (S : SoundLedger l) (t : ℕ) (x : Task)
     | inr new ↦ (subst (λ (k : Name). k.task < length tasks) (sym new.1) tn, ap (λ (k : Name). owner_of tasks k.task) new.1 ∙ (own_t ∙ sym new.0))
   ]
 
-  all1 : Closed (step p m t).tasks (step p m t).store (Keeps b.heaps)
+  all1 : Closed (step p m t).tasks (step p m t).store (SomeHeapHas b.heaps)
   all1 =
-      closed_step p m t S.fork_join (Keeps l.heaps) (Keeps b.heaps) (λ n k. (k.0, A.up k.0 n k.1))
+      closed_step p m t S.fork_join (SomeHeapHas l.heaps) (SomeHeapHas b.heaps) (λ n k. (k.0, A.up k.0 n k.1))
       (λ n k. elim (A.down k.0 n k.1) [ inl old ↦ inl (k.0, old) | inr new ↦ inr new.1 ])
       (λ e. (t, A.new e)) S.all
 
   spares1 : (u : ℕ) (ns : List Name) → (u ≡ t → ⊥) → Spares tasks l.machine.store l.heaps u ns → Spares (step p m t).tasks (step p m t).store b.heaps u ns
   spares1 u ns ne sp =
-      closed_step p m t S.fork_join (λ n. Keeps l.heaps n × (InHeaps l.heaps u n → In ns n)) (λ n. Keeps b.heaps n × (InHeaps b.heaps u n → In ns n))
+      closed_step p m t S.fork_join (λ n. SomeHeapHas l.heaps n × (InHeaps l.heaps u n → In ns n)) (λ n. SomeHeapHas b.heaps n × (InHeaps b.heaps u n → In ns n))
       (λ n kf. ((kf.0.0, A.up kf.0.0 n kf.0.1), λ i. kf.1 (old n i)))
       (λ n kf. elim (A.down kf.0.0 n kf.0.1) [ inl o ↦ inl ((kf.0.0, o), λ i. kf.1 (A.up u n i)) | inr new ↦ inr new.1 ])
       (λ e. ((t, A.new e), λ i. absurd (ne (sym (owners1 u next i).1 ∙ own_t)))) sp
     where
       old : (n : Name) → InHeaps b.heaps u n → InHeaps l.heaps u n
-      old n i = subst (λ o. In (names_of o) n) (A.others u ne) i
+      old n i = subst (λ o. In (heap_names o) n) (A.others u ne) i
 
   idle1 : (u : ℕ) → collecting (slice_get b.heaps u) ≡ true → (u ≡ t → ⊥) × (collecting (slice_get l.heaps u) ≡ true)
   idle1 u c =
@@ -137,7 +137,7 @@ module _ (p : ProgramText) (l : Ledger) (S : SoundLedger l) (t : ℕ) (x : Task)
 
   -- the tree is unchanged
   steady : (m' : MachineState) → length m'.tasks ≡ length tasks → ((a : ℕ) → owner_of m'.tasks a ≡ owner_of tasks a) → ((u : ℕ) → (u ≡ t → ⊥) → slice_get m'.tasks u ≡ slice_get tasks u) → waiting m'.tasks t ≡ false
-      → IsForkJoinStateIn m'.tasks m'.edges m'.store → Disentangled m'.tasks m'.store → Closed m'.tasks m'.store (Keeps b.heaps)
+      → IsForkJoinStateIn m'.tasks m'.edges m'.store → Disentangled m'.tasks m'.store → Closed m'.tasks m'.store (SomeHeapHas b.heaps)
       → ((u : ℕ) (ns : List Name) → (u ≡ t → ⊥) → Spares tasks l.machine.store l.heaps u ns → Spares m'.tasks m'.store b.heaps u ns)
       → Sound m'.tasks m'.edges m'.store b.heaps
   steady m' len own others idle_t K D C sp = record {
@@ -164,7 +164,7 @@ module _ (p : ProgramText) (l : Ledger) (S : SoundLedger l) (t : ℕ) (x : Task)
       let k : Ledger = record b { machine = m'; steps = b.steps + 1 } in
       subst Good (sym (ap (settled k t) on ∙ (ap (moved_to k t) at ∙ ap (moved_on k t y.parent) st))) (s, A.still ∙ idle, inl refl, inr (inl (ap is_running at ∙ ap runs st)), λ u ne w. A.others u ne)
 
-  same_sound : (m' : MachineState) → m'.tasks ≡ tasks → IsForkJoinStateIn m'.tasks m'.edges m'.store → Disentangled m'.tasks m'.store → Closed m'.tasks m'.store (Keeps b.heaps)
+  same_sound : (m' : MachineState) → m'.tasks ≡ tasks → IsForkJoinStateIn m'.tasks m'.edges m'.store → Disentangled m'.tasks m'.store → Closed m'.tasks m'.store (SomeHeapHas b.heaps)
       → ((u : ℕ) (ns : List Name) → (u ≡ t → ⊥) → Spares tasks l.machine.store l.heaps u ns → Spares m'.tasks m'.store b.heaps u ns)
       → Sound m'.tasks m'.edges m'.store b.heaps
   same_sound m' e K D C sp =
@@ -176,7 +176,7 @@ module _ (p : ProgramText) (l : Ledger) (S : SoundLedger l) (t : ℕ) (x : Task)
       ap (λ f. owner_in f (joined (slice_set tasks t y)) a) (same_view parent_of tasks t x y is ep) ∙ ap (λ f. owner_in (parents tasks) f a) (same_view is_joined tasks t x y is ed)
 
   written_sound : (m' : MachineState) (y : Task) → m'.tasks ≡ slice_set tasks t y → y.parent ≡ x.parent → is_over y.status ≡ is_over x.status → waits y.status ≡ false
-      → IsForkJoinStateIn m'.tasks m'.edges m'.store → Disentangled m'.tasks m'.store → Closed m'.tasks m'.store (Keeps b.heaps)
+      → IsForkJoinStateIn m'.tasks m'.edges m'.store → Disentangled m'.tasks m'.store → Closed m'.tasks m'.store (SomeHeapHas b.heaps)
       → ((u : ℕ) (ns : List Name) → (u ≡ t → ⊥) → Spares tasks l.machine.store l.heaps u ns → Spares m'.tasks m'.store b.heaps u ns)
       → Sound m'.tasks m'.edges m'.store b.heaps
   written_sound m' y e ep ed ew K D C sp =
@@ -263,7 +263,7 @@ module _ (p : ProgramText) (l : Ledger) (S : SoundLedger l) (t : ℕ) (x : Task)
             kid_named : In x.top.refs (Some r) → In (names_of_references x.top.refs) r
             kid_named w = named_from_in x.top.refs r w
 
-    alone : (n : Name) → Keeps b.heaps n → is_on_path all t (owner_of all n.task) ≡ true → owner_of all n.task ≡ t
+    alone : (n : Name) → SomeHeapHas b.heaps n → is_on_path all t (owner_of all n.task) ≡ true → owner_of all n.task ≡ t
     alone n kn h =
         let o = owners1 kn.0 n kn.1 in
         let e : owner_of all n.task ≡ owner_of tasks n.task = own_all n.task o.0 in
@@ -296,14 +296,14 @@ module _ (p : ProgramText) (l : Ledger) (S : SoundLedger l) (t : ℕ) (x : Task)
 
     down3 : (u : ℕ) (n : Name) → InHeaps heaps3 u n → InHeaps b.heaps u n
     down3 u n i = elim (cases_eq u t) [
-      | inl e ↦ subst (λ v. InHeaps b.heaps v n) (sym e) (subst (λ o. In (names_of o) n) (sym hb.1) (subst (λ o. In (names_of o) n) at3 (subst (λ v. InHeaps heaps3 v n) e i)))
-      | inr ne ↦ fresh_down b.heaps u n (subst (λ o. In (names_of o) n) (got_other heaps2 t u h3 ne) i)
+      | inl e ↦ subst (λ v. InHeaps b.heaps v n) (sym e) (subst (λ o. In (heap_names o) n) (sym hb.1) (subst (λ o. In (heap_names o) n) at3 (subst (λ v. InHeaps heaps3 v n) e i)))
+      | inr ne ↦ fresh_down b.heaps u n (subst (λ o. In (heap_names o) n) (got_other heaps2 t u h3 ne) i)
     ]
 
     up3 : (u : ℕ) (n : Name) → InHeaps b.heaps u n → InHeaps heaps3 u n
     up3 u n i = elim (cases_eq u t) [
-      | inl e ↦ subst (λ v. InHeaps heaps3 v n) (sym e) (subst (λ o. In (names_of o) n) (sym at3) (subst (λ o. In (names_of o) n) hb.1 (subst (λ v. InHeaps b.heaps v n) e i)))
-      | inr ne ↦ subst (λ o. In (names_of o) n) (sym (got_other heaps2 t u h3 ne)) (fresh_up b.heaps u n i)
+      | inl e ↦ subst (λ v. InHeaps heaps3 v n) (sym e) (subst (λ o. In (heap_names o) n) (sym at3) (subst (λ o. In (heap_names o) n) hb.1 (subst (λ v. InHeaps b.heaps v n) e i)))
+      | inr ne ↦ subst (λ o. In (heap_names o) n) (sym (got_other heaps2 t u h3 ne)) (fresh_up b.heaps u n i)
     ]
 
     to3 : (u : ℕ) (ns : List Name) → Spares all mf.store b.heaps u ns → Spares all mf.store heaps3 u ns
@@ -327,7 +327,7 @@ module _ (p : ProgramText) (l : Ledger) (S : SoundLedger l) (t : ℕ) (x : Task)
     was_waiting : (u : ℕ) → (u ≡ t → ⊥) → waiting all u ≡ true → waiting tasks u ≡ true
     was_waiting u ne w = sym (wrest_fork tasks l.machine.edges t x (onward x.top) x.top x.top g k is run S.fork_join.tree u ne) ∙ w
 
-    fork_sound : IsForkJoinStateIn all mf.edges mf.store → Disentangled all mf.store → Closed all mf.store (Keeps b.heaps)
+    fork_sound : IsForkJoinStateIn all mf.edges mf.store → Disentangled all mf.store → Closed all mf.store (SomeHeapHas b.heaps)
         → ((u : ℕ) (ns : List Name) → (u ≡ t → ⊥) → Spares tasks l.machine.store l.heaps u ns → Spares all mf.store b.heaps u ns) → Sound all mf.edges mf.store heaps3
     fork_sound K D C sp = record {
       fork_join = K;

@@ -3,7 +3,7 @@ use Rattle.run_ledger.proofs.Common.{◌≡◌, ℕ, zero, suc, ◌+◌, ◌<◌
 use Rattle.std.specs.List.{IsDistinct}
 use Rattle.run_ledger.proofs.Members.{same_from_is_name, is_name_itself}
 use Rattle.run_ledger.proofs.Machine.{stepped_machine}
-use Rattle.run_ledger.proofs.Sound.{Keeps, InHeaps, names_of, SoundLedger, held_keeps}
+use Rattle.run_ledger.proofs.Sound.{SomeHeapHas, InHeaps, heap_names, SoundLedger, held_keeps}
 use Rattle.run_ledger.proofs.Steps.{SoundAt, StepLeaves, step_keeps, step_leaves, steps_keep, heap_of_task, can_tells}
 use Rattle.run_ledger.proofs.Grown.{Grown, grown, next_unstored}
 use Rattle.run_ledger.proofs.Weights.{weight, total, total_set, sum_flat, placed_weight, collected_weight, swept_weight, chunk_weight, moves_total, weight_additive}
@@ -59,13 +59,13 @@ distinct (x ∷ xs) h = (
 abbrev pub copies : Name → List Heap → ℕ
 copies n heaps = total (weight (hit n)) heaps
 
-keeps_by : (n : Name) (h : Heap) (heaps : List Heap) → (1 ≤ copies n heaps → Keeps heaps n) → 1 ≤ weight (hit n) h + copies n heaps → Keeps (h ∷ heaps) n
+keeps_by : (n : Name) (h : Heap) (heaps : List Heap) → (1 ≤ copies n heaps → SomeHeapHas heaps n) → 1 ≤ weight (hit n) h + copies n heaps → SomeHeapHas (h ∷ heaps) n
 keeps_by n h heaps more le = elim (cases_lt 0 (weight (hit n) h)) [
   | inl pos ↦ (zero, hit_in n (held_in h) (omega arith))
   | inr none ↦ let k = more (omega arith) in (suc k.0, k.1)
 ]
 
-pub copies_keeps : (n : Name) (heaps : List Heap) → 1 ≤ copies n heaps → Keeps heaps n
+pub copies_keeps : (n : Name) (heaps : List Heap) → 1 ≤ copies n heaps → SomeHeapHas heaps n
 copies_keeps n [] h = absurd (omega arith)
 copies_keeps n (h ∷ heaps) le = keeps_by n h heaps (copies_keeps n heaps) (subst (λ k. 1 ≤ k) (sum_by-cons (weight (hit n)) h heaps) le)
 
@@ -74,14 +74,14 @@ copies_at n [] u i = absurd i
 copies_at n (h ∷ heaps) zero i = let a = sum_by-cons (weight (hit n)) h heaps in let b = in_hit n (held_in h) i in omega arith
 copies_at n (h ∷ heaps) (suc u) i = let a = sum_by-cons (weight (hit n)) h heaps in let b = copies_at n heaps u i in omega arith
 
-pub keeps_copies : (n : Name) (heaps : List Heap) → Keeps heaps n → 1 ≤ copies n heaps
+pub keeps_copies : (n : Name) (heaps : List Heap) → SomeHeapHas heaps n → 1 ≤ copies n heaps
 keeps_copies n heaps k = copies_at n heaps k.0 k.1
 
 -- INVARIANTS OF LEGAL JOURNALS
 
 pub record Stocked (m : MachineState) (heaps : List Heap) : Type 0 where
   pub counted : (k : ℕ) × Counted k m.tasks m.store
-  pub stored : (n : Name) → Keeps heaps n → IsStored m n
+  pub stored : (n : Name) → SomeHeapHas heaps n → IsStored m n
   pub once : (n : Name) → copies n heaps ≤ 1
 
 abbrev pub StockedLedger : Ledger → Type 0
@@ -228,6 +228,6 @@ names_are_held_once p s journal legal =
     let I = legal_stocked p s journal legal in
     record {
       once = distinct (held l) (λ n. subst (λ c. c ≤ 1) (sym (sum_flat (hit n) held_in l.heaps)) (I.once n));
-      owned = λ t n c. (S.owners t n (in_from_contains (names_of (slice_get l.heaps t)) n c)).1;
+      owned = λ t n c. (S.owners t n (in_from_contains (heap_names (slice_get l.heaps t)) n c)).1;
       stored = λ n c. I.stored n (held_keeps l n (in_from_contains (held l) n c));
     }

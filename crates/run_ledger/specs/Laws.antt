@@ -54,8 +54,8 @@ NothingReachableIsFreed =
 -- REACHABILITY WITHIN A HEAP
 
 -- the task t runs or waits
-abbrev pub IsAtWork : Ledger → ℕ → Type 0
-IsAtWork l t = (is_running (slice_get l.machine.tasks t) ≡ true) ⊎ (is_waiting (slice_get l.machine.tasks t) ≡ true)
+abbrev pub RunsOrWaits : Ledger → ℕ → Type 0
+RunsOrWaits l t = (is_running (slice_get l.machine.tasks t) ≡ true) ⊎ (is_waiting (slice_get l.machine.tasks t) ≡ true)
 
 -- EACH HELD NAME IS HELD ONCE
 

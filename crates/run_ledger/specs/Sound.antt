@@ -8,16 +8,16 @@ use Rattle.run_ledger.specs.Heaps.{held_in, or_fresh}
 -- HELD NAMES, over the heaps by task
 
 -- the names of a heap; none if there is no heap
-abbrev pub names_of : Option Heap → List Name
-names_of o = held_in (or_fresh o)
+abbrev pub heap_names : Option Heap → List Name
+heap_names o = held_in (or_fresh o)
 
 -- the heap of u holds the name
 abbrev pub InHeaps : List Heap → ℕ → Name → Type 0
-InHeaps heaps u n = In (names_of (slice_get heaps u)) n
+InHeaps heaps u n = In (heap_names (slice_get heaps u)) n
 
 -- some heap does
-abbrev pub Keeps : List Heap → Name → Type 0
-Keeps heaps n = (u : ℕ) × InHeaps heaps u n
+abbrev pub SomeHeapHas : List Heap → Name → Type 0
+SomeHeapHas heaps n = (u : ℕ) × InHeaps heaps u n
 
 -- each held name is in its owner's heap
 abbrev pub Owners : List Task → List Heap → Type 0
@@ -28,7 +28,7 @@ Owners tasks heaps = (u : ℕ) (n : Name) → InHeaps heaps u n → (n.task < le
 -- the heap of u is used only for these names: without its others, what is held still contains all that tasks hold, and
 -- all to which its objects refer
 abbrev pub Spares : List Task → List (List Object) → List Heap → ℕ → List Name → Type 0
-Spares tasks store heaps u ns = Closed tasks store (λ n. Keeps heaps n × (InHeaps heaps u n → In ns n))
+Spares tasks store heaps u ns = Closed tasks store (λ n. SomeHeapHas heaps n × (InHeaps heaps u n → In ns n))
 
 -- a leaf collection of the heap goes on
 abbrev pub collecting : Option Heap → Bool
@@ -53,7 +53,7 @@ pub record Sound (tasks : List Task) (edges : List Edge) (store : List (List Obj
   pub lengths : length heaps ≡ length tasks
   pub owners : Owners tasks heaps
   pub running : (u : ℕ) → collecting (slice_get heaps u) ≡ true → is_running (slice_get tasks u) ≡ true
-  pub all : Closed tasks store (Keeps heaps)
+  pub all : Closed tasks store (SomeHeapHas heaps)
   pub waits : (u : ℕ) → waiting tasks u ≡ true → Spares tasks store heaps u (snapshot_at (slice_get heaps u))
   pub collects : (u : ℕ) → collecting (slice_get heaps u) ≡ true → Spares tasks store heaps u (survivors_at (slice_get heaps u))
 

@@ -92,12 +92,12 @@ pub record FitsInChunks (m : MachineState) (h : Heap) : Type 0 where
   pub last : last_words m h.chunks + h.room ≤ chunk_words
 
 -- the heaps fit in their chunks, and the held names have at most the words of the chunks in use
-pub record AllFit (l : Ledger) : Type 0 where
+pub record HeapsFitChunks (l : Ledger) : Type 0 where
   pub heaps : (t : ℕ) → FitsInChunks l.machine (heap_of l t)
   pub words : words_sum l.machine (held l) ≤ chunk_words * in_use l
 
 abbrev pub HeapsFit : Type 0
-HeapsFit = (p : ProgramText) (s : SettingsValue) (journal : List EntryValue) → is_legal p s journal ≡ true → AllFit (ledger_of p s journal)
+HeapsFit = (p : ProgramText) (s : SettingsValue) (journal : List EntryValue) → is_legal p s journal ≡ true → HeapsFitChunks (ledger_of p s journal)
 
 -- the words of all objects of a store
 abbrev pub store_words : List (List Object) → ℕ

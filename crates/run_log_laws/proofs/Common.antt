@@ -12,7 +12,7 @@ pub use Rattle.hh_model.proofs.Runs.{waiting, joins_of, joins_in, running_tells,
 pub use Rattle.hh_model.proofs.Steps.{step_cases}
 pub use Rattle.hh_model.specs.Effect.{onward}
 pub use Rattle.hh_model.specs.Names.{task_names}
-pub use Rattle.hh_model.specs.Precedence.{Precedes, IsWalk}
+pub use Rattle.hh_model.specs.Precedence.{Precedes, IsEdgeWalk}
 pub use Rattle.hh_model.specs.Step.{strand, edge, runs, waits, is_over, is_running, is_joined, is_waiting, parents, joined, path_in, strand_of, is_left, child, joined_task, resumed, join_of, ended_task, result_of, fetched, step, run, run_from, start, root}
 pub use Rattle.hh_model.specs.Tree.{Tree}
 pub use Rattle.hh_model.specs.declared.data.Edge.{Edge}

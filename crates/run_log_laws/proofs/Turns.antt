@@ -11,7 +11,7 @@ pub record SpawnsAt (edges : List Edge) (t i c : ℕ) : Type 0 where
   pub there : In edges (edge (strand t fork) (strand c 0))
 
 -- it joins c, which takes no turn any more
-pub record JoinsAt (jd : ℕ → Bool) (js : ℕ → ℕ) (edges : List Edge) (tasks : graph.Tasks) (t i c : ℕ) : Type 0 where
+pub record JoinsAt (jd : ℕ → Bool) (js : ℕ → ℕ) (edges : List Edge) (tasks : graph.TaskTurns) (t i c : ℕ) : Type 0 where
   pub fork : ℕ
   pub side : ℕ
   pub two : side < 2
@@ -21,20 +21,20 @@ pub record JoinsAt (jd : ℕ → Bool) (js : ℕ → ℕ) (edges : List Edge) (t
   pub there : In edges (edge (strand c (js c)) (strand t (fork + 1)))
 
 -- an edge of a fork
-pub record IsFork (tasks : graph.Tasks) (e : Edge) : Type 0 where
+pub record IsFork (tasks : graph.TaskTurns) (e : Edge) : Type 0 where
   pub side : ℕ
   pub two : side < 2
   pub turn : graph.Does tasks e.source.task (4 * e.source.joins + side) (Spawn e.target.task)
 
 -- an edge of a join
-pub record IsJoin (js : ℕ → ℕ) (tasks : graph.Tasks) (e : Edge) (fork : ℕ) : Type 0 where
+pub record IsJoin (js : ℕ → ℕ) (tasks : graph.TaskTurns) (e : Edge) (fork : ℕ) : Type 0 where
   pub side : ℕ
   pub two : side < 2
   pub turn : graph.Does tasks e.target.task (4 * fork + 2 + side) (Join e.source.task)
   pub whole : 4 * fork + 4 ≤ length (tasks e.target.task)
   pub last : e.source.joins ≡ js e.source.task
 
-pub record AreTurns (jd : ℕ → Bool) (js : ℕ → ℕ) (edges : List Edge) (tasks : graph.Tasks) : Type 0 where
+pub record AreTurns (jd : ℕ → Bool) (js : ℕ → ℕ) (edges : List Edge) (tasks : graph.TaskTurns) : Type 0 where
   pub spawns : (t i c : ℕ) → graph.Does tasks t i (Spawn c) → SpawnsAt edges t i c
   pub joins : (t i c : ℕ) → graph.Does tasks t i (Join c) → JoinsAt jd js edges tasks t i c
   pub forks : (e : Edge) → In edges e → e.target.joins ≡ 0 → IsFork tasks e

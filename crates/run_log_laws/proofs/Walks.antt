@@ -1,36 +1,36 @@
 -- Walks along the edges of a run, and in the graph with its turns.
-use Rattle.run_log_laws.proofs.Common.{◌≡◌, ◌<◌, ◌≤◌, ◌+◌, ◌*◌, ℕ, zero, suc, Bool, List, [], ◌∷◌, ◌++◌, length, Contains, inl, inr, refl, ap, sym, subst, arith, cases_lt, slice_get_within, In, in_from_contains, contains_from_in, in_append_left, reached_within, GraphTurn, Spawn, Join, GraphStrand, Strand, Edge, IsWalk, Precedes, strand, edge, in_log}
+use Rattle.run_log_laws.proofs.Common.{◌≡◌, ◌<◌, ◌≤◌, ◌+◌, ◌*◌, ℕ, zero, suc, Bool, List, [], ◌∷◌, ◌++◌, length, Contains, inl, inr, refl, ap, sym, subst, arith, cases_lt, slice_get_within, In, in_from_contains, contains_from_in, in_append_left, reached_within, GraphTurn, Spawn, Join, GraphStrand, Strand, Edge, IsEdgeWalk, Precedes, strand, edge, in_log}
 use Rattle.fork_graph.specs.Graph as graph
 use Rattle.ancestor_laws.proofs.Walks as walks
 use Rattle.run_log_laws.proofs.Turns.{IsFork, IsJoin, AreTurns}
 
 -- ALONG EDGES
 
-walk_wider : (es ds : List Edge) (ws : List Edge) (u v : Strand) → IsWalk es u ws v → IsWalk (es ++ ds) u ws v
+walk_wider : (es ds : List Edge) (ws : List Edge) (u v : Strand) → IsEdgeWalk es u ws v → IsEdgeWalk (es ++ ds) u ws v
 walk_wider es ds [] u v w = w
 walk_wider es ds (e ∷ ws) u v w = (w.0, contains_from_in (es ++ ds) e (in_append_left es ds e (in_from_contains es e w.1)), walk_wider es ds ws e.target v w.2)
 
 pub wider : (es ds : List Edge) (u v : Strand) → Precedes es u v → Precedes (es ++ ds) u v
 wider es ds u v w = (w.0, walk_wider es ds w.0 u v w.1)
 
-walk_on : (es : List Edge) (e : Edge) (ws : List Edge) (u : Strand) → IsWalk es u ws e.source → Contains es e → IsWalk es u (ws ++ e ∷ []) e.target
+walk_on : (es : List Edge) (e : Edge) (ws : List Edge) (u : Strand) → IsEdgeWalk es u ws e.source → Contains es e → IsEdgeWalk es u (ws ++ e ∷ []) e.target
 walk_on es e [] u w c = (sym w, c, refl)
 walk_on es e (d ∷ ws) u w c = (w.0, w.1, walk_on es e ws d.target w.2 c)
 
 pub then_edge : (es : List Edge) (u v w : Strand) → Precedes es u v → In es (edge v w) → Precedes es u w
 then_edge es u v w r i = (r.0 ++ edge v w ∷ [], walk_on es (edge v w) r.0 u r.1 (contains_from_in es (edge v w) i))
 
-walk_both : (es : List Edge) (ws : List Edge) (u v x : Strand) → IsWalk es u ws v → Precedes es v x → Precedes es u x
+walk_both : (es : List Edge) (ws : List Edge) (u v x : Strand) → IsEdgeWalk es u ws v → Precedes es v x → Precedes es u x
 walk_both es [] u v x w r = subst (λ s. Precedes es s x) (sym w) r
 walk_both es (d ∷ ws) u v x w r = let rest = walk_both es ws d.target v x w.2 r in (d ∷ rest.0, (w.0, w.1, rest.1))
 
 pub both : (es : List Edge) (u v x : Strand) → Precedes es u v → Precedes es v x → Precedes es u x
 both es u v x a b = walk_both es a.0 u v x a.1 b
 
-module _ (jd : ℕ → Bool) (js : ℕ → ℕ) (edges : List Edge) (tasks : graph.Tasks) (A : AreTurns jd js edges tasks) where
+module _ (jd : ℕ → Bool) (js : ℕ → ℕ) (edges : List Edge) (tasks : graph.TaskTurns) (A : AreTurns jd js edges tasks) where
   -- FROM EDGES TO THE GRAPH
 
-  fork_goes : (e : Edge) → IsFork tasks e → e.target.joins ≡ 0 → graph.Precedes tasks (in_log e.source) (in_log e.target)
+  fork_goes : (e : Edge) → IsFork tasks e → e.target.joins ≡ 0 → graph.StrandPrecedes tasks (in_log e.source) (in_log e.target)
   fork_goes e f first =
       let t = e.source.task in
       let i : ℕ = 4 * e.source.joins + f.side in
@@ -39,7 +39,7 @@ module _ (jd : ℕ → Bool) (js : ℕ → ℕ) (edges : List Edge) (tasks : gra
       (walks.along tasks t (4 * e.source.joins) i (omega arith) (omega arith))
       (inr (inl (e.target.task, f.turn, ap (graph.strand e.target.task) (let z : e.target.joins ≡ 0 = first in let k : 4 * e.target.joins ≡ 0 = omega arith in k))))
 
-  join_goes : (e : Edge) (fork : ℕ) → IsJoin js tasks e fork → e.target.joins ≡ fork + 1 → graph.Precedes tasks (in_log e.source) (in_log e.target)
+  join_goes : (e : Edge) (fork : ℕ) → IsJoin js tasks e fork → e.target.joins ≡ fork + 1 → graph.StrandPrecedes tasks (in_log e.source) (in_log e.target)
   join_goes e fork j later =
       let t = e.target.task in
       let c = e.source.task in
@@ -57,18 +57,18 @@ module _ (jd : ℕ → Bool) (js : ℕ → ℕ) (edges : List Edge) (tasks : gra
       (inr (inr (t, i, c, j.turn, refl, refl))))
       (walks.along tasks t (i + 1) (4 * e.target.joins) (omega (arith, two, goal)) (omega (arith, whole, goal)))
 
-  edge_by : (e : Edge) (k : ℕ) → In edges e → e.target.joins ≡ k → graph.Precedes tasks (in_log e.source) (in_log e.target)
+  edge_by : (e : Edge) (k : ℕ) → In edges e → e.target.joins ≡ k → graph.StrandPrecedes tasks (in_log e.source) (in_log e.target)
   edge_by e zero i first = fork_goes e (A.forks e i first) first
   edge_by e (suc fork) i later = let k : e.target.joins ≡ fork + 1 = omega (arith, later) in join_goes e fork (A.ends e fork i k) k
 
-  along_edges : (ws : List Edge) (u v : Strand) → IsWalk edges u ws v → graph.Precedes tasks (in_log u) (in_log v)
+  along_edges : (ws : List Edge) (u v : Strand) → IsEdgeWalk edges u ws v → graph.StrandPrecedes tasks (in_log u) (in_log v)
   along_edges [] u v w = walks.same_strand tasks (in_log u) (in_log v) (ap in_log (sym w))
   along_edges (e ∷ ws) u v w =
       walks.both tasks (in_log u) (in_log e.target) (in_log v)
-      (subst (λ s. graph.Precedes tasks (in_log s) (in_log e.target)) w.0 (edge_by e e.target.joins (in_from_contains edges e w.1) refl))
+      (subst (λ s. graph.StrandPrecedes tasks (in_log s) (in_log e.target)) w.0 (edge_by e e.target.joins (in_from_contains edges e w.1) refl))
       (along_edges ws e.target v w.2)
 
-  pub to_graph : (u v : Strand) → Precedes edges u v → graph.Precedes tasks (in_log u) (in_log v)
+  pub to_graph : (u v : Strand) → Precedes edges u v → graph.StrandPrecedes tasks (in_log u) (in_log v)
   to_graph u v w = along_edges w.0 u v w.1
 
   -- FROM THE GRAPH TO EDGES
@@ -128,7 +128,7 @@ module _ (jd : ℕ → Bool) (js : ℕ → ℕ) (edges : List Edge) (tasks : gra
   begins : (s : Strand) → Comes s (in_log s)
   begins s q low high = let e : q ≡ s.joins = omega (arith, low, high) in ([], ap (strand s.task) (sym e))
 
-  pub from_graph : (u v : Strand) → graph.Precedes tasks (in_log u) (in_log v) → Precedes edges u v
+  pub from_graph : (u v : Strand) → graph.StrandPrecedes tasks (in_log u) (in_log v) → Precedes edges u v
   from_graph u v w =
       reached_within (λ (x : GraphStrand). x ≡ in_log u) (graph.IsGraphEdge tasks) (Comes u)
       (λ a e. subst (Comes u) (sym e) (begins u)) (λ m a comes e. goes u m a comes e) (in_log v) w

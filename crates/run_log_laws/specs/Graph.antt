@@ -23,7 +23,7 @@ turn_at t e =
 
 -- the turns of each task are the edges of its forks and joins, in their order: of a fork the spawns of both children, and
 -- then, once they have ended, both joins
-abbrev pub turns_of : List Edge → graph.Tasks
+abbrev pub turns_of : List Edge → graph.TaskTurns
 turns_of edges t = flat_map (turn_at t) edges
 
 -- after so many joins of its forks a task has taken four turns for each
@@ -31,12 +31,12 @@ abbrev pub in_log : Strand → GraphStrand
 in_log u = graph.strand u.task (4 * u.joins)
 
 -- the strand has begun
-abbrev pub HasBegun : MachineState → Strand → Type 0
-HasBegun m u = (u.task < length m.tasks) × (u.joins ≤ joins_in m.tasks u.task)
+abbrev pub StrandHasBegun : MachineState → Strand → Type 0
+StrandHasBegun m u = (u.task < length m.tasks) × (u.joins ≤ joins_in m.tasks u.task)
 
 -- in every run one strand precedes another exactly where it does so in the graph with these turns
 abbrev pub WalksAgree : Type 0
 WalksAgree =
     (p : ProgramText) (limit : ℕ) (ts : List ℕ) (u v : Strand)
     → let m = run p limit ts in
-    HasBegun m u → HasBegun m v → (Precedes m.edges u v ↔ graph.Precedes (turns_of m.edges) (in_log u) (in_log v))
+    StrandHasBegun m u → StrandHasBegun m v → (Precedes m.edges u v ↔ graph.StrandPrecedes (turns_of m.edges) (in_log u) (in_log v))

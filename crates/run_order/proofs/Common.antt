@@ -6,7 +6,7 @@ pub use Rattle.ancestor_laws.proofs.Walks.{IsRooted, strand_is, attached_rooted,
 pub use Rattle.ancestor_laws.specs.Blocks.{AreBlocks, TellsPrecedence}
 pub use Rattle.ancestor_laws.specs.Meeting.{IsLowestCommon, IsExit}
 pub use Rattle.ancestor_laws.specs.Serial.{IsSerialOrder, AreLevels}
-pub use Rattle.fork_graph.specs.Graph.{Tasks, strand, first_of, last_of, Does, Precedes, IsParent, IsAncestor, tasks_in}
+pub use Rattle.fork_graph.specs.Graph.{TaskTurns, strand, first_of, last_of, Does, StrandPrecedes, IsParent, IsAncestor, tasks_in}
 pub use Rattle.fork_graph.specs.Nested.{IsNested}
 pub use Rattle.fork_graph.specs.declared.graph.GraphStrand.{GraphStrand}
 pub use Rattle.fork_graph.specs.declared.graph.GraphTurn.{GraphTurn}
@@ -22,7 +22,7 @@ pub use Rattle.plain_vec.proofs.Options.{none_some}
 pub use Rattle.plain_vec.specs.Options.{option_is}
 pub use Rattle.race_cells.specs.Order.{MeetsAsInTree, ExtendsPrecedence}
 pub use Rattle.run_order.specs.Laws.{IsOrderOf, WalksHaveAnOrder}
-pub use Rattle.run_order.specs.Order.{way_up, exit_of, is_upto, is_no_later, depth_of, after_join, if_there, steps_from, is_above_strand}
+pub use Rattle.run_order.specs.Order.{way_up, exit_of, is_upto, is_no_later, order_depth, after_join, if_there, steps_from, is_above_strand}
 pub use Rattle.std.proofs.Common.{◌≡◌, ◌↔◌, ℕ, zero, suc, ◌+◌, ◌<◌, ◌≤◌, List, length, slice_get, Some, ◌⊎◌, inl, inr, refl, ap, sym, subst, ◌∙◌, arith, ◌-◌, Bool, true, false, Option, None, nat_le, ◌==◌, ◌&&◌, cond, [], ◌∷◌, get_or, position, find, nat_lt, eqb, eq-eqb, if◌then◌else◌}
 pub use Rattle.std.proofs.lemmas.Bool.{cases_lt, false≢true, leb-true, le-leb, cases_eq, eqb-true, lt-ltb, ltb-true}
 pub use Rattle.std.proofs.lemmas.List.Sums.{position_or_len_is}

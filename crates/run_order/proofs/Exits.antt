@@ -1,7 +1,7 @@
 -- Where the ways of strands come into a common ancestor, by places in a serial order.
-use Rattle.run_order.proofs.Common.{◌≡◌, ◌↔◌, ℕ, zero, suc, ◌+◌, ◌<◌, ◌≤◌, List, length, slice_get, Some, ◌⊎◌, inl, inr, refl, ap, sym, subst, ◌∙◌, arith, slice_get_within, slice_get-get_or, get_or_from_slice_get, Join, GraphStrand, Tasks, strand, first_of, last_of, Does, Precedes, IsParent, IsAncestor, IsNested, IsLowestCommon, IsExit, IsSerialOrder, AreBlocks, TellsPrecedence, IsLine, same_ancestor, through, up_cases, down_cases, one_parent, no_root_parent, joins_child, no_self, one_line, rooted_above, same_child, decide, IsRooted, strand_is, attached_rooted, rooted_attached, strand_at, task_at, IsExitAt}
+use Rattle.run_order.proofs.Common.{◌≡◌, ◌↔◌, ℕ, zero, suc, ◌+◌, ◌<◌, ◌≤◌, List, length, slice_get, Some, ◌⊎◌, inl, inr, refl, ap, sym, subst, ◌∙◌, arith, slice_get_within, slice_get-get_or, get_or_from_slice_get, Join, GraphStrand, TaskTurns, strand, first_of, last_of, Does, StrandPrecedes, IsParent, IsAncestor, IsNested, IsLowestCommon, IsExit, IsSerialOrder, AreBlocks, TellsPrecedence, IsLine, same_ancestor, through, up_cases, down_cases, one_parent, no_root_parent, joins_child, no_self, one_line, rooted_above, same_child, decide, IsRooted, strand_is, attached_rooted, rooted_attached, strand_at, task_at, IsExitAt}
 
-module _ (tasks : Tasks) (order : List GraphStrand) (n : IsNested tasks) (serial : IsSerialOrder tasks order) where
+module _ (tasks : TaskTurns) (order : List GraphStrand) (n : IsNested tasks) (serial : IsSerialOrder tasks order) where
   -- POSITIONS
 
   pub at_place : (i : ℕ) → i < length order → slice_get order i ≡ Some (strand_at order i)
@@ -143,9 +143,9 @@ module _ (tasks : Tasks) (order : List GraphStrand) (n : IsNested tasks) (serial
 
   module _ (tells : TellsPrecedence tasks order) where
     tells_by : (i j e q k : ℕ) → i < length order → j < length order → IsLowestCommon tasks q (task_at order i) (task_at order j)
-        → IsExit tasks q (strand_at order i) k → slice_get order e ≡ Some (strand q k) → (Precedes tasks (strand_at order i) (strand_at order j) ↔ (e ≤ j))
+        → IsExit tasks q (strand_at order i) k → slice_get order e ≡ Some (strand q k) → (StrandPrecedes tasks (strand_at order i) (strand_at order j) ↔ (e ≤ j))
     tells_by i j e q k lt lt' low (inl (et, ei)) at =
-        subst (λ (u : GraphStrand). Precedes tasks u (strand_at order j) ↔ (e ≤ j)) (sym (strand_is (strand_at order i) q k et ei))
+        subst (λ (u : GraphStrand). StrandPrecedes tasks u (strand_at order j) ↔ (e ≤ j)) (sym (strand_is (strand_at order i) q k et ei))
         (tells.own q k e j (strand_at order j) low.above_second at (at_place j lt'))
     tells_by i j e q k lt lt' low (inr (c, m, up, jn, ek)) at =
         let par = joins_child tasks n.fork_join q m c jn in
@@ -155,7 +155,7 @@ module _ (tasks : Tasks) (order : List GraphStrand) (n : IsNested tasks) (serial
         (subst (λ x. slice_get order e ≡ Some (strand q x)) ek at) (at_place j lt')
 
     -- a strand precedes another one exactly where its way comes in no later than the other one stands
-    pub exit_tells : (i j e : ℕ) → i < length order → j < length order → IsExitAt tasks order i j e → (Precedes tasks (strand_at order i) (strand_at order j) ↔ (e ≤ j))
+    pub exit_tells : (i j e : ℕ) → i < length order → j < length order → IsExitAt tasks order i j e → (StrandPrecedes tasks (strand_at order i) (strand_at order j) ↔ (e ≤ j))
     exit_tells i j e lt lt' x = tells_by i j e x.task x.index lt lt' x.lowest x.exit x.at
 
   -- BLOCKS

@@ -39,9 +39,9 @@ abbrev pub is_upto : Option ℕ → ℕ → Bool
 is_upto None j = false
 is_upto (Some e) j = nat_le e j
 
-abbrev pub depth_of : WalkValue → Option ℕ → ℕ
-depth_of walk None = 0
-depth_of walk (Some e) = length (way_up walk e) - 1
+abbrev pub order_depth : WalkValue → Option ℕ → ℕ
+order_depth walk None = 0
+order_depth walk (Some e) = length (way_up walk e) - 1
 
 abbrev pub is_no_later : Option ℕ → Option ℕ → Bool
 is_no_later None f = false
@@ -52,6 +52,6 @@ unfoldable pub run_order : WalkValue → StrandOrder
 run_order walk = record {
   strands = length walk.order;
   before = λ i j. is_upto (exit_of walk i j) j;
-  meeting = λ i j. depth_of walk (exit_of walk i j);
+  meeting = λ i j. order_depth walk (exit_of walk i j);
   leaves_first = λ i j. is_no_later (exit_of walk i j) (exit_of walk j i);
 }

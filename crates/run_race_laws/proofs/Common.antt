@@ -6,7 +6,7 @@ pub use Rattle.hh_model.proofs.Runs.{joins_of, joins_in, waiting, running_tells}
 pub use Rattle.hh_model.proofs.Taken.{can_runs}
 pub use Rattle.hh_model.specs.Effect.{Effect, Goes, Prints, Calls, Forks, Returns, Traps, Stops, StepContext, effect, object_at, int_in, ref_in, place_in, same_name, read_effect, or_trap, onward, with_ref, counts_in, row_of}
 pub use Rattle.hh_model.specs.Names.{next_name}
-pub use Rattle.hh_model.specs.Precedence.{precedes, IsWalk}
+pub use Rattle.hh_model.specs.Precedence.{precedes, IsEdgeWalk}
 pub use Rattle.hh_model.specs.Step.{setting, strand_of, owner_of, start, is_running, is_waiting, is_joined, joined, can_step, fetched, step, run, run_from}
 pub use Rattle.hh_model.specs.Store.{IsStored, NamesAreStoredIn, StaysAs}
 pub use Rattle.hh_model.specs.declared.data.Edge.{Edge}
@@ -25,7 +25,7 @@ pub use Rattle.path_laws.proofs.Stored.{names_are_stored}
 pub use Rattle.race_report.proofs.LabelSteps.{Begun, run_keeps, begun_running}
 pub use Rattle.race_report.proofs.Written.{index_of}
 pub use Rattle.race_report.specs.Accesses.{access_by, unless_trap, object_references, value_of, with_some, accesses, accesses_from, next_access, task_access, line_access}
-pub use Rattle.race_report.specs.LabelLaw.{Runs}
+pub use Rattle.race_report.specs.LabelLaw.{TaskRuns}
 pub use Rattle.race_report.specs.Races.{IsRace, RaceAt}
 pub use Rattle.race_report.specs.declared.data.Field.{Field}
 pub use Rattle.race_report.specs.declared.data.FieldAccess.{FieldAccess}
@@ -38,10 +38,10 @@ pub use Rattle.run_log_laws.proofs.Rows.{open_turns}
 pub use Rattle.run_log_laws.proofs.Runs.{walks_agree, run_rows}
 pub use Rattle.run_log_laws.proofs.below.plain_vec.{contains_from_in, In, got_in, in_got, in_map, map_in, in_append_cases, in_from_contains, got_more}
 pub use Rattle.run_log_laws.specs.Graph.{in_log, turns_of, WalksAgree}
-pub use Rattle.run_log_laws.specs.below.fork_graph.{GraphStrand, Precedes}
+pub use Rattle.run_log_laws.specs.below.fork_graph.{GraphStrand, StrandPrecedes}
 pub use Rattle.run_log_laws.specs.below.hh_lang.{Instr, Set, Mov, Movr, Nil, Calc, Same, Jmp, Jz, Newm, Pack, Getr, Geti, Putr, Puti, Cntr, Cnti, Freeze, Cas, Call, Par, Ret, Out, ProgramText, Line}
-pub use Rattle.run_race_laws.specs.Accesses.{ToldAccess, told_access, accesses_told, as_told, kind_of, field_location, index_among, accesses_by, LogsTellAccesses}
-pub use Rattle.run_race_laws.specs.Races.{HasField, Covers, writes, is_atomic, clash, ToldRaceAt, count_of, LogsTellRaces}
+pub use Rattle.run_race_laws.specs.Accesses.{ToldAccess, told_access, accesses_told, as_told, access_kind_of, field_location, index_among, accesses_by, LogsTellAccesses}
+pub use Rattle.run_race_laws.specs.Races.{HasField, PlaceCovers, writes, is_atomic, kinds_clash, ToldRaceAt, count_of, LogsTellRaces}
 pub use Rattle.run_turn_laws.proofs.Along.{act_told, on_strand, strand_now, turn_events, step_act, told_along}
 pub use Rattle.run_turn_laws.proofs.Legal.{logs_tell_edges, legal_ready}
 pub use Rattle.run_turn_laws.proofs.Told.{spot}

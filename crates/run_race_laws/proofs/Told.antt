@@ -1,5 +1,5 @@
 -- The accesses that a run's lines tell are those of its steps.
-use Rattle.run_race_laws.proofs.Common.{◌≡◌, ◌<◌, ◌+◌, ◌*◌, ℕ, zero, suc, arith, Bool, true, false, cond, Option, Some, None, IfSome, List, [], ◌∷◌, ◌++◌, length, map, slice_get, refl, ap, sym, subst, ◌∙◌, append-nil, inl, inr, flat_map-append, map-append, ProgramText, Line, run_push, joins_of, joins_in, waiting, running_tells, IsForkJoinState, run_is_fork_join_state, start_is_fork_join_state, can_runs, IsWalk, precedes, Edge, Strand, object_at, is_running, is_waiting, is_joined, joined, can_step, fetched, step, run, run_from, start, strand_of, MachineState, Name, Object, Task, TaskStatus, Running, Waiting, Ended, Joined, GraphStrand, Event, event, objects_stay, names_are_stored, In, in_append_cases, in_from_contains, got_in, got_more, both_ways, slice_get_within, Begun, run_keeps, begun_running, Runs, turns_of, open_turns, run_rows, accesses, accesses_from, next_access, task_access, line_access, with_some, object_references, Field, FieldAccess, EntryValue, SettingsValue, field_limit, tasks_of, is_legal, machine_of, in_log, location, act_of, act_by, step_act_of as act_at, moved_lines, lines_of, spot_after, events_told, spot, on_strand, strand_now, turn_events, step_act, told_along, legal_ready, told_access, accesses_told, accesses_by, as_told, kind_of, field_location, index_among, LogsTellAccesses, HasField, count_of}
+use Rattle.run_race_laws.proofs.Common.{◌≡◌, ◌<◌, ◌+◌, ◌*◌, ℕ, zero, suc, arith, Bool, true, false, cond, Option, Some, None, IfSome, List, [], ◌∷◌, ◌++◌, length, map, slice_get, refl, ap, sym, subst, ◌∙◌, append-nil, inl, inr, flat_map-append, map-append, ProgramText, Line, run_push, joins_of, joins_in, waiting, running_tells, IsForkJoinState, run_is_fork_join_state, start_is_fork_join_state, can_runs, IsEdgeWalk, precedes, Edge, Strand, object_at, is_running, is_waiting, is_joined, joined, can_step, fetched, step, run, run_from, start, strand_of, MachineState, Name, Object, Task, TaskStatus, Running, Waiting, Ended, Joined, GraphStrand, Event, event, objects_stay, names_are_stored, In, in_append_cases, in_from_contains, got_in, got_more, both_ways, slice_get_within, Begun, run_keeps, begun_running, TaskRuns, turns_of, open_turns, run_rows, accesses, accesses_from, next_access, task_access, line_access, with_some, object_references, Field, FieldAccess, EntryValue, SettingsValue, field_limit, tasks_of, is_legal, machine_of, in_log, location, act_of, act_by, step_act_of as act_at, moved_lines, lines_of, spot_after, events_told, spot, on_strand, strand_now, turn_events, step_act, told_along, legal_ready, told_access, accesses_told, accesses_by, as_told, access_kind_of, field_location, index_among, LogsTellAccesses, HasField, count_of}
 use Rattle.log_lines.specs.declared.line.Act.TheVariants as acts
 use Rattle.run_race_laws.proofs.Deeds.{Agrees, agrees, Good}
 
@@ -20,7 +20,7 @@ accesses_push p m (u ∷ us) t =
 
 same_map : (one other : List (List Object)) (found : List FieldAccess) → ((a : FieldAccess) → In found a → field_location one a.field ≡ field_location other a.field) → map (as_told one) found ≡ map (as_told other) found
 same_map one other [] h = refl
-same_map one other (a ∷ more) h = λ i. told_access (in_log a.strand) (h a (inl refl) i) (kind_of a.writes a.swaps) ∷ same_map one other more (λ b j. h b (inr j)) i
+same_map one other (a ∷ more) h = λ i. told_access (in_log a.strand) (h a (inl refl) i) (access_kind_of a.writes a.swaps) ∷ same_map one other more (λ b j. h b (inr j)) i
 
 -- TURNS ARE NO ACCESSES
 
@@ -149,7 +149,7 @@ module _ (p : ProgramText) (limit : ℕ) where
     K : IsForkJoinState m
     K = run_is_fork_join_state p (start p limit) ts (start_is_fork_join_state p limit)
 
-    R : Runs m t x
+    R : TaskRuns m t x
     R = record { is = is; running = ap is_running (sym is) ∙ can_runs m t can }
 
     keeps : (w : Strand) → Begun m w → Begun m' w
@@ -188,7 +188,7 @@ module _ (p : ProgramText) (limit : ℕ) where
         let live : joined m.tasks t ≡ false = ap is_joined is ∙ (running_tells x.status R.running).0 in
         both_ways (joined m.tasks t) live (ap (λ (q : Strand). joined m.tasks q.task) (sym from) ∙ over)
 
-    alone_by : (es : List Edge) (w : Strand) → IsWalk m.edges (strand_of t x) es w → strand_of t x ≡ w
+    alone_by : (es : List Edge) (w : Strand) → IsEdgeWalk m.edges (strand_of t x) es w → strand_of t x ≡ w
     alone_by [] w h = h
     alone_by (e ∷ es) w h = absurd (no_edge e e.target.joins (in_from_contains m.edges e h.1) h.0 refl)
 

@@ -15,15 +15,15 @@ abbrev pub told_access : GraphStrand → LogPlace → AccessKind → ToldAccess
 told_access u place kind = record { strand = u; place = place; kind = kind }
 
 -- where a reference is read or written
-abbrev pub place_of : Reference → LogPlace
-place_of r = record { block = r.block; offset = r.offset; length = 1; runs = 1; apart = 1 }
+abbrev pub place_of_reference : Reference → LogPlace
+place_of_reference r = record { block = r.block; offset = r.offset; length = 1; runs = 1; apart = 1 }
 
 -- the access that an act is, if it is one: a read that yields a reference is a plain read, and a write of one a plain
 -- write
 abbrev pub accesses_by : GraphStrand → Act → List ToldAccess
 accesses_by u (acts.Access a) = told_access u a.place a.kind ∷ []
-accesses_by u (acts.Yield r) = told_access u (place_of r) kinds.Read ∷ []
-accesses_by u (acts.Store r) = told_access u (place_of r) kinds.Write ∷ []
+accesses_by u (acts.Yield r) = told_access u (place_of_reference r) kinds.Read ∷ []
+accesses_by u (acts.Store r) = told_access u (place_of_reference r) kinds.Write ∷ []
 accesses_by u (acts.Birth block length) = []
 accesses_by u (acts.Release block) = []
 accesses_by u (acts.Work units) = []
@@ -38,11 +38,11 @@ accesses_told events = flat_map (λ e. accesses_by e.strand e.act) events
 -- THOSE OF A RUN
 
 -- the kind of an access by whether it writes, and whether it is by `cas`
-abbrev pub kind_of : Bool → Bool → AccessKind
-kind_of false false = kinds.Read
-kind_of true false = kinds.Write
-kind_of false true = kinds.AtomicRead
-kind_of true true = kinds.AtomicWrite
+abbrev pub access_kind_of : Bool → Bool → AccessKind
+access_kind_of false false = kinds.Read
+access_kind_of true false = kinds.Write
+access_kind_of false true = kinds.AtomicRead
+access_kind_of true true = kinds.AtomicWrite
 
 -- a field's index among all fields of its object, of which the references come first
 abbrev pub index_among : Option Object → Bool → ℕ → ℕ
@@ -54,7 +54,7 @@ field_location store f = location f.name (index_among (object_at store f.name) f
 
 -- an access as a log tells it, with these objects
 abbrev pub as_told : List (List Object) → FieldAccess → ToldAccess
-as_told store a = told_access (in_log a.strand) (field_location store a.field) (kind_of a.writes a.swaps)
+as_told store a = told_access (in_log a.strand) (field_location store a.field) (access_kind_of a.writes a.swaps)
 
 -- the log of a legal journal tells the accesses of its run
 abbrev pub LogsTellAccesses : Type 0

@@ -12,7 +12,7 @@ pub use Rattle.race_report.specs.declared.data.FieldAccess.{FieldAccess}
 pub use Rattle.run_log.specs.Acts.{location, block_of}
 pub use Rattle.run_log.specs.Log.{lines_of}
 pub use Rattle.run_log_laws.specs.Graph.{in_log}
-pub use Rattle.run_log_laws.specs.below.fork_graph.{GraphStrand, Precedes, Tasks}
+pub use Rattle.run_log_laws.specs.below.fork_graph.{GraphStrand, StrandPrecedes, TaskTurns}
 pub use Rattle.run_log_laws.specs.below.hh_lang.{ProgramText}
 pub use Rattle.run_log_laws.specs.below.plain_vec.{In}
 pub use Rattle.run_turn_laws.specs.Events.{events_told}

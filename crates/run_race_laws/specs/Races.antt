@@ -1,12 +1,12 @@
 -- The races that a log tells, and those of a run.
 use Rattle.std.specs.Prelude.{◌≡◌, ◌↔◌, ◌<◌, ◌≤◌, ◌+◌, ◌*◌, ◌&&◌, ◌||◌, not, ℕ, Bool, true, false, Some, List, length}
-use Rattle.run_race_laws.specs.Common.{Precedes as GraphPrecedes, Tasks, ProgramText, object_at, Object, AccessKind, LogPlace, In, accesses, RaceAt, Field, FieldAccess, is_legal, machine_of, tasks_of, EntryValue, SettingsValue, field_limit, block_of, lines_of, events_told, turns_told}
+use Rattle.run_race_laws.specs.Common.{StrandPrecedes as GraphPrecedes, TaskTurns, ProgramText, object_at, Object, AccessKind, LogPlace, In, accesses, RaceAt, Field, FieldAccess, is_legal, machine_of, tasks_of, EntryValue, SettingsValue, field_limit, block_of, lines_of, events_told, turns_told}
 use Rattle.log_lines.specs.declared.line.AccessKind.TheVariants as kinds
 use Rattle.run_race_laws.specs.Accesses.{ToldAccess, accesses_told, index_among}
 
 -- the place has the location x of the block
-abbrev pub Covers : LogPlace → ℕ → ℕ → Type 0
-Covers p block x = (p.block ≡ block) × ((i : ℕ) × (i < p.runs) × (p.offset + i * p.apart ≤ x) × (x < p.offset + i * p.apart + p.length))
+abbrev pub PlaceCovers : LogPlace → ℕ → ℕ → Type 0
+PlaceCovers p block x = (p.block ≡ block) × ((i : ℕ) × (i < p.runs) × (p.offset + i * p.apart ≤ x) × (x < p.offset + i * p.apart + p.length))
 
 abbrev pub writes : AccessKind → Bool
 writes kinds.Read = false
@@ -21,17 +21,17 @@ is_atomic kinds.AtomicRead = true
 is_atomic kinds.AtomicWrite = true
 
 -- one of them writes, and not both are atomic
-abbrev pub clash : AccessKind → AccessKind → Bool
-clash a b = (writes a || writes b) && not (is_atomic a && is_atomic b)
+abbrev pub kinds_clash : AccessKind → AccessKind → Bool
+kinds_clash a b = (writes a || writes b) && not (is_atomic a && is_atomic b)
 
 -- two accesses that are told race at a location: both are of it, they clash, and neither's strand happens before the
 -- other's in the graph with these turns
-pub record ToldRaceAt (tasks : Tasks) (all : List ToldAccess) (block x : ℕ) (a b : ToldAccess) : Type 0 where
+pub record ToldRaceAt (tasks : TaskTurns) (all : List ToldAccess) (block x : ℕ) (a b : ToldAccess) : Type 0 where
   pub first : In all a
   pub second : In all b
-  pub covers_first : Covers a.place block x
-  pub covers_second : Covers b.place block x
-  pub clashing : clash a.kind b.kind ≡ true
+  pub covers_first : PlaceCovers a.place block x
+  pub covers_second : PlaceCovers b.place block x
+  pub clashing : kinds_clash a.kind b.kind ≡ true
   pub not_before : GraphPrecedes tasks a.strand b.strand → ⊥
   pub not_after : GraphPrecedes tasks b.strand a.strand → ⊥
 

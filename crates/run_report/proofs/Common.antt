@@ -21,7 +21,7 @@ pub use Rattle.run_ledger.specs.declared.data.Refused.TheVariants.{Over, Spent, 
 pub use Rattle.run_ledger.specs.declared.data.RefusedAt.{RefusedAt}
 pub use Rattle.run_ledger.specs.declared.data.Report.{Report}
 pub use Rattle.run_ledger.specs.declared.data.RunEnd.{RunEnd}
-pub use Rattle.run_report.specs.Totals.{AreFew, no_totals, totals_joined, counted, cleared_words, entry_totals, totals_from, report_from}
+pub use Rattle.run_report.specs.Totals.{SumsFit, no_totals, totals_joined, counted, cleared_words, entry_totals, totals_from, report_from}
 pub use Rattle.run_report.specs.Written.{report_part, trace_part, text_from}
 pub use Rattle.run_report.specs.declared.totals.Totals.{Totals}
 pub use Rattle.run_trace.specs.Entry.{EntryValue}

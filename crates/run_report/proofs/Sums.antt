@@ -1,5 +1,5 @@
 -- The totals of a journal, entry by entry.
-use Rattle.run_report.proofs.Common.{◌≡◌, ℕ, zero, suc, ◌+◌, ◌-◌, ◌<◌, ◌≤◌, ◌^◌, ◌&&◌, true, is_none, take, ap₂, subst, Option, Some, None, List, [], ◌∷◌, ◌++◌, length, drop, get_or, max, refl, ap, sym, ◌∙◌, arith, length-append, length-take-le, take_all, got_same, Kind, Took, Ran, Chunk, Begin, End, PutOff, Mark, More, Sweep, Fuel, EntryValue, SettingsValue, AreSettings, ProgramText, Heap, Ledger, fresh, heap_at, heap_of, or_fresh, with_heap, with_heap_at, words_in, in_use, collected, swept_heap, refusal, after_kind, after, tally, lost, count_end, count_putoff, count_sweep, freed_by_end, freed_by_sweep, opening, after_all, ledger_of, is_legal, first_refused_from, first_refused, BookValue, after_cut, joined_legal, words_are_accounted, legal_stored, accounts_next, refused_next, Totals, AreFew, no_totals, totals_joined, counted, cleared_words, entry_totals, totals_from}
+use Rattle.run_report.proofs.Common.{◌≡◌, ℕ, zero, suc, ◌+◌, ◌-◌, ◌<◌, ◌≤◌, ◌^◌, ◌&&◌, true, is_none, take, ap₂, subst, Option, Some, None, List, [], ◌∷◌, ◌++◌, length, drop, get_or, max, refl, ap, sym, ◌∙◌, arith, length-append, length-take-le, take_all, got_same, Kind, Took, Ran, Chunk, Begin, End, PutOff, Mark, More, Sweep, Fuel, EntryValue, SettingsValue, AreSettings, ProgramText, Heap, Ledger, fresh, heap_at, heap_of, or_fresh, with_heap, with_heap_at, words_in, in_use, collected, swept_heap, refusal, after_kind, after, tally, lost, count_end, count_putoff, count_sweep, freed_by_end, freed_by_sweep, opening, after_all, ledger_of, is_legal, first_refused_from, first_refused, BookValue, after_cut, joined_legal, words_are_accounted, legal_stored, accounts_next, refused_next, Totals, SumsFit, no_totals, totals_joined, counted, cleared_words, entry_totals, totals_from}
 
 -- SUMS
 
@@ -117,7 +117,7 @@ module _ (p : ProgramText) (s : SettingsValue) where
   one_sweep l (Sweep t given) = omega arith
   one_sweep l Fuel = omega arith
 
-  pub legal_few : AreSettings s → (journal : List EntryValue) → is_legal p s journal ≡ true → length journal < 2 ^ 64 → AreFew (totals_from p s (opening p s) journal)
+  pub legal_few : AreSettings s → (journal : List EntryValue) → is_legal p s journal ≡ true → length journal < 2 ^ 64 → SumsFit (totals_from p s (opening p s) journal)
   legal_few A journal legal short =
       let all = words_are_accounted p s journal legal in
       let stored = legal_stored p s A journal legal in
@@ -164,12 +164,12 @@ module _ (journal : List EntryValue) (b : BookValue) (i : ℕ) (e : EntryValue) 
       ∙ (sym (totals_last b.program b.settings (take i journal) (opening b.program b.settings) e)
       ∙ ap (totals_from b.program b.settings (opening b.program b.settings)) (sym (take_next journal i e lt is)))
 
-  pub few_next : AreSettings b.settings → i + 1 < 2 ^ 64 → AreFew (totals_joined sums (entry_totals b.program b.settings b.ledger e))
+  pub few_next : AreSettings b.settings → i + 1 < 2 ^ 64 → SumsFit (totals_joined sums (entry_totals b.program b.settings b.ledger e))
   few_next A short =
       let long : length (take (i + 1) journal) ≡ length (take i journal ++ e ∷ []) = ap length (take_next journal i e lt is) in
       let a = length-append (take i journal) (e ∷ []) in
       let c = length-take-le i journal (omega arith) in
-      subst AreFew (sym sums_next) (legal_few b.program b.settings A (take (i + 1) journal) legal_next (omega arith))
+      subst SumsFit (sym sums_next) (legal_few b.program b.settings A (take (i + 1) journal) legal_next (omega arith))
 
   pub at_next : (b' : BookValue) (sums' : Totals) → b' ≡ record b { ledger = after b.program b.settings b.ledger e } → sums' ≡ totals_joined sums (entry_totals b.program b.settings b.ledger e) → IsAt journal b' (i + 1) sums'
   at_next b' sums' eb es =

@@ -28,7 +28,7 @@ totals_joined a b = record {
 }
 
 -- each sum fits its type
-pub record AreFew (totals : Totals) : Type 0 where
+pub record SumsFit (totals : Totals) : Type 0 where
   pub leaf : totals.leaf < 2 ^ 64
   pub putoff : totals.putoff < 2 ^ 64
   pub leaf_freed : totals.leaf_freed < 2 ^ 64

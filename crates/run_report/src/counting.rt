@@ -6,7 +6,7 @@ ghost use Rattle.run_ledger.specs.Entries.{refusal, after};
 ghost use Rattle.run_ledger.specs.Journals.{opening, ledger_of, first_refused};
 ghost use Rattle.run_accounts.specs.Accounts.{FailsFor};
 ghost use Rattle.run_journal.specs.Replay.{ReplayFails};
-ghost use Rattle.run_report.specs.Totals.{AreFew, totals_joined, cleared_words, entry_totals, totals_from, report_from};
+ghost use Rattle.run_report.specs.Totals.{SumsFit, totals_joined, cleared_words, entry_totals, totals_from, report_from};
 
 use crate::totals::Totals;
 use hh_lang::Program;
@@ -37,7 +37,7 @@ pub fn cleared_words(book: &Book, kind: Kind) -> u64
 // Applies an entry, and adds what it counts to the totals.
 fn enter(book: &mut Book, totals: Totals, entry: Entry) -> Result<Totals, ApplyError>
     requires open { book.old.stopped ≡ false }
-    requires few { refusal book.old.program book.old.settings book.old.ledger entry ≡ None → AreFew (totals_joined totals (entry_totals book.old.program book.old.settings book.old.ledger entry)) }
+    requires few { refusal book.old.program book.old.settings book.old.ledger entry ≡ None → SumsFit (totals_joined totals (entry_totals book.old.program book.old.settings book.old.ledger entry)) }
     ensures legal { OnOk result (refusal book.old.program book.old.settings book.old.ledger entry ≡ None) }
     ensures entered { OnOk result (book.new ≡ record book.old { ledger = after book.old.program book.old.settings book.old.ledger entry }) }
     ensures counts { IfOk result (λ sums. sums ≡ totals_joined totals (entry_totals book.old.program book.old.settings book.old.ledger entry)) }

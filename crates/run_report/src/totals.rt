@@ -1,7 +1,7 @@
 // The totals of a journal, added up entry by entry.
 
 ghost use Rattle.std.specs.Prelude.{◌≡◌};
-ghost use Rattle.run_report.specs.Totals.{AreFew, no_totals, totals_joined, counted};
+ghost use Rattle.run_report.specs.Totals.{SumsFit, no_totals, totals_joined, counted};
 
 use run_trace::Kind;
 
@@ -60,7 +60,7 @@ impl Totals {
 
     /// The totals of two parts of a journal together.
     pub fn join(self, other: Totals) -> Totals
-        requires { AreFew (totals_joined self other) }
+        requires { SumsFit (totals_joined self other) }
         ensures { result ≡ totals_joined self other }
     {
         Totals {

@@ -9,7 +9,7 @@ pub use Rattle.ancestor_laws.specs.Serial.{serial_order, AreLevels, IsSerialOrde
 pub use Rattle.ancestor_laws.specs.Span.{IsReach, AreReaches}
 pub use Rattle.fork_graph.proofs.SpawnSearch.{no_row}
 pub use Rattle.fork_graph.specs.Faults.{SpawnsBelow}
-pub use Rattle.fork_graph.specs.Graph.{Tasks, tasks_in, strand, first_of, last_of, Does, IsParent, IsAncestor}
+pub use Rattle.fork_graph.specs.Graph.{TaskTurns, tasks_in, strand, first_of, last_of, Does, IsParent, IsAncestor}
 pub use Rattle.fork_graph.specs.Nested.{IsNested}
 pub use Rattle.fork_graph.specs.declared.graph.GraphStrand.{GraphStrand}
 pub use Rattle.fork_graph.specs.declared.graph.GraphTurn.{GraphTurn}

@@ -1,5 +1,5 @@
 -- The reaches of strands, strand after strand in the serial order.
-use Rattle.run_span.proofs.Common.{◌≡◌, ◌==◌, ℕ, zero, suc, ◌+◌, ◌-◌, ◌<◌, ◌≤◌, max, Bool, true, false, Option, Some, None, List, [], ◌∷◌, ◌++◌, length, take, get_or, set, replicate, slice_get, slice_set, ◌⊎◌, inl, inr, refl, ap, sym, subst, ◌∙◌, arith, if◌then◌else◌, sum_by, cases_lt, cases_eq, ne_eqb, eq-eqb, length-append, length-set, length-replicate, get_or-replicate, get_or_past, get_or-set_same, get_or-set_other, nil_from_length, sum_by_more, sum_by_more_le, same_Some, slice_get_within, get_or_from_slice_get, got_front, got_some, got_none, got_last, got_more, none_some, IsWalk, GraphTurn, Spawn, Join, GraphStrand, Tasks, tasks_in, strand, first_of, last_of, Does, IsParent, IsAncestor, IsNested, SpawnsBelow, serial_order, AreLevels, IsSerialOrder, AreBlocks, IsReach, AreReaches, below, joins_child, no_self, same_ancestor, IsRooted, precedes_itself, and_then, along, attached_rooted, rooted_attached, serial_order_extends, levels_are_few, are_blocks, are_reaches, span_is_longest, Reaches, last_reach, latest_of, turn_before, with_child, reach_before, entered, AreWeights, AreReachesOf, IsSpanOf}
+use Rattle.run_span.proofs.Common.{◌≡◌, ◌==◌, ℕ, zero, suc, ◌+◌, ◌-◌, ◌<◌, ◌≤◌, max, Bool, true, false, Option, Some, None, List, [], ◌∷◌, ◌++◌, length, take, get_or, set, replicate, slice_get, slice_set, ◌⊎◌, inl, inr, refl, ap, sym, subst, ◌∙◌, arith, if◌then◌else◌, sum_by, cases_lt, cases_eq, ne_eqb, eq-eqb, length-append, length-set, length-replicate, get_or-replicate, get_or_past, get_or-set_same, get_or-set_other, nil_from_length, sum_by_more, sum_by_more_le, same_Some, slice_get_within, get_or_from_slice_get, got_front, got_some, got_none, got_last, got_more, none_some, IsWalk, GraphTurn, Spawn, Join, GraphStrand, TaskTurns, tasks_in, strand, first_of, last_of, Does, IsParent, IsAncestor, IsNested, SpawnsBelow, serial_order, AreLevels, IsSerialOrder, AreBlocks, IsReach, AreReaches, below, joins_child, no_self, same_ancestor, IsRooted, precedes_itself, and_then, along, attached_rooted, rooted_attached, serial_order_extends, levels_are_few, are_blocks, are_reaches, span_is_longest, Reaches, last_reach, latest_of, turn_before, with_child, reach_before, entered, AreWeights, AreReachesOf, IsSpanOf}
 
 if_is : {A : Type 0} (b c : Bool) (x y : A) → b ≡ c → (if b then x else y) ≡ (if c then x else y)
 if_is b c x y e = ap (λ z. if z then x else y) e
@@ -32,7 +32,7 @@ abbrev pub total : List ℕ → ℕ → ℕ
 total weights e = sum_by (λ x. x) (take e weights)
 
 -- what is known of the first so many strands
-pub record IsReaching (tasks : Tasks) (n : ℕ) (order : List GraphStrand) (weights : List ℕ) (e : ℕ) (rs : Reaches) : Type 0 where
+pub record IsReaching (tasks : TaskTurns) (n : ℕ) (order : List GraphStrand) (weights : List ℕ) (e : ℕ) (rs : Reaches) : Type 0 where
   pub size : length rs.all ≡ e
   pub slots : length rs.latest ≡ n
   pub all_bound : (i r : ℕ) → slice_get rs.all i ≡ Some r → r ≤ total weights e
@@ -44,7 +44,7 @@ pub record IsReaching (tasks : Tasks) (n : ℕ) (order : List GraphStrand) (weig
       → slice_get rs.all i ≡ Some (latest_of rs t)
   pub ended : (t i : ℕ) → slice_get order i ≡ Some (last_of tasks t) → i < e → slice_get rs.all i ≡ Some (latest_of rs t)
 
-pub reaching_start : (tasks : Tasks) (n : ℕ) (order : List GraphStrand) (weights : List ℕ) → IsReaching tasks n order weights 0 (record { all = []; latest = replicate n 0 })
+pub reaching_start : (tasks : TaskTurns) (n : ℕ) (order : List GraphStrand) (weights : List ℕ) → IsReaching tasks n order weights 0 (record { all = []; latest = replicate n 0 })
 reaching_start tasks n order weights = record {
   size = refl;
   slots = length-replicate n 0;
@@ -73,7 +73,7 @@ either_bound : (b : Bool) (x y m : ℕ) → x ≤ m → y ≤ m → (if b then x
 either_bound true x y m p q = p
 either_bound false x y m p q = q
 
-pub before_bound : (tasks : Tasks) (n : ℕ) (order : List GraphStrand) (weights : List ℕ) (e : ℕ) (rs : Reaches) (u : GraphStrand) → IsReaching tasks n order weights e rs
+pub before_bound : (tasks : TaskTurns) (n : ℕ) (order : List GraphStrand) (weights : List ℕ) (e : ℕ) (rs : Reaches) (u : GraphStrand) → IsReaching tasks n order weights e rs
     → reach_before tasks rs u ≤ total weights e
 before_bound tasks n order weights e rs u f =
     either_bound (u.index == 0) (last_reach rs.all) (with_child rs (latest_of rs u.task) (turn_before tasks u)) (total weights e)
@@ -314,5 +314,5 @@ module _ (rows : List (List GraphTurn)) (order : List GraphStrand) (weights : Li
       (span_is_longest (tasks_in rows) weight nested).1 span
       (are.each weight w (length order - 1) span (last_of (tasks_in rows) 0) last_place (subst (λ n. slice_get reaches (n - 1) ≡ Some span) are.size h))
 
-pub reaching_end : (tasks : Tasks) (n : ℕ) (order : List GraphStrand) (weights : List ℕ) (rs : Reaches) → IsReaching tasks n order weights (length order) rs → AreReachesOf tasks order weights rs.all
+pub reaching_end : (tasks : TaskTurns) (n : ℕ) (order : List GraphStrand) (weights : List ℕ) (rs : Reaches) → IsReaching tasks n order weights (length order) rs → AreReachesOf tasks order weights rs.all
 reaching_end tasks n order weights rs f = record { size = f.size; each = λ weight w i r u h g. f.each weight w i r u h g }

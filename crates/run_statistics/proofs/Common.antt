@@ -14,7 +14,7 @@ pub use Rattle.heap_reading.proofs.below.plain_vec.{In, contains_from_in, none_s
 pub use Rattle.heap_reading.proofs.below.refinement.{at_belongings}
 pub use Rattle.heap_reading.proofs.below.run_ledger.{legal_then, none_is, entries_leave_others, held_is, left_step, heap_off, heap_view, tasks_are_out_once, collecting_is, entry_tells, legal_sound, none_unless, none_where, out_tells, wait_tells, task_step_sound, task_steps_sound, names_are_held_once, heap_machine, heaps_fit, use_is_bounded}
 pub use Rattle.heap_reading.specs.HeldNames.{held_unless_running, is_state_running}
-pub use Rattle.heap_reading.specs.below.core_invariant.{NotEntered, NoMemory, Refuses, Enters, refused, Fits, IsSharedValue, SharedValue, accounts, belongings_of_part, value_of, rest_at}
+pub use Rattle.heap_reading.specs.below.core_invariant.{NotEntered, NoMemory, Refuses, Enters, refused, WorkerPartFits, IsSharedValue, SharedValue, accounts, belongings_of_part, value_of, rest_at}
 pub use Rattle.heap_reading.specs.below.heap_tree.{TaskNode, state_of}
 pub use Rattle.heap_reading.specs.below.hh_lang.{ProgramText}
 pub use Rattle.heap_reading.specs.below.hh_model.{Name, MachineState, object_at, asked, can_step, is_running, is_waiting, step}
@@ -29,7 +29,7 @@ pub use Rattle.heap_reading.specs.below.run_trace.{Kind, Took, Ran, Chunk, Begin
 pub use Rattle.heap_reading.specs.below.task_machine.{Private}
 pub use Rattle.heap_reading.specs.below.task_slots.{ParkedTask}
 pub use Rattle.run_report.proofs.Sums.{legal_few, lost_is, totals_last}
-pub use Rattle.run_report.specs.Totals.{AreFew, cleared_words, entry_totals, totals_joined, no_totals, totals_from, counted}
+pub use Rattle.run_report.specs.Totals.{SumsFit, cleared_words, entry_totals, totals_joined, no_totals, totals_from, counted}
 pub use Rattle.run_report.specs.declared.totals.Totals.{Totals}
 pub use Rattle.run_statistics.specs.JournalCounts.{HasWords, IsMade, CountsJournal, begun_with, totals_of}
 pub use Rattle.run_statistics.specs.declared.counting.JournalCounts.{JournalCounts}

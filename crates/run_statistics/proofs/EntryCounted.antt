@@ -1,5 +1,5 @@
 -- What is recorded of the entries of a journal, over one more entry.
-use Rattle.run_statistics.proofs.Common.{◌≡◌, ℕ, zero, suc, ◌+◌, ◌-◌, ◌<◌, ◌==◌, ◌^◌, Bool, true, false, cond, Some, None, List, [], ◌∷◌, ◌++◌, length, length-set, slice_get, slice_set, inl, inr, refl, ap, ap₂, sym, subst, ◌∙◌, is_some, arith, length-append, cases_eq, eqb-true, ltb-true, same_Some, got_back, got_other, got_set, ProgramText, Kind, Took, Ran, Chunk, Begin, End as EndOf, PutOff, Mark, More, Sweep, Fuel, EntryValue, SettingsValue, MachineState, is_running, is_waiting, waiting_stops, Ledger, after, after_kind, collected, heap_of, held_in, in_use, swept_heap, with_heap, words_in, words_sum, ledger_of, opening, lost, begins, heap_machine, legal_then, held_words, saturating_words as counted64, AreFew, cleared_words, entry_totals, totals_joined, no_totals, totals_from, legal_few, lost_is, totals_last, Private, NotEntered, NoMemory, Refuses, Enters, refused, Fits, IsSharedValue, SharedValue, accounts, alone_entry, IsUnchanged, Forked as ForksInto, Ended as EndsWith, Over as IsOver, Done as IsDone, Leaving, Lent, Goes as GoesOn, Leaves, LentTo, RanTo, entered_accounts, held_unless_running, counted_few, JournalCounts, HasWords, IsMade, CountsJournal, begun_with, totals_of, counted}
+use Rattle.run_statistics.proofs.Common.{◌≡◌, ℕ, zero, suc, ◌+◌, ◌-◌, ◌<◌, ◌==◌, ◌^◌, Bool, true, false, cond, Some, None, List, [], ◌∷◌, ◌++◌, length, length-set, slice_get, slice_set, inl, inr, refl, ap, ap₂, sym, subst, ◌∙◌, is_some, arith, length-append, cases_eq, eqb-true, ltb-true, same_Some, got_back, got_other, got_set, ProgramText, Kind, Took, Ran, Chunk, Begin, End as EndOf, PutOff, Mark, More, Sweep, Fuel, EntryValue, SettingsValue, MachineState, is_running, is_waiting, waiting_stops, Ledger, after, after_kind, collected, heap_of, held_in, in_use, swept_heap, with_heap, words_in, words_sum, ledger_of, opening, lost, begins, heap_machine, legal_then, held_words, saturating_words as counted64, SumsFit, cleared_words, entry_totals, totals_joined, no_totals, totals_from, legal_few, lost_is, totals_last, Private, NotEntered, NoMemory, Refuses, Enters, refused, WorkerPartFits, IsSharedValue, SharedValue, accounts, alone_entry, IsUnchanged, Forked as ForksInto, Ended as EndsWith, Over as IsOver, Done as IsDone, Leaving, Lent, Goes as GoesOn, Leaves, LentTo, RanTo, entered_accounts, held_unless_running, counted_few, JournalCounts, HasWords, IsMade, CountsJournal, begun_with, totals_of, counted}
 use Rattle.entry_calls.specs.declared.answers.Ran.{Ran as RanOf}
 use Rattle.entry_calls.specs.declared.answers.Lent.TheVariants.{Over as HasEnded}
 use Rattle.run_statistics.proofs.BegunCollections.{WentOn, begin_apart, begin_words, begin_worker, end_begun, end_left, end_worker, entry_worker, sweep_waits, went_on}
@@ -94,12 +94,12 @@ module _ (w v : SharedValue) (c : JournalCounts) (e : EntryValue) (words : ℕ) 
   counted_is lost used a b =
       ap₂ (counted e.kind) (a ∙ ap (λ z. cleared_words l e.kind - cleared_words z e.kind) now_is) (b ∙ ap in_use now_is)
 
-  pub totals_few : length v.journal.items < 2 ^ 64 → (lost used : ℕ) → lost ≡ cleared_words l e.kind - cleared_words (accounts v) e.kind → used ≡ in_use (accounts v) → AreFew (totals_joined c.totals (counted e.kind lost used))
+  pub totals_few : length v.journal.items < 2 ^ 64 → (lost used : ℕ) → lost ≡ cleared_words l e.kind - cleared_words (accounts v) e.kind → used ≡ in_use (accounts v) → SumsFit (totals_joined c.totals (counted e.kind lost used))
   totals_few short lost used a b =
       let all : List EntryValue = w.journal.items ++ e ∷ [] in
-      let few : AreFew (totals_from p s (opening p s) all) =
+      let few : SumsFit (totals_from p s (opening p s) all) =
       legal_few p s M.stands.settings all (legal_then p s w.journal.items e M.stands.legal M.free) (subst (λ xs. length xs < 2 ^ 64) M.enters.journal short) in
-      subst AreFew (totals_last p s w.journal.items (opening p s) e ∙ ap₂ totals_joined (sym M.keeps.totals) (sym (counted_is lost used a b))) few
+      subst SumsFit (totals_last p s w.journal.items (opening p s) e ∙ ap₂ totals_joined (sym M.keeps.totals) (sym (counted_is lost used a b))) few
 
   -- THE RECORDS OF WORKERS
   abbrev Kept : Kind → Type 0
@@ -192,7 +192,7 @@ module _ (w v : SharedValue) (c : JournalCounts) (e : EntryValue) (words : ℕ) 
 -- WHAT A HEAP HAS BEFORE AN ENTRY
 
 -- that of a part whose leaf collection begins
-pub begin_had : (w : SharedValue) → IsSharedValue w → (k : ℕ) (q : Private) → Fits w k (record q { fresh = 0 }) → (words : ℕ) → words ≡ counted64 (held_words q.heap.chunks) → words ≡ words_in (accounts w).machine (heap_of (accounts w) q.task)
+pub begin_had : (w : SharedValue) → IsSharedValue w → (k : ℕ) (q : Private) → WorkerPartFits w k (record q { fresh = 0 }) → (words : ℕ) → words ≡ counted64 (held_words q.heap.chunks) → words ≡ words_in (accounts w).machine (heap_of (accounts w) q.task)
 begin_had w I k q F words is =
     is ∙ (ap counted64 (sym (part_words w k q F)) ∙ counted_few (words_in (accounts w).machine (heap_of (accounts w) q.task)) (words_small w I q.task))
 

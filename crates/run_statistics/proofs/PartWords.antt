@@ -1,5 +1,5 @@
 -- The words of a part's heap are those of the names that the accounts hold for it.
-use Rattle.run_statistics.proofs.Common.{◌≡◌, ℕ, zero, suc, ◌+◌, ◌*◌, ◌^◌, ◌≤◌, arith, List, [], ◌∷◌, ◌++◌, slice_get, sum_by, refl, ap, sym, ◌∙◌, flat_map, sum_by-append, Name, MachineState, object_at, Heap, Ledger, heap_of, held, held_in, in_use, let_go, or_fresh, words_at, words_in, object_words_of, words_sum, heaps_fit, use_is_bounded, heap_machine, held_words, aside, rested, rested_view, rested_worker, with_belongings, Belongings, Memory, at_belongings, Private, Fits, belongings_of_part, IsSharedValue, SharedValue, accounts, value_of, words_are}
+use Rattle.run_statistics.proofs.Common.{◌≡◌, ℕ, zero, suc, ◌+◌, ◌*◌, ◌^◌, ◌≤◌, arith, List, [], ◌∷◌, ◌++◌, slice_get, sum_by, refl, ap, sym, ◌∙◌, flat_map, sum_by-append, Name, MachineState, object_at, Heap, Ledger, heap_of, held, held_in, in_use, let_go, or_fresh, words_at, words_in, object_words_of, words_sum, heaps_fit, use_is_bounded, heap_machine, held_words, aside, rested, rested_view, rested_worker, with_belongings, Belongings, Memory, at_belongings, Private, WorkerPartFits, belongings_of_part, IsSharedValue, SharedValue, accounts, value_of, words_are}
 
 -- A HEAP IS SMALL
 heap_least : (g : List Name → ℕ) → ((xs ys : List Name) → g (xs ++ ys) ≡ g xs + g ys) → (heaps : List Heap) (t : ℕ) → g (held_in (or_fresh (slice_get heaps t))) ≤ g (flat_map held_in heaps) + g []
@@ -22,7 +22,7 @@ words_small w I t =
     omega (arith, u, c, f, a, z)
 
 -- a part without fresh steps
-module _ (w : SharedValue) (k : ℕ) (p : Private) (F : Fits w k (record p { fresh = 0 })) where
+module _ (w : SharedValue) (k : ℕ) (p : Private) (F : WorkerPartFits w k (record p { fresh = 0 })) where
   abbrev l : Ledger
   l = accounts w
 

@@ -3,7 +3,7 @@
 ghost use Rattle.std.specs.Prelude.{◌≡◌, ◌<◌, [], ℕ, IfOk, OnOk, Some, false, true};
 ghost use Rattle.heap_reading.specs.below.run_ledger.{report_of};
 ghost use Rattle.heap_reading.specs.below.task_machine.{Private as PrivateOf};
-ghost use Rattle.heap_reading.specs.below.core_invariant.{AllFit, Fits, IsSharedValue, rest_at, without_journal};
+ghost use Rattle.heap_reading.specs.below.core_invariant.{EachPartStillFits, WorkerPartFits, IsSharedValue, rest_at, without_journal};
 ghost use Rattle.heap_reading.specs.below.task_slots.{ParkedTask as RestOf};
 
 use crate::counting::JournalCounts;
@@ -57,7 +57,7 @@ impl Counted {
     pub fn reserve(&mut self) -> Result<(), AllocError>
         ensures same { self.new ≡ record self.old { journal = record { items = self.old.journal.items; room = self.new.journal.room } } }
         ensures room { OnOk result (0 < self.new.journal.room) }
-        ensures fit { (k : ℕ) (p : PrivateOf) → Fits self.old k p → Fits self.new k p }
+        ensures fit { (k : ℕ) (p : PrivateOf) → WorkerPartFits self.old k p → WorkerPartFits self.new k p }
     {
         self.shared.reserve()
     }
@@ -66,7 +66,7 @@ impl Counted {
     /// changes it.
     pub fn halt(&mut self)
         ensures same { self.new ≡ record self.old { halted = true } }
-        ensures fits { AllFit self.old self.new }
+        ensures fits { EachPartStillFits self.old self.new }
     {
         self.shared.halt();
     }

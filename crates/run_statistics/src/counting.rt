@@ -2,7 +2,7 @@
 
 ghost use Rattle.std.specs.Prelude.{◌≡◌, ◌-◌, ◌<◌, ◌^◌, IfOk, length};
 ghost use Rattle.heap_reading.specs.below.run_trace.{EntryValue};
-ghost use Rattle.run_report.specs.Totals.{cleared_words, totals_joined, no_totals, AreFew};
+ghost use Rattle.run_report.specs.Totals.{cleared_words, totals_joined, no_totals, SumsFit};
 ghost use Rattle.heap_reading.specs.below.core_invariant.{SharedValue, accounts, Enters};
 ghost use Rattle.run_statistics.specs.JournalCounts.{IsMade, CountsJournal, begun_with};
 
@@ -58,7 +58,7 @@ fn keep_begun(begun: &mut Listed<u64>, entry: Entry, words: u64)
 // Adds the counts of one more entry to the totals. If they are unchanged nothing is written, so that their cache line
 // stays shared.
 fn add(totals: &mut Totals, counted: Totals)
-    requires { AreFew (totals_joined totals.old counted) }
+    requires { SumsFit (totals_joined totals.old counted) }
     ensures { totals.new ≡ totals_joined totals.old counted }
 {
     let totals_joined = totals.join(counted);

@@ -1,7 +1,7 @@
 // Chunks and leaf collections of parts.
 
 ghost use Rattle.std.specs.Prelude.{◌≡◌, ◌<◌};
-ghost use Rattle.heap_reading.specs.below.core_invariant.{Fits};
+ghost use Rattle.heap_reading.specs.below.core_invariant.{WorkerPartFits};
 ghost use Rattle.shared_tree.specs.below.leaf_collections.{FitsCopied};
 ghost use Rattle.entry_calls.specs.Calls.{BeginsLeaf, EndsLeaf, GetsChunk, PutsOff};
 
@@ -13,7 +13,7 @@ impl Counted {
     /// A part gets the chunk that its next step needs. If too few units are free the run ends.
     pub fn chunk(&mut self, worker: u32, part: &mut Private) -> Result<(), NotEntered>
         requires room { 0 < self.old.journal.room }
-        requires fits { Fits self.old worker part.old }
+        requires fits { WorkerPartFits self.old worker part.old }
         requires fresh { part.old.fresh ≡ 0 }
         ensures { GetsChunk self.old self.new worker part.old part.new result }
     {
@@ -30,7 +30,7 @@ impl Counted {
         part: &mut Private,
     ) -> Result<(Vec<Addr>, ToChunks), NotEntered>
         requires room { 0 < self.old.journal.room }
-        requires fits { Fits self.old worker part.old }
+        requires fits { WorkerPartFits self.old worker part.old }
         requires fresh { part.old.fresh ≡ 0 }
         ensures { BeginsLeaf self.old self.new worker part.old part.new result }
     {
@@ -63,7 +63,7 @@ impl Counted {
     /// on.
     pub fn put_off(&mut self, worker: u32, part: &mut Private) -> Result<(), Refused>
         requires room { 0 < self.old.journal.room }
-        requires fits { Fits self.old worker part.old }
+        requires fits { WorkerPartFits self.old worker part.old }
         requires fresh { part.old.fresh ≡ 0 }
         ensures { PutsOff self.old self.new worker part.old part.new result }
     {

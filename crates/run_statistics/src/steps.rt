@@ -1,7 +1,7 @@
 // A worker takes a task, and steps are committed; or the run ends without fuel.
 
 ghost use Rattle.std.specs.Prelude.{◌≡◌, ◌<◌, None};
-ghost use Rattle.heap_reading.specs.below.core_invariant.{refused, Fits};
+ghost use Rattle.heap_reading.specs.below.core_invariant.{refused, WorkerPartFits};
 ghost use Rattle.shared_tree.specs.below.step_commit.{alone_entry, IsShared};
 ghost use Rattle.entry_calls.specs.Calls.{EndsForFuel, EntersLeaving, EntersLent, EntersSteps, TakesTask};
 ghost use Rattle.entry_calls.specs.Ran.{LeavesBy};
@@ -25,7 +25,7 @@ impl Counted {
     /// Commits the fresh steps of a part, all private.
     pub fn ran_private(&mut self, worker: u32, part: &mut Private) -> Result<(), Refused>
         requires room { 0 < self.old.journal.room }
-        requires fits { Fits self.old worker part.old }
+        requires fits { WorkerPartFits self.old worker part.old }
         requires fresh { 0 < part.old.fresh }
         ensures { EntersSteps self.old self.new worker part.old part.new result }
     {
@@ -39,7 +39,7 @@ impl Counted {
     /// it does, or an allocation fails, nothing is committed, though heaps and sets may have spare capacity.
     pub fn ran_lent(&mut self, worker: u32, part: &mut Private) -> Result<Lent, NotEntered>
         requires room { 0 < self.old.journal.room }
-        requires fits { Fits self.old worker part.old }
+        requires fits { WorkerPartFits self.old worker part.old }
         requires shared { IsShared self.old part.old }
         ensures { EntersLent self.old self.new worker part.old part.new result }
     {
@@ -63,7 +63,7 @@ impl Counted {
         leaving: Leaving,
     ) -> Result<Ran, NotRan>
         requires room { 0 < self.old.journal.room }
-        requires fits { Fits self.old worker part }
+        requires fits { WorkerPartFits self.old worker part }
         requires shared { IsShared self.old part }
         requires free { refused self.old (alone_entry worker part) ≡ None }
         requires leaves { LeavesBy self.old part leaving }

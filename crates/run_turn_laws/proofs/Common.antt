@@ -39,7 +39,7 @@ pub use Rattle.run_log_laws.specs.Graph.{turns_of, turn_at}
 pub use Rattle.run_log_laws.specs.below.fork_graph.{GraphStrand, strand, GraphTurn, Spawn, Join}
 pub use Rattle.run_log_laws.specs.below.hh_lang.{ProgramText, Line, Par}
 pub use Rattle.run_turn_laws.specs.Events.{spot_after, events_told}
-pub use Rattle.run_turn_laws.specs.Turns.{turn_by, turns_told, AreInOrder, TellEdges, LogsTellEdges, turns_by}
+pub use Rattle.run_turn_laws.specs.Turns.{turn_by, turns_told, FollowTurns, TellEdges, LogsTellEdges, turns_by}
 pub use Rattle.std.proofs.Common.{◌≡◌, ◌<◌, ◌≤◌, ◌+◌, ◌*◌, ◌-◌, ◌==◌, ℕ, zero, suc, Bool, true, false, List, [], ◌∷◌, ◌++◌, length, slice_get, replicate, Option, Some, None, IfSome, arith, refl, ap, sym, subst, ◌∙◌, cond, append-nil, append_assoc, ℤ, slice_set, ◌⊎◌, inl, inr, length-append, ne_eqb, eq-eqb}
 pub use Rattle.std.proofs.lemmas.Bool.{cases_Bool, cond-false, and_parts, cases_eq, cond-true}
 pub use Rattle.std.proofs.lemmas.Grind.{flat_map-append}

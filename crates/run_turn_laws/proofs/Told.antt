@@ -1,5 +1,5 @@
 -- What lines tell, added to what was told before.
-use Rattle.run_turn_laws.proofs.Common.{◌≡◌, ℕ, Bool, false, List, [], ◌∷◌, ◌++◌, length, Option, Some, None, refl, ap, sym, ◌∙◌, append-nil, append_assoc, flat_map-append, GraphStrand, Act, LogLine, Event, event, Spot, spot_behind, spot_behind_act, strand_behind, spot_after, turns_by, turns_told, AreInOrder}
+use Rattle.run_turn_laws.proofs.Common.{◌≡◌, ℕ, Bool, false, List, [], ◌∷◌, ◌++◌, length, Option, Some, None, refl, ap, sym, ◌∙◌, append-nil, append_assoc, flat_map-append, GraphStrand, Act, LogLine, Event, event, Spot, spot_behind, spot_behind_act, strand_behind, spot_after, turns_by, turns_told, FollowTurns}
 use Rattle.log_lines.specs.declared.line.LogLine.TheVariants as lines
 
 -- LINES ADD TO WHAT WAS TOLD
@@ -37,7 +37,7 @@ lines_add s before (l ∷ ls) = ap (λ r. spot_after r ls) (line_adds s before l
 pub told_both : (events more : List Event) (t : ℕ) → turns_told (events ++ more) t ≡ turns_told events t ++ turns_told more t
 told_both events more t = flat_map-append (turns_by t) events more
 
-pub order_more : (before rest : List Event) (e : Event) → AreInOrder before rest → e.strand.index ≡ length (turns_told (before ++ rest) e.strand.task) → AreInOrder before (rest ++ e ∷ [])
+pub order_more : (before rest : List Event) (e : Event) → FollowTurns before rest → e.strand.index ≡ length (turns_told (before ++ rest) e.strand.task) → FollowTurns before (rest ++ e ∷ [])
 order_more before [] e h i = (i ∙ ap (λ es. length (turns_told es e.strand.task)) (append-nil before), tt)
 order_more before (d ∷ rest) e h i = (h.0, order_more (before ++ d ∷ []) rest e h.1 (i ∙ ap (λ es. length (turns_told es e.strand.task)) (sym (append_assoc before (d ∷ []) rest))))
 

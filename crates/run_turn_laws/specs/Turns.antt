@@ -3,7 +3,7 @@ use Rattle.std.specs.Prelude.{◌≡◌, ◌==◌, ℕ, true, List, [], ◌∷�
 use Rattle.std.specs.List.{flat_map}
 use Rattle.run_log_laws.specs.below.fork_graph.{GraphTurn}
 use Rattle.run_log_laws.specs.below.fork_graph.{Spawn, Join}
-use Rattle.run_log_laws.specs.below.fork_graph.{Tasks}
+use Rattle.run_log_laws.specs.below.fork_graph.{TaskTurns}
 use Rattle.log_lines.specs.declared.line.Act.{Act}
 use Rattle.log_lines.specs.declared.line.Act.TheVariants as acts
 use Rattle.log_form.specs.Events.{Event}
@@ -32,18 +32,18 @@ abbrev pub turns_by : ℕ → Event → List GraphTurn
 turns_by t e = if e.strand.task == t then turn_by e.act else []
 
 -- the turns of each task, in the order in which they are told
-abbrev pub turns_told : List Event → Tasks
+abbrev pub turns_told : List Event → TaskTurns
 turns_told events t = flat_map (turns_by t) events
 
 -- after what happened before, each event is on the strand to which its task's turns so far lead
-abbrev pub AreInOrder : List Event → List Event → Type 0
-AreInOrder before [] = Unit {0}
-AreInOrder before (e ∷ rest) = (e.strand.index ≡ length (turns_told before e.strand.task)) × AreInOrder (before ++ e ∷ []) rest
+abbrev pub FollowTurns : List Event → List Event → Type 0
+FollowTurns before [] = Unit {0}
+FollowTurns before (e ∷ rest) = (e.strand.index ≡ length (turns_told before e.strand.task)) × FollowTurns (before ++ e ∷ []) rest
 
 -- the turns that are told are these edges, each on the strand to which the task's earlier ones lead
 pub record TellEdges (edges : List Edge) (events : List Event) : Type 0 where
   pub turns : (t : ℕ) → turns_told events t ≡ turns_of edges t
-  pub order : AreInOrder [] events
+  pub order : FollowTurns [] events
 
 -- the log of a legal journal tells the edges of its run
 abbrev pub LogsTellEdges : Type 0

@@ -1,5 +1,5 @@
 -- Accesses, prints and turns under a renaming.
-use Rattle.schedule_laws.proofs.Common.{◌≡◌, ℕ, ℤ, suc, pos, negsuc, ◌+◌, ◌≤◌, Bool, true, false, cond, Option, Some, None, List, [], ◌∷◌, length, map, slice_get, refl, ap, ap₂, ◌∙◌, arith, option_flatten, option_map, slice_get-map, Instr, Getr, Geti, Putr, Puti, Cas, Line, ProgramText, Name, Strand, Object, Frame, Task, MachineState, Counted, Effect, Goes, Prints, Calls, Forks, Returns, Traps, Stops, effect, int_in, object_at, ref_in, same_name, can_step, fetched, setting, step, strand_of, IsForkJoinState, counted_step, step_is_fork_join_state, Field, FieldAccess, access, access_by, next_access, accesses_from, field_at, line_access, object_references, swap_access, task_access, unless_trap, value_of, with_some, IsRenaming, frame_to, object_to, ref_to, strand_to, task_to, AreAlike, flat_to, ref_carried, same_carried, can_to, object_there, step_grows, Acts, acts, step_to, access_to, field_to, Print, line_print, print_by, print_of, prints_from, task_print, turns_from}
+use Rattle.schedule_laws.proofs.Common.{◌≡◌, ℕ, ℤ, suc, pos, negsuc, ◌+◌, ◌≤◌, Bool, true, false, cond, Option, Some, None, List, [], ◌∷◌, length, map, slice_get, refl, ap, ap₂, ◌∙◌, arith, option_flatten, option_map, slice_get-map, Instr, Getr, Geti, Putr, Puti, Cas, Line, ProgramText, Name, Strand, Object, Frame, Task, MachineState, Counted, Effect, Goes, Prints, Calls, Forks, Returns, Traps, Stops, effect, int_in, object_at, ref_in, same_name, can_step, fetched, setting, step, strand_of, IsForkJoinState, counted_step, step_is_fork_join_state, Field, FieldAccess, access, access_by, next_access, accesses_from, field_at, line_access, object_references, swap_access, task_access, unless_trap, value_of, with_some, IsRenaming, frame_to, object_to, ref_to, strand_to, task_to, AreRenamed, flat_to, ref_carried, same_carried, can_to, object_there, step_grows, Acts, acts, step_to, access_to, field_to, Print, line_print, print_by, print_of, prints_from, task_print, turns_from}
 
 abbrev pub print_to : (ℕ → ℕ) → Print → Print
 print_to f a = record a { strand = strand_to f a.strand }
@@ -14,7 +14,7 @@ access_there f s line writes swaps None = refl
 access_there f s line writes swaps (Some field) = refl
 
 module _ (p : ProgramText) (n : ℕ) (f g : ℕ → ℕ) (R : IsRenaming n f g) where
-  module _ (m m' : MachineState) (K : IsForkJoinState m) (K' : IsForkJoinState m') (rows : length m.store ≡ length m.tasks) (rows' : length m'.store ≡ length m'.tasks) (made : n ≤ length m.tasks) (A : AreAlike f m m') (t : ℕ) where
+  module _ (m m' : MachineState) (K : IsForkJoinState m) (K' : IsForkJoinState m') (rows : length m.store ≡ length m.tasks) (rows' : length m'.store ≡ length m'.tasks) (made : n ≤ length m.tasks) (A : AreRenamed f m m') (t : ℕ) where
     value_there : (field : Field) → value_of m'.store (field_to f field) ≡ ref_to f (value_of m.store field)
     value_there field =
         ap (λ o. option_flatten (slice_get (object_references o) field.index)) (object_there n f g R m m' A field.name) ∙ value_there_by_cases (object_at m.store field.name)
@@ -106,7 +106,7 @@ module _ (p : ProgramText) (n : ℕ) (f g : ℕ → ℕ) (R : IsRenaming n f g) 
     pub prints : prints_from p m' (map f ts) ≡ map (print_to f) (prints_from p m ts)
     pub turns : turns_from p m' (map f ts) ≡ turns_from p m ts
 
-  pub carried : (ts : List ℕ) (m m' : MachineState) (k k' : ℕ) → IsForkJoinState m → IsForkJoinState m' → Counted k m.tasks m.store → Counted k' m'.tasks m'.store → n ≤ length m.tasks → AreAlike f m m' → Carried m m' ts
+  pub carried : (ts : List ℕ) (m m' : MachineState) (k k' : ℕ) → IsForkJoinState m → IsForkJoinState m' → Counted k m.tasks m.store → Counted k' m'.tasks m'.store → n ≤ length m.tasks → AreRenamed f m m' → Carried m m' ts
   carried [] m m' k k' K K' I I' made A = record { accesses = refl; prints = refl; turns = refl }
   carried (t ∷ ts) m m' k k' K K' I I' made A =
       let up = step_grows p m t K in

@@ -50,7 +50,7 @@ pub use Rattle.plain_vec.proofs.Places.{got_none, in_got, in_map}
 pub use Rattle.race_report.proofs.LabelSteps.{begun_running, run_keeps, Begun}
 pub use Rattle.race_report.proofs.Written.{field_found, index_of}
 pub use Rattle.race_report.specs.Accesses.{access, access_by, next_access, field_at, line_access, object_references, swap_access, task_access, unless_trap, value_of, accesses_from, with_some, accesses, ref_field}
-pub use Rattle.race_report.specs.LabelLaw.{Runs}
+pub use Rattle.race_report.specs.LabelLaw.{TaskRuns}
 pub use Rattle.race_report.specs.StopLaw.{HasNoRace}
 pub use Rattle.race_report.specs.declared.data.Field.{Field}
 pub use Rattle.race_report.specs.declared.data.FieldAccess.{FieldAccess}
@@ -64,7 +64,7 @@ pub use Rattle.renaming_laws.proofs.Runs.{fork_join_here, step_grows, counted_he
 pub use Rattle.renaming_laws.proofs.Stepped.{Acts, acts, step_to}
 pub use Rattle.renaming_laws.proofs.Swaps.{at_low, swapped, at_first, at_second, stands}
 pub use Rattle.renaming_laws.proofs.Unnamed.{EffectAs, IsSame, SeesSame, effect_as, itself}
-pub use Rattle.renaming_laws.specs.Alike.{AreAlike}
+pub use Rattle.renaming_laws.specs.Alike.{AreRenamed}
 pub use Rattle.renaming_laws.specs.Laws.{swap}
 pub use Rattle.renaming_laws.specs.Renaming.{end_to, IsRenaming, frame_to, object_to, ref_to, strand_to, task_to, edge_to, status_to}
 pub use Rattle.run_ledger.specs.Journals.{tasks_of}

@@ -1,5 +1,5 @@
 -- Two moves of concurrent tasks, in either order.
-use Rattle.schedule_laws.proofs.Common.{◌≡◌, ℕ, ◌+◌, ◌<◌, true, Option, Some, None, List, ◌++◌, length, map, slice_get, inl, inr, refl, ap, sym, subst, ◌∙◌, arith, length-append, option_map, In, in_append_cases, in_append_left, in_append_right, got_none, Name, Edge, Object, Task, End, Done, Trapped, Entangled, MachineState, object_at, is_running, IsForkJoinState, object_to, task_to, end_to, AreAlike, Change, Same, Grows, Edits, Edit, changed, edited, row_fixed, task_fixed, itself}
+use Rattle.schedule_laws.proofs.Common.{◌≡◌, ℕ, ◌+◌, ◌<◌, true, Option, Some, None, List, ◌++◌, length, map, slice_get, inl, inr, refl, ap, sym, subst, ◌∙◌, arith, length-append, option_map, In, in_append_cases, in_append_left, in_append_right, got_none, Name, Edge, Object, Task, End, Done, Trapped, Entangled, MachineState, object_at, is_running, IsForkJoinState, object_to, task_to, end_to, AreRenamed, Change, Same, Grows, Edits, Edit, changed, edited, row_fixed, task_fixed, itself}
 use Rattle.schedule_laws.proofs.StoreSteps.{after_change}
 use Rattle.schedule_laws.proofs.Swapping.{Agree, AllAt, Stored, all_at, changed_front, changed_length, changes_swap, sets, sets_front, sets_length, sets_swap}
 use Rattle.schedule_laws.proofs.Moves.{Move, Moves, change_in, edges_in, news, puts, rows_in}
@@ -30,7 +30,7 @@ end_same (Some Done) = refl
 end_same (Some (Trapped kind t line)) = refl
 end_same (Some (Entangled reader owner)) = refl
 
-pub even_alike : (m m' : MachineState) → Even m m' → AreAlike itself m m'
+pub even_alike : (m m' : MachineState) → Even m m' → AreRenamed itself m m'
 even_alike m m' E = record {
   limit = E.limit;
   count = ap (λ (ts : List Task). length ts) E.tasks;

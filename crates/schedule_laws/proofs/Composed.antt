@@ -1,5 +1,5 @@
 -- One renaming after another.
-use Rattle.schedule_laws.proofs.Common.{◌≡◌, ℕ, ◌≤◌, Option, Some, None, List, [], ◌∷◌, map, slice_get, refl, ap, ◌∙◌, arith, option_map, Name, Object, Frame, TaskStatus, Running, Waiting, Ended, Joined, Task, End, Done, Trapped, Entangled, MachineState, IsRenaming, edge_to, end_to, frame_to, object_to, ref_to, status_to, task_to, AreAlike}
+use Rattle.schedule_laws.proofs.Common.{◌≡◌, ℕ, ◌≤◌, Option, Some, None, List, [], ◌∷◌, map, slice_get, refl, ap, ◌∙◌, arith, option_map, Name, Object, Frame, TaskStatus, Running, Waiting, Ended, Joined, Task, End, Done, Trapped, Entangled, MachineState, IsRenaming, edge_to, end_to, frame_to, object_to, ref_to, status_to, task_to, AreRenamed}
 
 module _ (f h : ℕ → ℕ) where
   abbrev pub then : ℕ → ℕ
@@ -42,7 +42,7 @@ module _ (f h : ℕ → ℕ) where
   end_twice (Trapped kind t line) = refl
   end_twice (Entangled reader owner) = refl
 
-  pub alike_then : (a b c : MachineState) → AreAlike f a b → AreAlike h b c → AreAlike then a c
+  pub alike_then : (a b c : MachineState) → AreRenamed f a b → AreRenamed h b c → AreRenamed then a c
   alike_then a b c A B = record {
     limit = B.limit ∙ A.limit;
     count = B.count ∙ A.count;

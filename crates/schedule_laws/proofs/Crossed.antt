@@ -1,5 +1,5 @@
 -- Steps of two concurrent tasks, in either order.
-use Rattle.schedule_laws.proofs.Common.{◌≡◌, ℕ, ℤ, ◌+◌, ◌-◌, ◌<◌, Bool, true, false, cond, Option, Some, None, List, [], ◌∷◌, ◌++◌, length, map, slice_get, slice_set, ◌⊎◌, inl, inr, refl, ap, sym, subst, ◌∙◌, arith, append-nil, length-append, length-set, option_map, In, Instr, Name, Object, Running, Waiting, Task, MachineState, Disentangled, onward, child, is_left, is_running, joined_task, result_at, parent_of, parents, result_of, resumed, setting, sibling, NamesAreStoredIn, IsForkJoinState, runs_tell, IsRenaming, edge_to, end_to, object_to, task_to, AreAlike, Change, ChangesBy, Edits, Grows, Same, changed, at_low, swapped, itself}
+use Rattle.schedule_laws.proofs.Common.{◌≡◌, ℕ, ℤ, ◌+◌, ◌-◌, ◌<◌, Bool, true, false, cond, Option, Some, None, List, [], ◌∷◌, ◌++◌, length, map, slice_get, slice_set, ◌⊎◌, inl, inr, refl, ap, sym, subst, ◌∙◌, arith, append-nil, length-append, length-set, option_map, In, Instr, Name, Object, Running, Waiting, Task, MachineState, Disentangled, onward, child, is_left, is_running, joined_task, result_at, parent_of, parents, result_of, resumed, setting, sibling, NamesAreStoredIn, IsForkJoinState, runs_tell, IsRenaming, edge_to, end_to, object_to, task_to, AreRenamed, Change, ChangesBy, Edits, Grows, Same, changed, at_low, swapped, itself}
 use Rattle.schedule_laws.proofs.Swapping.{Agree, AllAt, Stored, sets}
 use Rattle.schedule_laws.proofs.Moves.{Acts, IsPlain, Joins, Last, Move, Moves, Plain, Shape, Splits, change_in, edges_in, last_move, last_moves, news, puts, rows_in}
 use Rattle.schedule_laws.proofs.Apart.{Kind, last_kinds, last_quiet, last_same}
@@ -12,7 +12,7 @@ pub record SameButNumbers (m m12 m21 : MachineState) : Type 0 where
   pub f : ℕ → ℕ
   pub renaming : IsRenaming (length m12.tasks) f f
   pub old : (v : ℕ) → v < length m.tasks → f v ≡ v
-  pub alike : AreAlike f m12 m21
+  pub alike : AreRenamed f m12 m21
 
 pub same_itself : (m m12 m21 : MachineState) → Even m12 m21 → SameButNumbers m m12 m21
 same_itself m m12 m21 E = record {

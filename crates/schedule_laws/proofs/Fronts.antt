@@ -1,5 +1,5 @@
 -- A step that can be taken now moves to the front of a run in order, with the same result.
-use Rattle.schedule_laws.proofs.Common.{◌≡◌, ℕ, suc, ◌+◌, ◌<◌, ◌≤◌, Bool, true, false, cond, Option, Some, None, List, [], ◌∷◌, ◌++◌, length, map, slice_get, ◌⊎◌, inl, inr, refl, ap, sym, subst, ◌∙◌, arith, option_map, cases_Bool, cases_eq, same_Some, In, got_within, in_append_right, Instr, Getr, Geti, Putr, Puti, Cas, Line, ProgramText, Name, Strand, Edge, Object, Task, End, Done, Trapped, Entangled, MachineState, Counted, Effect, Goes, Prints, Calls, Forks, Returns, Traps, Stops, effect, object_at, Precedes, can_step, fetched, is_running, owner_of, run, run_from, setting, start, step, strand_of, IsForkJoinState, counted_step, run_push, ended_stays, step_is_fork_join_state, runs_have_one_root, step_cases, names_are_stored, can_made, can_runs, step_idle, can_task, can_going, Field, FieldAccess, next_access, accesses_from, line_access, task_access, with_some, IsRenaming, end_to, AreAlike, Reaches, counted_here, fork_join_here, run_grows, run_to, step_grows, itself, access_to, Clash, Print, line_print, print_by, print_of, prints_from, task_print, turns_from, AreBeside, Commutes, EndAlike, LeavesStep}
+use Rattle.schedule_laws.proofs.Common.{◌≡◌, ℕ, suc, ◌+◌, ◌<◌, ◌≤◌, Bool, true, false, cond, Option, Some, None, List, [], ◌∷◌, ◌++◌, length, map, slice_get, ◌⊎◌, inl, inr, refl, ap, sym, subst, ◌∙◌, arith, option_map, cases_Bool, cases_eq, same_Some, In, got_within, in_append_right, Instr, Getr, Geti, Putr, Puti, Cas, Line, ProgramText, Name, Strand, Edge, Object, Task, End, Done, Trapped, Entangled, MachineState, Counted, Effect, Goes, Prints, Calls, Forks, Returns, Traps, Stops, effect, object_at, Precedes, can_step, fetched, is_running, owner_of, run, run_from, setting, start, step, strand_of, IsForkJoinState, counted_step, run_push, ended_stays, step_is_fork_join_state, runs_have_one_root, step_cases, names_are_stored, can_made, can_runs, step_idle, can_task, can_going, Field, FieldAccess, next_access, accesses_from, line_access, task_access, with_some, IsRenaming, end_to, AreRenamed, Reaches, counted_here, fork_join_here, run_grows, run_to, step_grows, itself, access_to, Clash, Print, line_print, print_by, print_of, prints_from, task_print, turns_from, AreBeside, Commutes, EndAlike, LeavesStep}
 use Rattle.schedule_laws.proofs.Accessed.{found_at}
 use Rattle.schedule_laws.proofs.Carrying.{Carried, carried, print_to}
 use Rattle.schedule_laws.proofs.Commute.{even_same, steps_commute}
@@ -21,7 +21,7 @@ pub record Fronted (p : ProgramText) (m : MachineState) (u : ℕ) (end : Machine
   pub g : ℕ → ℕ
   pub renaming : IsRenaming (length end.tasks) f g
   pub old : (v : ℕ) → v < length m.tasks → f v ≡ v
-  pub alike : AreAlike f end (run_from p (step p m u) rest)
+  pub alike : AreRenamed f end (run_from p (step p m u) rest)
   pub accesses : Split access_to Clash f all (next_access p m u) (accesses_from p (step p m u) rest)
   pub prints : Split print_to (Near end.edges) f said (print_of p m u) (prints_from p (step p m u) rest)
   pub turned : turns ≡ turns_from p (step p m u) rest + 1
@@ -232,7 +232,7 @@ module _ (p : ProgramText) (limit : ℕ) (hs ts : List ℕ) (t u : ℕ) (two : t
     I21 : Counted (suc (suc (length hs))) n21.tasks n21.store
     I21 = counted_step p n2 t K2 (suc (length hs)) (counted_step p n0 u K0 (length hs) (counted_here p limit hs))
 
-    over : AreAlike f0 (run_from p n12 F.rest) (run_from p n21 (map f0 F.rest))
+    over : AreRenamed f0 (run_from p n12 F.rest) (run_from p n21 (map f0 F.rest))
     over = run_to p (length n12.tasks) f0 f0 C0.renaming F.rest n12 n21 (suc (suc (length hs))) (suc (suc (length hs))) (step_is_fork_join_state p n1 u K1) (step_is_fork_join_state p n2 t K2) I12 I21 (omega arith) C0.alike
 
     made : Carried p (length n12.tasks) f0 f0 C0.renaming n12 n21 F.rest

@@ -1,5 +1,5 @@
 -- One whole run in order determines all schedules.
-use Rattle.schedule_laws.proofs.Common.{◌≡◌, ℕ, ◌+◌, ◌<◌, Bool, true, false, cond, Option, Some, None, List, [], ◌∷◌, ◌++◌, length, map, slice_get, inl, inr, refl, ap, sym, subst, ◌∙◌, arith, option_map, same_Some, In, contains_from_in, in_append_cases, in_append_left, in_append_right, in_from_contains, in_map, ProgramText, Strand, Edge, End, Done, MachineState, Precedes, same_strand, can_step, goes_on, is_running, run, run_from, start, step, run_push, step_idle, FieldAccess, next_access, accesses_from, task_access, with_some, IsRenaming, end_to, strand_to, AreAlike, from_map, fork_join_here, step_grows, itself, walks, SameResult, access_to, field_to, Clash, EveryEndAgrees, OneRunSpeaksForAll, SpeaksUp, Print, print_of, printed_by, prints_from, task_print, turns_from}
+use Rattle.schedule_laws.proofs.Common.{◌≡◌, ℕ, ◌+◌, ◌<◌, Bool, true, false, cond, Option, Some, None, List, [], ◌∷◌, ◌++◌, length, map, slice_get, inl, inr, refl, ap, sym, subst, ◌∙◌, arith, option_map, same_Some, In, contains_from_in, in_append_cases, in_append_left, in_append_right, in_from_contains, in_map, ProgramText, Strand, Edge, End, Done, MachineState, Precedes, same_strand, can_step, goes_on, is_running, run, run_from, start, step, run_push, step_idle, FieldAccess, next_access, accesses_from, task_access, with_some, IsRenaming, end_to, strand_to, AreRenamed, from_map, fork_join_here, step_grows, itself, walks, SameResult, access_to, field_to, Clash, EveryEndAgrees, OneRunSpeaksForAll, SpeaksUp, Print, print_of, printed_by, prints_from, task_print, turns_from}
 use Rattle.schedule_laws.proofs.Carrying.{print_to}
 use Rattle.schedule_laws.proofs.Commute.{even_same}
 use Rattle.schedule_laws.proofs.Commuting.{even_alike}
@@ -14,7 +14,7 @@ pub record Comes (p : ProgramText) (m : MachineState) (ts : List ℕ) (end : Mac
   pub g : ℕ → ℕ
   pub renaming : IsRenaming (length (run_from p m ts).tasks) f g
   pub old : (v : ℕ) → v < length m.tasks → f v ≡ v
-  pub alike : AreAlike f (run_from p m ts) end
+  pub alike : AreRenamed f (run_from p m ts) end
   pub turned : turns ≡ turns_from p m ts
   pub accesses : (a : FieldAccess) → (In all (access_to f a) → In (accesses_from p m ts) a) × (In (accesses_from p m ts) a → In all (access_to f a))
   pub order : InOrder end.edges all
@@ -37,7 +37,7 @@ clash_back f g back a b C = record {
   writes = C.writes;
 }
 
-order_map : (f g : ℕ → ℕ) → ((t : ℕ) → g (f t) ≡ t) → (a b : MachineState) → AreAlike f a b → (xs : List FieldAccess) → InOrder a.edges xs → InOrder b.edges (map (access_to f) xs)
+order_map : (f g : ℕ → ℕ) → ((t : ℕ) → g (f t) ≡ t) → (a b : MachineState) → AreRenamed f a b → (xs : List FieldAccess) → InOrder a.edges xs → InOrder b.edges (map (access_to f) xs)
 order_map f g back a b A [] h = tt
 order_map f g back a b A (x ∷ xs) h = (order_map_by_cases xs h.0, order_map f g back a b A xs h.1)
   where
@@ -123,7 +123,7 @@ module _ (p : ProgramText) where
       renamed : IsRenaming (length (run_from p m ts).tasks) h (then C.g F.g)
       renamed = renaming_then (length (run_from p m ts).tasks) (length (run_from p m ts).tasks) (length (run_from p m2 F.rest).tasks) F.f F.g C.f C.g F.renaming C.renaming (omega arith) (omega (arith, F.alike.count))
 
-      alike : AreAlike h (run_from p m ts) (run_from p m2 us)
+      alike : AreRenamed h (run_from p m ts) (run_from p m2 us)
       alike = alike_then F.f C.f (run_from p m ts) (run_from p m2 F.rest) (run_from p m2 us) F.alike C.alike
 
       abbrev A2 : List FieldAccess

@@ -1,8 +1,8 @@
 -- The strands of two concurrent tasks are unordered.
-use Rattle.schedule_laws.proofs.Common.{◌≡◌, ℕ, false, length, ap, sym, ◌∙◌, arith, both_ways, got_within, Task, MachineState, precedes, is_joined, is_waiting, joined, owner_in, parents, path_in, run, run_from, start, strand, strand_of, joins_in, joins_of, waiting, run_is_fork_join_state, start_is_fork_join_state, running_tells, not_above, owner_here, Runs, begun_running, run_keeps, RunningTasksAreApart}
+use Rattle.schedule_laws.proofs.Common.{◌≡◌, ℕ, false, length, ap, sym, ◌∙◌, arith, both_ways, got_within, Task, MachineState, precedes, is_joined, is_waiting, joined, owner_in, parents, path_in, run, run_from, start, strand, strand_of, joins_in, joins_of, waiting, run_is_fork_join_state, start_is_fork_join_state, running_tells, not_above, owner_here, TaskRuns, begun_running, run_keeps, RunningTasksAreApart}
 use Rattle.hh_model.proofs.ForkJoinStates.{IsForkJoinState}
 
-module _ (m : MachineState) (K : IsForkJoinState m) (t u : ℕ) (x y : Task) (two : t ≡ u → ⊥) (R : Runs m t x) (S : Runs m u y) where
+module _ (m : MachineState) (K : IsForkJoinState m) (t u : ℕ) (x y : Task) (two : t ≡ u → ⊥) (R : TaskRuns m t x) (S : TaskRuns m u y) where
   live : joined m.tasks t ≡ false
   live = ap is_joined R.is ∙ (running_tells x.status R.running).0
 

@@ -15,12 +15,12 @@ pub use Rattle.hh_model.specs.declared.data.Object.{Object}
 pub use Rattle.hh_model.specs.declared.data.Strand.{Strand}
 pub use Rattle.hh_model.specs.declared.data.Task.{Task}
 pub use Rattle.race_report.specs.Accesses.{accesses, with_some, next_access}
-pub use Rattle.race_report.specs.LabelLaw.{Runs}
+pub use Rattle.race_report.specs.LabelLaw.{TaskRuns}
 pub use Rattle.race_report.specs.Report.{IsReport}
 pub use Rattle.race_report.specs.StopLaw.{HasNoRace}
 pub use Rattle.race_report.specs.declared.data.Field.{Field}
 pub use Rattle.race_report.specs.declared.data.FieldAccess.{FieldAccess}
-pub use Rattle.renaming_laws.specs.Alike.{AreAlike}
+pub use Rattle.renaming_laws.specs.Alike.{AreRenamed}
 pub use Rattle.renaming_laws.specs.Renaming.{IsRenaming, name_to, strand_to}
 pub use Rattle.run_ledger.specs.Journals.{machine_of, tasks_of}
 pub use Rattle.run_trace.specs.Entry.{EntryValue}

@@ -1,6 +1,6 @@
 -- Two runs with the same result.
 use Rattle.std.specs.Prelude.{◌≡◌, ◌↔◌, ℕ, List, length, Contains}
-use Rattle.schedule_laws.specs.Common.{ProgramText, Strand, run, Field, FieldAccess, accesses, IsRenaming, name_to, strand_to, AreAlike}
+use Rattle.schedule_laws.specs.Common.{ProgramText, Strand, run, Field, FieldAccess, accesses, IsRenaming, name_to, strand_to, AreRenamed}
 use Rattle.schedule_laws.specs.Prints.{prints, printed_by, PrintsAreOrdered, turns}
 use Rattle.schedule_laws.specs.Ordered.{IsOrdered}
 
@@ -18,7 +18,7 @@ pub record SameResult (p : ProgramText) (limit : ℕ) (ts us : List ℕ) : Type 
   pub g : ℕ → ℕ
   pub renaming : IsRenaming (length (run p limit ts).tasks) f g
   -- all tasks with all that they hold, all objects, all edges and the end
-  pub alike : AreAlike f (run p limit ts) (run p limit us)
+  pub alike : AreRenamed f (run p limit ts) (run p limit us)
   pub turns : turns p limit us ≡ turns p limit ts
   pub accesses : (a : FieldAccess) → Contains (accesses p limit us) (access_to f a) ↔ Contains (accesses p limit ts) a
   pub ordered : IsOrdered p limit us

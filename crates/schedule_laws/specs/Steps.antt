@@ -1,6 +1,6 @@
 -- Steps of two concurrent tasks: what one leaves of the other's, and that they commute.
 use Rattle.std.specs.Prelude.{◌≡◌, ◌⊎◌, ◌<◌, ℕ, true, false, Option, Some, None, List, length, slice_get}
-use Rattle.schedule_laws.specs.Common.{Freeze, Line, ProgramText, Name, Object, Task, End, Done, Trapped, Entangled, MachineState, object_at, ref_in, Precedes, can_step, owner_of, run, run_from, step, strand_of, IsNext, Field, FieldAccess, next_access, Runs, IsRenaming, AreAlike}
+use Rattle.schedule_laws.specs.Common.{Freeze, Line, ProgramText, Name, Object, Task, End, Done, Trapped, Entangled, MachineState, object_at, ref_in, Precedes, can_step, owner_of, run, run_from, step, strand_of, IsNext, Field, FieldAccess, next_access, TaskRuns, IsRenaming, AreRenamed}
 use Rattle.schedule_laws.specs.Prints.{print_of}
 use Rattle.schedule_laws.specs.Clashes.{Clash}
 
@@ -10,7 +10,7 @@ use Rattle.schedule_laws.specs.Clashes.{Clash}
 abbrev pub RunningTasksAreApart : Type 0
 RunningTasksAreApart =
     (p : ProgramText) (limit : ℕ) (ts more : List ℕ) (t u : ℕ) (x y : Task)
-    → let m = run p limit ts in (t ≡ u → ⊥) → Runs m t x → Runs m u y → Precedes (run_from p m more).edges (strand_of t x) (strand_of u y) → ⊥
+    → let m = run p limit ts in (t ≡ u → ⊥) → TaskRuns m t x → TaskRuns m u y → Precedes (run_from p m more).edges (strand_of t x) (strand_of u y) → ⊥
 
 -- FIELDS
 
@@ -81,7 +81,7 @@ pub record Commutes (p : ProgramText) (m : MachineState) (t u : ℕ) : Type 0 wh
   pub f : ℕ → ℕ
   pub renaming : IsRenaming (length (step p (step p m t) u).tasks) f f
   pub old : (v : ℕ) → v < length m.tasks → f v ≡ v
-  pub alike : AreAlike f (step p (step p m t) u) (step p (step p m u) t)
+  pub alike : AreRenamed f (step p (step p m t) u) (step p (step p m u) t)
 
 -- steps of two concurrent tasks commute
 abbrev pub StepsCommute : Type 0

@@ -2,7 +2,7 @@
 pub use Rattle.heap_image.proofs.below.hh_lang.{fits_passes}
 pub use Rattle.heap_image.proofs.below.plain_vec.{each_in, in_map, map_in, got_some, in_got, read_in, got_in, in_append_cases, in_append_left, in_append_right, got_in_take, in_take_more, take_more_in}
 pub use Rattle.heap_image.specs.Form.{HasFitParent, IsChunkForm, IsFieldForm, IsInForm, IsObjectForm, IsTaskForm}
-pub use Rattle.heap_image.specs.ImageData.{ObjectBefore, PickedDontOverlap, IsAbove, IsFit, IsOwned, IsPlaced, IsRunning, KeepsToPath, LeadsSomewhere, picked_end, HasTask, IsParent, ChunkBefore, FieldBefore, TaskBefore, IsSoundPicture}
+pub use Rattle.heap_image.specs.ImageData.{ObjectBefore, PickedDontOverlap, IsAbove, IsDownField, IsOwnedBy, LiesInIdleChunk, IsRunning, ImageKeepsToPath, ImageLeadsSomewhere, picked_end, HasTask, HasImageParent, ChunkBefore, RememberedBefore, TaskBefore, IsSoundPicture}
 pub use Rattle.heap_image.specs.below.run_trace.{Version, One, Two, field_limit}
 pub use Rattle.heap_image.specs.declared.picture.ImageData.{ImageData}
 pub use Rattle.heap_image.specs.declared.picture.Picked.{Picked}
@@ -14,7 +14,7 @@ pub use Rattle.image_check.specs.declared.line.ImageState.TheVariants.{Running}
 pub use Rattle.image_check.specs.declared.line.ImageTask.{ImageTask}
 pub use Rattle.shared_image.specs.Drawing.{AreFieldsOf, AreObjectsOf}
 pub use Rattle.shared_image.specs.Drawn.{IsHandedBack, drawn_object, AreHeldInWords, IsPictureOf, drawn_field, drawn_chunk, drawn_state, drawn_task, IsFieldOf, IsObjectOf}
-pub use Rattle.shared_image.specs.Held.{AreReferences, HasJustHeld, IsReference, ObjectStandsFor}
+pub use Rattle.shared_image.specs.Held.{AreReferences, HasJustHeld, IsImageReference, ObjectStandsFor}
 pub use Rattle.std.proofs.Common.{◌≡◌, ℕ, ◌+◌, ◌*◌, ◌<◌, ◌≤◌, ◌==◌, arith, Bool, true, false, cond, Option, Some, None, List, [], ◌∷◌, map, eqb-true, inl, inr, refl, ap, sym, subst, ◌∙◌, ◌⊎◌, length, option_map, slice_get, ◌^◌, max, zero, suc, ◌-◌, ◌/◌, ◌%◌, ◌++◌, take, is_some, get_or, take_all, reverse, vec_len}
 pub use Rattle.std.proofs.lemmas.Bool.{eq-eqb, false≢true, cases_Bool}
 pub use Rattle.std.proofs.lemmas.List.{length-map}
@@ -38,7 +38,7 @@ pub use Rattle.tree_reading.specs.below.hh_model.{Name, Object, Task, object_at,
 pub use Rattle.tree_reading.specs.below.ledger_step_laws.{Rests, own}
 pub use Rattle.tree_reading.specs.below.object_layout.{Born, Cell, Hole, Mark, Moved, size_of, ChunkValue, Located, located_by, objects_from, Addr, IsRef, word_of_ref}
 pub use Rattle.tree_reading.specs.below.path_laws.{AreOwners, ArePaths, IsWalkUp}
-pub use Rattle.tree_reading.specs.below.refinement.{Chunk, In, Memory, objects, words, IsModelObject, BelongingsStand, IsSource, Place, object_name, sources, AllRead, handed, Stands, objects_of_chunks}
+pub use Rattle.tree_reading.specs.below.refinement.{Chunk, In, Memory, objects, words, IsModelObject, BelongingsStand, IsSource, LiesWithOwner, object_name, sources, AllRead, handed, MemoryStands, objects_of_chunks}
 pub use Rattle.tree_reading.specs.below.remembered_set.{RefField}
 pub use Rattle.tree_reading.specs.below.run_ledger.{Ledger, heap_of, held_in, tasks_of, in_use}
 pub use Rattle.tree_reading.specs.below.task_slots.{ParkedTask}

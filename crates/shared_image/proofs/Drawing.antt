@@ -1,5 +1,5 @@
 -- The objects of heaps at rest: their positions, and where their references lead.
-use Rattle.shared_image.proofs.Common.{◌≡◌, ◌⊎◌, ℕ, ◌+◌, ◌*◌, ◌<◌, ◌≤◌, arith, false, Option, Some, None, List, length, map, option_map, slice_get, inl, inr, refl, ap, sym, subst, ◌∙◌, cases_Bool, length-map, same_Some, slice_get-map, got_some, in_got, map_in, read_in, got_in, Name, Object, Task, object_at, joined, waiting_stops, Addr, IsRef, word_of_ref, Located, Slot, slot_at, state_of, RefField, Rests, own, words, IsModelObject, BelongingsStand, IsSource, Place, Chunk as ChunkOf, In, Memory, object_name, objects, sources, name_at, IsSharedValue, SharedValue, value_of, refs_long, is_state_running, field_of, in_words, ImageRemembered, offset, Picked, ImageData, PickedDontOverlap, IsAbove, IsFit, IsOwned, IsPlaced, IsRunning, KeepsToPath, LeadsSomewhere, picked_end, AreHeldInWords, IsHandedBack, IsPictureOf, drawn_field, drawn_object}
+use Rattle.shared_image.proofs.Common.{◌≡◌, ◌⊎◌, ℕ, ◌+◌, ◌*◌, ◌<◌, ◌≤◌, arith, false, Option, Some, None, List, length, map, option_map, slice_get, inl, inr, refl, ap, sym, subst, ◌∙◌, cases_Bool, length-map, same_Some, slice_get-map, got_some, in_got, map_in, read_in, got_in, Name, Object, Task, object_at, joined, waiting_stops, Addr, IsRef, word_of_ref, Located, Slot, slot_at, state_of, RefField, Rests, own, words, IsModelObject, BelongingsStand, IsSource, LiesWithOwner, Chunk as ChunkOf, In, Memory, object_name, objects, sources, name_at, IsSharedValue, SharedValue, value_of, refs_long, is_state_running, field_of, in_words, ImageRemembered, offset, Picked, ImageData, PickedDontOverlap, IsAbove, IsDownField, IsOwnedBy, LiesInIdleChunk, IsRunning, ImageKeepsToPath, ImageLeadsSomewhere, picked_end, AreHeldInWords, IsHandedBack, IsPictureOf, drawn_field, drawn_object}
 use Rattle.shared_image.proofs.Resting.{R as Known_R, H as Known_H, content as Known_content, own_is as Known_own_is, live as Known_live, chunk as Known_chunk, owner as Known_owner, near as Known_near, measured as Known_measured, S, made}
 use Rattle.shared_image.proofs.Known.{T, k, owners, rests, runs, task_live}
 use Rattle.shared_image.proofs.Links.{chunk_in, not_running, on_path, owned_at, owner_is, running}
@@ -20,7 +20,7 @@ module _ (w : SharedValue) (I : IsSharedValue w) (F : AreHeldInWords w) (p : Ima
     abbrev pub H : BelongingsStand v (k w I) t
     H = Known_H w I t idle o i
 
-    abbrev pub content : (x : Object) × (object_at (k w I).machine.store (object_name o) ≡ Some x) × IsModelObject (Place v (k w I)) o x
+    abbrev pub content : (x : Object) × (object_at (k w I).machine.store (object_name o) ≡ Some x) × IsModelObject (LiesWithOwner v (k w I)) o x
     content = Known_content w I t idle o i
 
     abbrev pub own_is : own (k w I) (object_name o) ≡ t
@@ -53,7 +53,7 @@ module _ (w : SharedValue) (I : IsSharedValue w) (F : AreHeldInWords w) (p : Ima
         let b : length q.references ≡ length o.refs = length-map o.refs word_of_ref in
         omega (arith, a, b)
 
-    pub placed : IsPlaced p q
+    pub placed : LiesInIdleChunk p q
     placed =
         let c = chunk_in w I p P o.at.chunk t owner live in
         let held : slot_at w.pool o.at.chunk ≡ Some (record { owner = t; units = chunk.0.units }) = measured in
@@ -69,13 +69,13 @@ module _ (w : SharedValue) (I : IsSharedValue w) (F : AreHeldInWords w) (p : Ima
         }
 
     -- REFERENCES
-    pub reference : (n : ℕ) (a : Addr) → slice_get o.refs n ≡ Some (Some a) → (m : Name) × (slice_get content.0.refs n ≡ Some (Some m)) × Place v (k w I) m a
-    reference n a e = name_at (Place v (k w I)) o.refs content.0.refs n a content.2.refs e
+    pub reference : (n : ℕ) (a : Addr) → slice_get o.refs n ≡ Some (Some a) → (m : Name) × (slice_get content.0.refs n ≡ Some (Some m)) × LiesWithOwner v (k w I) m a
+    reference n a e = name_at (LiesWithOwner v (k w I)) o.refs content.0.refs n a content.2.refs e
 
     pub ref_near : (r : Option Addr) → In o.refs r → IsRef r
     ref_near r j = read_in IsRef o.refs r j (F t o idle i).refs
 
-    leads_to : (n : ℕ) (a : Addr) → slice_get o.refs n ≡ Some (Some a) → IsRef (Some a) → LeadsSomewhere p (word_of_ref (Some a))
+    leads_to : (n : ℕ) (a : Addr) → slice_get o.refs n ≡ Some (Some a) → IsRef (Some a) → ImageLeadsSomewhere p (word_of_ref (Some a))
     leads_to n a e ref =
         let m = reference n a e in
         let u = own (k w I) m.0 in
@@ -87,15 +87,15 @@ module _ (w : SharedValue) (I : IsSharedValue w) (F : AreHeldInWords w) (p : Ima
               inl (drawn_object (in_words d.0), (P.objects.each (drawn_object (in_words d.0))).1 (u, d.0, off, d.1, refl), ap (λ z. word_of_ref (Some z)) d.2.at)
         ])
 
-    leads_by : (n : ℕ) (r : Option Addr) → slice_get o.refs n ≡ Some r → IsRef r → LeadsSomewhere p (word_of_ref r)
+    leads_by : (n : ℕ) (r : Option Addr) → slice_get o.refs n ≡ Some r → IsRef r → ImageLeadsSomewhere p (word_of_ref r)
     leads_by n None e ref = inl refl
     leads_by n (Some a) e ref = leads_to n a e ref
 
-    pub leads : (x : ℕ) → In q.references x → LeadsSomewhere p x
+    pub leads : (x : ℕ) → In q.references x → ImageLeadsSomewhere p x
     leads x j =
         let r = map_in word_of_ref o.refs x j in
         let n = in_got o.refs r.0 r.1 in
-        subst (LeadsSomewhere p) r.2 (leads_by n.0 r.0 n.1 (ref_near r.0 r.1))
+        subst (ImageLeadsSomewhere p) r.2 (leads_by n.0 r.0 n.1 (ref_near r.0 r.1))
 
     -- a field that another task's heap remembers
     noted : (n u : ℕ) → u < length TT → joined TT u ≡ false → In (sources v u) (record { object = o.at; field = n }) → IsAbove p.tasks t u × In p.fields (record { task = u; address = q.address; place = n })
@@ -111,7 +111,7 @@ module _ (w : SharedValue) (I : IsSharedValue w) (F : AreHeldInWords w) (p : Ima
           (P.fields.each f).1 (x.0, field_of s, x.1, (s, subst (λ z. In (sources v z) s) (sym x.2) j, refl), ap (λ z. drawn_field z (field_of s)) (sym x.2)),
         )
 
-    keeps_to : (n : ℕ) (a : Addr) → slice_get o.refs n ≡ Some (Some a) → (h u : ℕ) → IsOwned p q.address h → IsOwned p (word_of_ref (Some a)) u → KeepsToPath p q.address n h u
+    keeps_to : (n : ℕ) (a : Addr) → slice_get o.refs n ≡ Some (Some a) → (h u : ℕ) → IsOwnedBy p q.address h → IsOwnedBy p (word_of_ref (Some a)) u → ImageKeepsToPath p q.address n h u
     keeps_to n a e h u oh ou =
         let m = reference n a e in
         let z = own (k w I) m.0 in
@@ -119,13 +119,13 @@ module _ (w : SharedValue) (I : IsSharedValue w) (F : AreHeldInWords w) (p : Ima
         let ref = ref_near (Some a) (got_in o.refs n (Some a) e) in
         let eh : h ≡ t = owner_is w I p P o.at t h near owner live oh in
         let eu : u ≡ z = owner_is w I p P a z u ref.0 m.2.chunk lives ou in
-        let goes : KeepsToPath p q.address n t z = elim ((S w I).remembered t o content.0 n m.0 R i content.1 m.1) [
+        let goes : ImageKeepsToPath p q.address n t z = elim ((S w I).remembered t o content.0 n m.0 R i content.1 m.1) [
           | inl path ↦ elim (on_path w I p P z t path live) [ inl s ↦ inl (sym s) | inr s ↦ inr (inl s) ]
           | inr j ↦ inr (inr (noted n z (made w I a.chunk z m.2.chunk) lives j))
         ] in
-        subst (λ y. KeepsToPath p q.address n y u) (sym eh) (subst (KeepsToPath p q.address n t) (sym eu) goes)
+        subst (λ y. ImageKeepsToPath p q.address n y u) (sym eh) (subst (ImageKeepsToPath p q.address n t) (sym eu) goes)
 
-    keeps_by : (n : ℕ) (r : Option Addr) → slice_get o.refs n ≡ Some r → (h u : ℕ) → IsOwned p q.address h → IsOwned p (word_of_ref r) u → KeepsToPath p q.address n h u
+    keeps_by : (n : ℕ) (r : Option Addr) → slice_get o.refs n ≡ Some r → (h u : ℕ) → IsOwnedBy p q.address h → IsOwnedBy p (word_of_ref r) u → ImageKeepsToPath p q.address n h u
     keeps_by n None e h u oh ou = absurd (let lt : 0 < 0 = ou.1.1 in omega arith)
     keeps_by n (Some a) e h u oh ou = keeps_to n a e h u oh ou
 
@@ -136,10 +136,10 @@ module _ (w : SharedValue) (I : IsSharedValue w) (F : AreHeldInWords w) (p : Ima
         mapped_by_cases None is z = absurd cc
         mapped_by_cases (Some r) is z = (r, is, same_Some (word_of_ref r) x z)
 
-    pub keeps : (n x h u : ℕ) → slice_get q.references n ≡ Some x → IsOwned p q.address h → IsOwned p x u → KeepsToPath p q.address n h u
+    pub keeps : (n x h u : ℕ) → slice_get q.references n ≡ Some x → IsOwnedBy p q.address h → IsOwnedBy p x u → ImageKeepsToPath p q.address n h u
     keeps n x h u e oh ou =
         let r = mapped o.refs n x e in
-        keeps_by n r.0 r.1 h u oh (subst (λ z. IsOwned p z u) (sym r.2) ou)
+        keeps_by n r.0 r.1 h u oh (subst (λ z. IsOwnedBy p z u) (sym r.2) ou)
 
   -- TWO OF THEM
   module _ (t : ℕ) (idle : IsHandedBack w t) (o : Located) (i : In (objects v t) o) (u : ℕ) (still : IsHandedBack w u) (s : Located) (j : In (objects v u) s) where
@@ -167,7 +167,7 @@ module _ (w : SharedValue) (I : IsSharedValue w) (F : AreHeldInWords w) (p : Ima
         ]
 
   -- A REMEMBERED FIELD
-  pub fits : (u : ℕ) (s : RefField) → joined TT u ≡ false → In (sources v u) s → IsFit p (drawn_field u (field_of s))
+  pub fits : (u : ℕ) (s : RefField) → joined TT u ≡ false → In (sources v u) s → IsDownField p (drawn_field u (field_of s))
   fits u s lives j =
       let K : IsSource v (k w I) u s = (S w I).sources u s j in
       let t = own (k w I) K.name in
@@ -175,7 +175,7 @@ module _ (w : SharedValue) (I : IsSharedValue w) (F : AreHeldInWords w) (p : Ima
       let d = K.place.here K.rests in
       let c = content t idle d.0 d.1 in
       let object : c.0 ≡ K.object = same_Some c.0 K.object (sym c.1 ∙ (ap (object_at (k w I).machine.store) d.2.name ∙ K.is)) in
-      let a : length d.0.refs ≡ length c.0.refs = refs_long (Place v (k w I)) d.0.refs c.0.refs c.2.refs in
+      let a : length d.0.refs ≡ length c.0.refs = refs_long (LiesWithOwner v (k w I)) d.0.refs c.0.refs c.2.refs in
       let b : length c.0.refs ≡ length K.object.refs = ap (λ (z : Object). length z.refs) object in
       let m : length (map word_of_ref d.0.refs) ≡ length d.0.refs = length-map d.0.refs word_of_ref in
       let lt : s.field < length K.object.refs = K.field in
@@ -186,6 +186,6 @@ module _ (w : SharedValue) (I : IsSharedValue w) (F : AreHeldInWords w) (p : Ima
         address = at;
         place = omega (arith, a, b, m, lt);
         owner = t;
-        owned = subst (λ z. IsOwned p z t) at (owned_at w I p P d.0.at t (near t idle d.0 d.1) (owner t idle d.0 d.1) (live t idle d.0 d.1));
+        owned = subst (λ z. IsOwnedBy p z t) at (owned_at w I p P d.0.at t (near t idle d.0 d.1) (owner t idle d.0 d.1) (live t idle d.0 d.1));
         above = elim (on_path w I p P t u K.above lives) [ inl e ↦ absurd (K.below (sym e)) | inr a ↦ a ];
       }

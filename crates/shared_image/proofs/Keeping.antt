@@ -1,5 +1,5 @@
 -- The objects of a picture are those that the heaps at rest hold.
-use Rattle.shared_image.proofs.Common.{◌≡◌, ℕ, Option, Some, None, List, [], ◌∷◌, map, slice_get, inl, inr, refl, ap, sym, subst, ◌∙◌, cases_Bool, read_in, Name, MachineState, object_at, is_running, owner_of, Ledger, heap_of, held_in, Addr, IsRef, word_of_ref, Located, state_of, own, AllRead, Place, In, Memory, object_name, objects, held_object, object_held, IsSharedValue, SharedValue, accounts, value_of, is_state_running, in_words, handed_held, ImageData, IsOwned, AreHeldInWords, IsHandedBack, IsPictureOf, drawn_object, AreReferences, HasJustHeld, IsReference, ObjectStandsFor}
+use Rattle.shared_image.proofs.Common.{◌≡◌, ℕ, Option, Some, None, List, [], ◌∷◌, map, slice_get, inl, inr, refl, ap, sym, subst, ◌∙◌, cases_Bool, read_in, Name, MachineState, object_at, is_running, owner_of, Ledger, heap_of, held_in, Addr, IsRef, word_of_ref, Located, state_of, own, AllRead, LiesWithOwner, In, Memory, object_name, objects, held_object, object_held, IsSharedValue, SharedValue, accounts, value_of, is_state_running, in_words, handed_held, ImageData, IsOwnedBy, AreHeldInWords, IsHandedBack, IsPictureOf, drawn_object, AreReferences, HasJustHeld, IsImageReference, ObjectStandsFor}
 use Rattle.shared_image.proofs.Known.{k, owners, rests, runs, known_machine}
 use Rattle.shared_image.proofs.Links.{owned_at}
 use Rattle.shared_image.proofs.Resting.{H, content}
@@ -17,7 +17,7 @@ module _ (w : SharedValue) (I : IsSharedValue w) (F : AreHeldInWords w) (p : Ima
   drawn : (t : ℕ) → IsHandedBack w t → (o : Located) → In (objects v t) o → In p.objects (drawn_object (in_words o))
   drawn t idle o i = (P.objects.each (drawn_object (in_words o))).1 (t, o, idle, i, refl)
 
-  reference : (a : Addr) (n : Name) → IsRef (Some a) → Place v (k w I) n a → IsReference p l (word_of_ref (Some a)) (Some n)
+  reference : (a : Addr) (n : Name) → IsRef (Some a) → LiesWithOwner v (k w I) n a → IsImageReference p l (word_of_ref (Some a)) (Some n)
   reference a n near place =
       let u = own (k w I) n in
       let owner : owner_of l.machine.tasks n.task ≡ u = ap (λ (m : MachineState). owner_of m.tasks n.task) (sym (known_machine w I)) in
@@ -25,14 +25,14 @@ module _ (w : SharedValue) (I : IsSharedValue w) (F : AreHeldInWords w) (p : Ima
         | inl on ↦
             inr (
               ap (λ z. is_running (slice_get l.machine.tasks z)) owner ∙ (sym (runs_now u) ∙ on),
-              subst (IsOwned p (word_of_ref (Some a))) (sym owner) (owned_at w I p P a u near.0 place.chunk ((owners w I).live n.task)),
+              subst (IsOwnedBy p (word_of_ref (Some a))) (sym owner) (owned_at w I p P a u near.0 place.chunk ((owners w I).live n.task)),
             )
         | inr off ↦
             let d = place.here (rests w I u off) in
             inl (drawn_object (in_words d.0), drawn u off d.0 d.1, ap (λ z. word_of_ref (Some z)) d.2.at, (ap (λ (z : Name). z.task) d.2.name, ap (λ (z : Name). z.count) d.2.name))
       ]
 
-  references : (rs : List (Option Addr)) (xs : List (Option Name)) → ((r : Option Addr) → In rs r → IsRef r) → AllRead (Place v (k w I)) rs xs → AreReferences p l (map word_of_ref rs) xs
+  references : (rs : List (Option Addr)) (xs : List (Option Name)) → ((r : Option Addr) → In rs r → IsRef r) → AllRead (LiesWithOwner v (k w I)) rs xs → AreReferences p l (map word_of_ref rs) xs
   references [] [] near h = tt
   references [] (x ∷ xs) near h = absurd h
   references (r ∷ rs) [] near h = absurd h

@@ -1,5 +1,5 @@
 -- The tasks and the chunks of a picture.
-use Rattle.shared_image.proofs.Common.{◌≡◌, ◌⊎◌, ℕ, zero, suc, ◌*◌, ◌<◌, true, false, Option, Some, None, List, [], ◌∷◌, length, option_map, slice_get, inl, inr, refl, ap, sym, subst, ◌∙◌, false≢true, same_Some, got_some, MachineState, Task, is_on_path, joined, owner_of, parent_of, parents, IsWalkUp, Addr, word_of_ref, Slot, slot_at, TaskState, Ready, Out, Waiting, Ended, Joined, TaskNode, state_of, Memory, IsSharedValue, SharedValue, accounts, value_of, InUse, is_state_running, IsInUse, Running, ImageTask as Drawn, ImageChunk, ImageData, HasTask, IsAbove, IsOwned, IsParent, IsRunning, IsPictureOf, drawn_chunk, drawn_state, drawn_task}
+use Rattle.shared_image.proofs.Common.{◌≡◌, ◌⊎◌, ℕ, zero, suc, ◌*◌, ◌<◌, true, false, Option, Some, None, List, [], ◌∷◌, length, option_map, slice_get, inl, inr, refl, ap, sym, subst, ◌∙◌, false≢true, same_Some, got_some, MachineState, Task, is_on_path, joined, owner_of, parent_of, parents, IsWalkUp, Addr, word_of_ref, Slot, slot_at, TaskState, Ready, Out, Waiting, Ended, Joined, TaskNode, state_of, Memory, IsSharedValue, SharedValue, accounts, value_of, InUse, is_state_running, IsInUse, Running, ImageTask as Drawn, ImageChunk, ImageData, HasTask, IsAbove, IsOwnedBy, HasImageParent, IsRunning, IsPictureOf, drawn_chunk, drawn_state, drawn_task}
 use Rattle.heap_image.specs.below.plain_vec.{In}
 use Rattle.shared_image.proofs.Known.{T, owners, paths, known_machine, task_live, tree}
 use Rattle.shared_image.proofs.Numbers.{chunk_of_word, word_some}
@@ -43,7 +43,7 @@ module _ (w : SharedValue) (I : IsSharedValue w) (p : ImageData) (P : IsPictureO
   pub parent_live : (t q : ℕ) → parents TT t ≡ Some q → joined TT t ≡ false → joined TT q ≡ false
   parent_live t q e live = (tree w I).apart q ((tree w I).waits t q e live)
 
-  pub is_parent : (t q : ℕ) → parents TT t ≡ Some q → joined TT t ≡ false → IsParent p.tasks t q
+  pub is_parent : (t q : ℕ) → parents TT t ≡ Some q → joined TT t ≡ false → HasImageParent p.tasks t q
   is_parent t q e live =
       let y = parent_in (slice_get TT t) q e in
       let d = task_in t y.0 y.1 live in
@@ -54,7 +54,7 @@ module _ (w : SharedValue) (I : IsSharedValue w) (p : ImageData) (P : IsPictureO
   links t (q ∷ qs) a e live =
       let here = is_parent t q e.0 live in
       inr (elim (links q qs a e.1 (parent_live t q e.0 live)) [
-        | inl same ↦ (zero, subst (IsParent p.tasks t) same here)
+        | inl same ↦ (zero, subst (HasImageParent p.tasks t) same here)
         | inr r ↦ (suc r.0, (q, here, r.1))
       ])
 
@@ -88,10 +88,10 @@ module _ (w : SharedValue) (I : IsSharedValue w) (p : ImageData) (P : IsPictureO
       let owner : x.owner ≡ t = owner_now h.0.owner ∙ (ap (owner_of TT) h.2 ∙ (owners w I).own t live) in
       (drawn_chunk x, h.0, (P.chunks.each (drawn_chunk x)).1 (x, X, refl), h.1, refl, owner, refl)
 
-  pub owned_at : (a : Addr) (t : ℕ) → a.offset < 1024 → v.owner a.chunk ≡ Some t → joined TT t ≡ false → IsOwned p (word_of_ref (Some a)) t
+  pub owned_at : (a : Addr) (t : ℕ) → a.offset < 1024 → v.owner a.chunk ≡ Some t → joined TT t ≡ false → IsOwnedBy p (word_of_ref (Some a)) t
   owned_at a t near e live = let c = chunk_in a.chunk t e live in (c.0, (c.2, word_some a, chunk_of_word a near ∙ sym c.4), c.5)
 
-  pub owner_is : (a : Addr) (t u : ℕ) → a.offset < 1024 → v.owner a.chunk ≡ Some t → joined TT t ≡ false → IsOwned p (word_of_ref (Some a)) u → u ≡ t
+  pub owner_is : (a : Addr) (t u : ℕ) → a.offset < 1024 → v.owner a.chunk ≡ Some t → joined TT t ≡ false → IsOwnedBy p (word_of_ref (Some a)) u → u ≡ t
   owner_is a t u near e live h =
       let x = (P.chunks.each h.0).0 h.1.0 in
       let number : x.0.number ≡ a.chunk = sym (ap (λ (c : ImageChunk). c.number) x.2) ∙ (sym h.1.2 ∙ chunk_of_word a near) in

@@ -1,6 +1,6 @@
 -- Addresses as numbers, sizes of chunks, and numbers of 64 bits.
 use Rattle.shared_image.proofs.Common.{◌≡◌, ℕ, zero, suc, ◌+◌, ◌-◌, ◌*◌, ◌/◌, ◌%◌, ◌^◌, ◌<◌, arith, Some, List, [], ◌∷◌, refl, subst, same_Some, got_in, Addr, word_of_ref, Rises, chunk_number, offset}
-use Rattle.heap_image.specs.ImageData.{Rises as RisesAt}
+use Rattle.heap_image.specs.ImageData.{RisesByPlace as RisesAt}
 
 -- ADDRESSES
 chunk_by : (c o n : ℕ) → o < 1024 → n ≡ c * 1024 + o + 1 → (n - 1) / 1024 ≡ c

@@ -1,5 +1,5 @@
 -- The objects of heaps at rest: their owners and places.
-use Rattle.shared_image.proofs.Common.{◌≡◌, ℕ, ◌<◌, true, false, Option, Some, None, List, length, is_some, slice_get, refl, ap, subst, ◌∙◌, false≢true, slice_get_within, map_in, Object, Task, object_at, joined, heap_of, Located, slot_at, Rests, own, IsModelObject, BelongingsStand, Place, Stands, Chunk as ChunkOf, In, Memory, object_name, objects, objects_of_chunks, in_chunk, object_held, ParkedTask, IsFree, chunk_of, IsSharedValue, SharedValue, belongings_in, rest_at, value_of, belongings_chunks, IsHandedBack}
+use Rattle.shared_image.proofs.Common.{◌≡◌, ℕ, ◌<◌, true, false, Option, Some, None, List, length, is_some, slice_get, refl, ap, subst, ◌∙◌, false≢true, slice_get_within, map_in, Object, Task, object_at, joined, heap_of, Located, slot_at, Rests, own, IsModelObject, BelongingsStand, LiesWithOwner, MemoryStands, Chunk as ChunkOf, In, Memory, object_name, objects, objects_of_chunks, in_chunk, object_held, ParkedTask, IsFree, chunk_of, IsSharedValue, SharedValue, belongings_in, rest_at, value_of, belongings_chunks, IsHandedBack}
 use Rattle.shared_image.proofs.Known.{T, k, owned, owners, rests}
 
 pub some_within : {A : Type 0} (xs : List A) (t : ℕ) → is_some (slice_get xs t) ≡ true → t < length xs
@@ -16,7 +16,7 @@ module _ (w : SharedValue) (I : IsSharedValue w) where
   abbrev TT : List Task
   TT = T w I
 
-  pub S : Stands v (k w I)
+  pub S : MemoryStands v (k w I)
   S = I.stands.belongings
 
   pub made : (n t : ℕ) → v.owner n ≡ Some t → t < length TT
@@ -40,7 +40,7 @@ module _ (w : SharedValue) (I : IsSharedValue w) where
     pub H : BelongingsStand v (k w I) t
     H = S.belongings t R
 
-    pub content : (x : Object) × (object_at (k w I).machine.store (object_name o) ≡ Some x) × IsModelObject (Place v (k w I)) o x
+    pub content : (x : Object) × (object_at (k w I).machine.store (object_name o) ≡ Some x) × IsModelObject (LiesWithOwner v (k w I)) o x
     content = S.contents t o R i
 
     pub own_is : own (k w I) (object_name o) ≡ t

@@ -1,5 +1,5 @@
 -- A picture grows chunk by chunk, and task by task.
-use Rattle.shared_image.proofs.Common.{◌≡◌, ◌⊎◌, ℕ, ◌+◌, ◌*◌, ◌<◌, Option, Some, None, List, ◌++◌, map, option_map, slice_get, take, inl, inr, refl, sym, subst, got_in_take, in_take_more, take_more_in, owner_of, Slot, slot_at, Located, In, objects, IsSharedValue, SharedValue, accounts, value_of, InUse, LiveTask, FieldAt, AreAll, AreInWords, InUseBefore, IsInUse, IsLive, IsNoted, LiveBefore, in_words, objects_of, all_same, ImageRemembered, Picked, ChunkBefore, FieldBefore, ObjectBefore, TaskBefore, AreFieldsOf, AreObjectsOf, AreHeldInWords, IsFieldOf, IsHandedBack, IsObjectOf, IsPictureOf, drawn_chunk, drawn_field, drawn_object, drawn_task}
+use Rattle.shared_image.proofs.Common.{◌≡◌, ◌⊎◌, ℕ, ◌+◌, ◌*◌, ◌<◌, Option, Some, None, List, ◌++◌, map, option_map, slice_get, take, inl, inr, refl, sym, subst, got_in_take, in_take_more, take_more_in, owner_of, Slot, slot_at, Located, In, objects, IsSharedValue, SharedValue, accounts, value_of, InUse, LiveTask, FieldAt, AreAll, AreInWords, InUseBefore, IsInUse, IsLive, IsNoted, LiveBefore, in_words, objects_of, all_same, ImageRemembered, Picked, ChunkBefore, RememberedBefore, ObjectBefore, TaskBefore, AreFieldsOf, AreObjectsOf, AreHeldInWords, IsFieldOf, IsHandedBack, IsObjectOf, IsPictureOf, drawn_chunk, drawn_field, drawn_object, drawn_task}
 use Rattle.tree_reading.specs.below.heap_reading.{FieldBefore as NotedBefore}
 use Rattle.shared_image.proofs.Chunks.{one, told_apart, told_back, told_in_order, told_there}
 use Rattle.shared_image.proofs.Orders.{all_append, all_map, rises_before}
@@ -57,16 +57,16 @@ module _ (w : SharedValue) (I : IsSharedValue w) where
     abbrev Its : ImageRemembered → Type 0
     Its f = (g : FieldAt) × IsNoted w x.number g × (f ≡ drawn_field x.number g)
 
-    pub fields_step : (old new : List ImageRemembered) (gs : List FieldAt) → AreAll FieldBefore (AreFieldsOf w (take i xs)) old → AreAll NotedBefore (IsNoted w x.number) gs → new ≡ old ++ map (drawn_field x.number) gs → AreAll FieldBefore (AreFieldsOf w (take (i + 1) xs)) new
+    pub fields_step : (old new : List ImageRemembered) (gs : List FieldAt) → AreAll RememberedBefore (AreFieldsOf w (take i xs)) old → AreAll NotedBefore (IsNoted w x.number) gs → new ≡ old ++ map (drawn_field x.number) gs → AreAll RememberedBefore (AreFieldsOf w (take (i + 1) xs)) new
     fields_step old new gs so now more =
-        subst (AreAll FieldBefore (AreFieldsOf w (take (i + 1) xs))) (sym more)
-        (all_append FieldBefore (AreFieldsOf w (take i xs)) Its (AreFieldsOf w (take (i + 1) xs)) old (map (drawn_field x.number) gs) so (all_map NotedBefore FieldBefore (drawn_field x.number) (IsNoted w x.number) gs now keeps) both join split)
+        subst (AreAll RememberedBefore (AreFieldsOf w (take (i + 1) xs))) (sym more)
+        (all_append RememberedBefore (AreFieldsOf w (take i xs)) Its (AreFieldsOf w (take (i + 1) xs)) old (map (drawn_field x.number) gs) so (all_map NotedBefore RememberedBefore (drawn_field x.number) (IsNoted w x.number) gs now keeps) both join split)
       where
-        keeps : (f g : FieldAt) → IsNoted w x.number f → IsNoted w x.number g → NotedBefore f g → FieldBefore (drawn_field x.number f) (drawn_field x.number g)
+        keeps : (f g : FieldAt) → IsNoted w x.number f → IsNoted w x.number g → NotedBefore f g → RememberedBefore (drawn_field x.number f) (drawn_field x.number g)
         keeps f g X Y (inl lt) = inr (inl (refl, lt))
         keeps f g X Y (inr h) = inr (inr (refl, h.0, h.1))
 
-        both : (f g : ImageRemembered) → AreFieldsOf w (take i xs) f → Its g → FieldBefore f g
+        both : (f g : ImageRemembered) → AreFieldsOf w (take i xs) f → Its g → RememberedBefore f g
         both f g X Y =
             let lt : X.0.number < x.number = rises_before LiveBefore xs i x X.0 all.rising is X.2 in
             inl (subst (λ (z : ImageRemembered). z.task < g.task) (sym X.4) (subst (λ (z : ImageRemembered). X.0.number < z.task) (sym Y.2) lt))
@@ -82,7 +82,7 @@ module _ (w : SharedValue) (I : IsSharedValue w) where
         ]
 
   -- THE WHOLE
-  pub picture_of : (xs : List LiveTask) (cs : List InUse) (os : List Picked) (fs : List ImageRemembered) → AreAll LiveBefore (IsLive w) xs → AreAll InUseBefore (IsInUse w) cs → AreAll ObjectBefore (AreObjectsOf w cs) os → AreAll FieldBefore (AreFieldsOf w xs) fs
+  pub picture_of : (xs : List LiveTask) (cs : List InUse) (os : List Picked) (fs : List ImageRemembered) → AreAll LiveBefore (IsLive w) xs → AreAll InUseBefore (IsInUse w) cs → AreAll ObjectBefore (AreObjectsOf w cs) os → AreAll RememberedBefore (AreFieldsOf w xs) fs
       → IsPictureOf w (record { tasks = map drawn_task xs; chunks = map drawn_chunk cs; objects = os; fields = fs })
   picture_of xs cs os fs X C O G = record {
     tasks = all_map LiveBefore TaskBefore drawn_task (IsLive w) xs X (λ x y a b lt. lt);
@@ -90,5 +90,5 @@ module _ (w : SharedValue) (I : IsSharedValue w) where
     objects = all_same ObjectBefore (AreObjectsOf w cs) (IsObjectOf w) os O
         (λ q h. (let b = told_back w I h.0.number h.1 h.3 in (b.task, h.1, b.idle, b.here, h.4)))
         (λ q h. (let c = in_use_of cs C h.0 h.2 h.1 h.3 in (c.0, h.1, c.1, subst (λ n. In (objects_of w n) h.1) (sym c.2) (told_there w I h.0 h.2 h.1 h.3), h.4)));
-    fields = all_same FieldBefore (AreFieldsOf w xs) (IsFieldOf w) fs G (λ f h. (h.0, h.1, (X.each h.0).0 h.2, h.3, h.4)) (λ f h. (h.0, h.1, (X.each h.0).1 h.2, h.3, h.4));
+    fields = all_same RememberedBefore (AreFieldsOf w xs) (IsFieldOf w) fs G (λ f h. (h.0, h.1, (X.each h.0).0 h.2, h.3, h.4)) (λ f h. (h.0, h.1, (X.each h.0).1 h.2, h.3, h.4));
   }

@@ -1,5 +1,5 @@
 -- A picture of a shared value is sound.
-use Rattle.shared_image.proofs.Common.{◌≡◌, ℕ, zero, suc, ◌+◌, ◌*◌, ◌^◌, ◌<◌, ◌≤◌, arith, false, Option, Some, None, List, [], ◌∷◌, length, map, option_map, slice_get, refl, ap, sym, subst, ◌∙◌, FitsSigned, w64, length-map, slice_get_within, map_in, read_in, fits_passes, MachineState, Task as TaskOf, joined, owner_of, parent_of as parents_in, parents, owner_le, in_use, use_is_bounded, Addr, IsRef, word_of_ref, Located, Slot, AreChunks, slot_at, slot_in, slot_units, units_in, units_in_use, Place, In, Memory, object_name, objects, IsSharedValue, SharedValue, accounts, value_of, used_now, refs_long, in_words, ImageBirth, ImageTask, ImageChunk, ImageRemembered, Picked, ImageData, HasFitParent, IsChunkForm, IsFieldForm, IsInForm, IsObjectForm, IsTaskForm, PickedDontOverlap, HasTask, IsFit, IsOwned, IsPlaced, IsSoundPicture, KeepsToPath, ObjectBefore, TaskBefore, ChunkBefore, FieldBefore, AreHeldInWords, IsHandedBack, IsPictureOf, drawn_field, drawn_object}
+use Rattle.shared_image.proofs.Common.{◌≡◌, ℕ, zero, suc, ◌+◌, ◌*◌, ◌^◌, ◌<◌, ◌≤◌, arith, false, Option, Some, None, List, [], ◌∷◌, length, map, option_map, slice_get, refl, ap, sym, subst, ◌∙◌, FitsSigned, w64, length-map, slice_get_within, map_in, read_in, fits_passes, MachineState, Task as TaskOf, joined, owner_of, parent_of as parents_in, parents, owner_le, in_use, use_is_bounded, Addr, IsRef, word_of_ref, Located, Slot, AreChunks, slot_at, slot_in, slot_units, units_in, units_in_use, LiesWithOwner, In, Memory, object_name, objects, IsSharedValue, SharedValue, accounts, value_of, used_now, refs_long, in_words, ImageBirth, ImageTask, ImageChunk, ImageRemembered, Picked, ImageData, HasFitParent, IsChunkForm, IsFieldForm, IsInForm, IsObjectForm, IsTaskForm, PickedDontOverlap, HasTask, IsDownField, IsOwnedBy, LiesInIdleChunk, IsSoundPicture, ImageKeepsToPath, ObjectBefore, TaskBefore, ChunkBefore, RememberedBefore, AreHeldInWords, IsHandedBack, IsPictureOf, drawn_field, drawn_object}
 use Rattle.shared_image.proofs.Known.{T, few, fields_few, k, live_task, owners, root, known_machine, stored_few, tree}
 use Rattle.shared_image.proofs.Links.{has_task, parent_live}
 use Rattle.shared_image.proofs.Drawing.{births, apart, content, fits, keeps, leads, near, owner, placed, ref_near}
@@ -82,7 +82,7 @@ module _ (w : SharedValue) (I : IsSharedValue w) (C : AreChunks w.pool.slots) (F
         let x = content w I F p P t idle o i in
         let n = stored_few w I (object_name o) x.0 x.1 in
         let long = word_long o.at (near w I F p P t idle o i) short in
-        let a : length o.refs ≡ length x.0.refs = refs_long (Place v (k w I)) o.refs x.0.refs x.2.refs in
+        let a : length o.refs ≡ length x.0.refs = refs_long (LiesWithOwner v (k w I)) o.refs x.0.refs x.2.refs in
         let b : length o.ints ≡ length x.0.ints = ap length x.2.ints in
         let c = fields_few w I (object_name o) x.0 x.1 in
         let m : length (map word_of_ref o.refs) ≡ length o.refs = length-map o.refs word_of_ref in
@@ -98,10 +98,10 @@ module _ (w : SharedValue) (I : IsSharedValue w) (C : AreChunks w.pool.slots) (F
   object_form : (q : Picked) → In p.objects q → IsObjectForm q
   object_form q j = let d = (P.objects.each q).0 j in subst IsObjectForm (sym d.4) (form_of d.0 d.2 d.1 d.3)
 
-  field_fits : (f : ImageRemembered) → In p.fields f → IsFit p f
+  field_fits : (f : ImageRemembered) → In p.fields f → IsDownField p f
   field_fits f j =
       let d = (P.fields.each f).0 j in
-      subst (IsFit p) (sym (d.4 ∙ ap (drawn_field d.0.number) d.3.2)) (fits w I F p P d.0.number d.3.0 (live_task w I d.0 d.2).3 d.3.1)
+      subst (IsDownField p) (sym (d.4 ∙ ap (drawn_field d.0.number) d.3.2)) (fits w I F p P d.0.number d.3.0 (live_task w I d.0 d.2).3 d.3.1)
 
   field_form : (f : ImageRemembered) → In p.fields f → IsFieldForm f
   field_form f j =
@@ -164,7 +164,7 @@ module _ (w : SharedValue) (I : IsSharedValue w) (C : AreChunks w.pool.slots) (F
     owners = chunk_owner;
     objects_rise = rises_at ObjectBefore p.objects P.objects.rising;
     births = same_birth;
-    places = λ o i. (let a = (P.objects.each o).0 i in subst (IsPlaced p) (sym a.4) (placed w I F p P a.0 a.2 a.1 a.3));
+    places = λ o i. (let a = (P.objects.each o).0 i in subst (LiesInIdleChunk p) (sym a.4) (placed w I F p P a.0 a.2 a.1 a.3));
     apart = λ o q i j.
         let a = (P.objects.each o).0 i in
         let b = (P.objects.each q).0 j in
@@ -172,8 +172,8 @@ module _ (w : SharedValue) (I : IsSharedValue w) (C : AreChunks w.pool.slots) (F
     leads = λ o x i j. (let a = (P.objects.each o).0 i in leads w I F p P a.0 a.2 a.1 a.3 x (subst (λ (z : Picked). In z.references x) a.4 j));
     keeps = λ o n x t u i e ot ou.
         let a = (P.objects.each o).0 i in
-        subst (λ (z : Picked). KeepsToPath p z.address n t u) (sym a.4)
-        (keeps w I F p P a.0 a.2 a.1 a.3 n x t u (subst (λ (z : Picked). slice_get z.references n ≡ Some x) a.4 e) (subst (λ (z : Picked). IsOwned p z.address t) a.4 ot) ou);
-    fields_rise = rises_at FieldBefore p.fields P.fields.rising;
+        subst (λ (z : Picked). ImageKeepsToPath p z.address n t u) (sym a.4)
+        (keeps w I F p P a.0 a.2 a.1 a.3 n x t u (subst (λ (z : Picked). slice_get z.references n ≡ Some x) a.4 e) (subst (λ (z : Picked). IsOwnedBy p z.address t) a.4 ot) ou);
+    fields_rise = rises_at RememberedBefore p.fields P.fields.rising;
     fields_fit = field_fits;
   }

@@ -12,7 +12,7 @@ use Rattle.image_check.specs.declared.line.ImageChunk.{ImageChunk}
 use Rattle.image_check.specs.declared.line.ImageRemembered.{ImageRemembered}
 use Rattle.heap_image.specs.declared.picture.Picked.{Picked}
 use Rattle.heap_image.specs.declared.picture.ImageData.{ImageData}
-use Rattle.heap_image.specs.ImageData.{ChunkBefore, FieldBefore, ObjectBefore, TaskBefore}
+use Rattle.heap_image.specs.ImageData.{ChunkBefore, RememberedBefore, ObjectBefore, TaskBefore}
 
 -- ONE BY ONE
 
@@ -64,7 +64,7 @@ pub record IsPictureOf (w : SharedValue) (p : ImageData) : Type 0 where
   pub tasks : AreAll TaskBefore (IsTaskOf w) p.tasks
   pub chunks : AreAll ChunkBefore (IsChunkOf w) p.chunks
   pub objects : AreAll ObjectBefore (IsObjectOf w) p.objects
-  pub fields : AreAll FieldBefore (IsFieldOf w) p.fields
+  pub fields : AreAll RememberedBefore (IsFieldOf w) p.fields
 
 -- words hold the objects of heaps at rest
 abbrev pub AreHeldInWords : SharedValue → Type 0

@@ -3,7 +3,7 @@
 ghost use Rattle.std.specs.Prelude.{◌≡◌, ◌++◌, IfOk, OnOk, map};
 ghost use Rattle.tree_reading.specs.below.chunk_pool.{AreChunks};
 ghost use Rattle.tree_reading.specs.below.heap_reading.{AreAll, InUseBefore, IsInUse, IsLive, LiveBefore};
-ghost use Rattle.heap_image.specs.ImageData.{FieldBefore, IsSoundPicture, ObjectBefore};
+ghost use Rattle.heap_image.specs.ImageData.{RememberedBefore, IsSoundPicture, ObjectBefore};
 ghost use Rattle.tree_reading.specs.below.core_invariant.{accounts};
 ghost use Rattle.shared_image.specs.Drawn.{AreHeldInWords, IsPictureOf, drawn_chunk, drawn_field, drawn_object, drawn_state, drawn_task};
 ghost use Rattle.shared_image.specs.Drawing.{AreFieldsOf, AreObjectsOf};
@@ -153,7 +153,7 @@ fn draw_fields(
     live: &[LiveTask],
 ) -> Result<Listed<ImageRemembered>, AllocError>
     requires { AreAll LiveBefore (IsLive shared.now) live.now }
-    ensures { IfOk result (λ fields. AreAll FieldBefore (AreFieldsOf shared.now live.now) fields) }
+    ensures { IfOk result (λ fields. AreAll RememberedBefore (AreFieldsOf shared.now live.now) fields) }
 {
     shared.stands();
     let mut fields = Listed::new(alloc);

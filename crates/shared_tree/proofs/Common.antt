@@ -15,7 +15,7 @@ pub use Rattle.fork_join_commit.specs.ChildEnds.{IsAtEnd, is_last_return, is_las
 pub use Rattle.fork_join_commit.specs.Forks.{ForkAnswered, IsAtFork, is_fork, is_fork_by, is_par, ForksOn, ForksTo, RestsFork, SetsFork, begun_rest, part_child, waiting_rest}
 pub use Rattle.fork_join_commit.specs.Joins.{IsUnchanged, SameButPlaces, CanJoin, HasPlaces, parent_side}
 pub use Rattle.fork_join_commit.specs.NoTask.{HoldsNone, GivesTaskUp}
-pub use Rattle.fork_join_commit.specs.below.step_commit.{IsShared, alone_entry, machine_after, HaltsAlone, then_accounts, GoesAlone, Tells, FinishesAlone, ended_rest, IsBeyond}
+pub use Rattle.fork_join_commit.specs.below.step_commit.{IsShared, alone_entry, machine_after, HaltsAlone, then_accounts, GoesAlone, EndingTells, FinishesAlone, ended_rest, IsBeyond}
 pub use Rattle.fork_join_commit.specs.declared.fork.Forking.{Forking}
 pub use Rattle.fork_join_commit.specs.declared.fork.Forking.TheVariants.{Forked, Over}
 pub use Rattle.heap_marking.proofs.MarkEntries.{mark_enters, mark_waits, kept_noted, put_back, some_count, some_enters, some_marks, mark_as_marking, mark_as_waiting, mark_as_words, mark_begun, mark_fields, mark_starts, some_as_left, some_as_marking, words_now}
@@ -41,7 +41,7 @@ pub use Rattle.leaf_collections.proofs.below.task_machine.{same_line}
 pub use Rattle.leaf_collections.specs.LeafEnd.{FitsCopied, end_entry, without_collection}
 pub use Rattle.leaf_collections.specs.below.chunk_pool.{PoolValue, slot_at, NotTaken, Full, units_in_use}
 pub use Rattle.leaf_collections.specs.below.copying_gc.{Moved, ToChunks}
-pub use Rattle.leaf_collections.specs.below.core_invariant.{NotEntered, NoMemory, SharedValue, accounts, rest_at, value_of, IsSharedValue, AllFit, Fits, EntersOrRefuses, IsCaused, refused, Refuses, above_of, is_beyond, is_beyond_by, is_beyond_line, is_joint, next_line, first_cause, or_else, chunk_cause, part_asks, OthersFit, take_by, HasBegun, roots_of, Enters, heaps_of, sources_of, Prints, marks_at, taken_part, due_cause, FitsFirst, Ending, IsOutPart, Beyond, Returns, NotRan, RanAnswers, is_state_ready, took_cause}
+pub use Rattle.leaf_collections.specs.below.core_invariant.{NotEntered, NoMemory, SharedValue, accounts, rest_at, value_of, IsSharedValue, EachPartStillFits, WorkerPartFits, EntersOrRefuses, IsCaused, refused, Refuses, above_of, is_beyond, is_beyond_by, is_beyond_line, is_joint, next_line, first_cause, or_else, chunk_cause, part_asks, OthersFit, take_by, CopyingHasBegun, roots_of, Enters, heaps_of, sources_of, Prints, marks_at, taken_part, due_cause, FitsFirst, Ending, IsOutPart, Beyond, Returns, NotRan, RanAnswers, is_state_ready, took_cause}
 pub use Rattle.leaf_collections.specs.below.fork_join.{Child, EndedChild, joined_nodes}
 pub use Rattle.leaf_collections.specs.below.heap_tree.{TaskNode, depth_of, forked, Ended, parent_of, state_of, with_state, sibling, Out, TaskState, Ready}
 pub use Rattle.leaf_collections.specs.below.hh_lang.{Instr, Par, Ret, Line, line_at}
@@ -51,13 +51,13 @@ pub use Rattle.leaf_collections.specs.below.mark_sweep_gc.{MarkingValue, AreGive
 pub use Rattle.leaf_collections.specs.below.object_layout.{small_words, ChunkValue, number_of, Addr, HasObjectAt, with_ref, cell_of, object_of}
 pub use Rattle.leaf_collections.specs.below.plain_vec.{ReservedVecValue}
 pub use Rattle.leaf_collections.specs.below.refinement.{CanGoOnMarking, kept}
-pub use Rattle.leaf_collections.specs.below.remembered_set.{RememberedValue, redirected, AreInOrder, ArePlaces, StandOnce}
+pub use Rattle.leaf_collections.specs.below.remembered_set.{RememberedValue, redirected, AreAscending, ArePlaces, StandOnce}
 pub use Rattle.leaf_collections.specs.below.run_ledger.{Ledger, owns, task_steps, touched, Refused, Collecting, refused_if, Machine, heap_of, left_in, Pool, chunk_units, in_use, PoolShort, is_pool_enough, refused_unless, words_in, PoolEnough, NotReady, refused_holding, sweep_number}
 pub use Rattle.leaf_collections.specs.below.run_trace.{EntryValue, Chunk, Begin, Mark, PutOff, More, Ran, Sweep, Fuel, Took, field_limit}
-pub use Rattle.leaf_collections.specs.below.task_frames.{FramesValue, with_int, with_next, with_reference}
+pub use Rattle.leaf_collections.specs.below.task_frames.{FramesValue, frames_with_int, with_next, with_reference}
 pub use Rattle.leaf_collections.specs.below.task_machine.{Private, FitsNow, Places}
 pub use Rattle.leaf_collections.specs.below.task_slots.{Heaps, ParkedTask, TaskSlotsValue, TaskSlot, Resting, resting_references, with_ref_in, with_resting, kept_of, keeping}
-pub use Rattle.leaf_collections.specs.below.write_barrier.{SetOf, content_of, content_after, content_at, bare}
+pub use Rattle.leaf_collections.specs.below.write_barrier.{SetOf, content_of, content_after, content_at, bare_noted}
 pub use Rattle.remote_access.proofs.OtherEntries.{number_goes, number_world, reference_goes, reference_world}
 pub use Rattle.remote_access.proofs.SetRooms.{roomier_same, roomier_world}
 pub use Rattle.remote_access.specs.Other.{IsOther, SameButRoom, is_other, is_other_by, is_other_line, TellsOther, put_rest, store_frames, store_of}

@@ -1,6 +1,6 @@
 -- How a part's next step involves other tasks, by the next line; what remains if an allocation fails.
 use Rattle.std.specs.Result.{OnErr}
-use Rattle.shared_tree.proofs.Common.{IfErr, ◌≡◌, ℕ, Result, Ok, Err, ◌||◌, not, true, Option, Some, None, List, length, slice_get, slice_set, option_map, is_some, refl, ap, sym, subst, ◌∙◌, option_flatten, or_false, got_set, Instr, Par, Ret, Line, MachineState, Task, fetched, Ledger, owns, task_steps, touched, Refused, SetOf, content_of, Private, FitsNow as FitsMachine, Places, same_line, SharedValue, accounts, rest_at, value_of, IsSharedValue, AllFit, Fits, EntersOrRefuses, IsCaused, refused, NotEntered, NoMemory, Refuses, above_of, is_beyond, is_beyond_by, is_beyond_line, is_joint, next_line, same_length, worker_there, IsShared, alone_entry, machine_after, runs_on, fits_machine, machine_same, IsAtEnd, is_last_return, is_last_by, is_last_line, ForkAnswered, IsAtFork, is_fork, is_fork_by, is_par, HoldsNone, GivesTaskUp, IsUnchanged, SameButPlaces, Forking, Forked, Over, same_itself, same_world, IsOther, SameButRoom, is_other, is_other_by, is_other_line, RanTo, IsJoint}
+use Rattle.shared_tree.proofs.Common.{IfErr, ◌≡◌, ℕ, Result, Ok, Err, ◌||◌, not, true, Option, Some, None, List, length, slice_get, slice_set, option_map, is_some, refl, ap, sym, subst, ◌∙◌, option_flatten, or_false, got_set, Instr, Par, Ret, Line, MachineState, Task, fetched, Ledger, owns, task_steps, touched, Refused, SetOf, content_of, Private, FitsNow as FitsMachine, Places, same_line, SharedValue, accounts, rest_at, value_of, IsSharedValue, EachPartStillFits, WorkerPartFits, EntersOrRefuses, IsCaused, refused, NotEntered, NoMemory, Refuses, above_of, is_beyond, is_beyond_by, is_beyond_line, is_joint, next_line, same_length, worker_there, IsShared, alone_entry, machine_after, runs_on, fits_machine, machine_same, IsAtEnd, is_last_return, is_last_by, is_last_line, ForkAnswered, IsAtFork, is_fork, is_fork_by, is_par, HoldsNone, GivesTaskUp, IsUnchanged, SameButPlaces, Forking, Forked, Over, same_itself, same_world, IsOther, SameButRoom, is_other, is_other_by, is_other_line, RanTo, IsJoint}
 use Rattle.entry_calls.specs.declared.answers.Ran.{Ran}
 use Rattle.entry_calls.specs.declared.answers.Ran.TheVariants.{Forked as RanForked, Over as RanOver}
 
@@ -9,7 +9,7 @@ other_by tasks t x (Par g h) par ret e = absurd (par g h refl)
 other_by tasks t x Ret par ret e = absurd (ret refl)
 other_by tasks t x _ par ret e = e
 
-module _ (w : SharedValue) (k : ℕ) (p : Private) (I : IsSharedValue w) (F : Fits w k p) (shared : IsShared w p) (free : refused w (alone_entry k p) ≡ None) (joint : IsJoint w p) (line : Line) (next : next_line w.program p ≡ Some line) where
+module _ (w : SharedValue) (k : ℕ) (p : Private) (I : IsSharedValue w) (F : WorkerPartFits w k p) (shared : IsShared w p) (free : refused w (alone_entry k p) ≡ None) (joint : IsJoint w p) (line : Line) (next : next_line w.program p ≡ Some line) where
   abbrev t : ℕ
   t = p.task
 
@@ -95,7 +95,7 @@ pub results_unchanged : {A : Type 0} → (w after : SharedValue) (r : Result A N
 results_unchanged w after (Ok a) why S = tt
 results_unchanged w after (Err e) why S = room_unchanged w after e why S
 
-pub results_fit : {A : Type 0} → (w after : SharedValue) (r : Result A NotEntered) → OnErr r (SameButRoom w after) → OnErr r (AllFit w after)
+pub results_fit : {A : Type 0} → (w after : SharedValue) (r : Result A NotEntered) → OnErr r (SameButRoom w after) → OnErr r (EachPartStillFits w after)
 results_fit w after (Ok a) S = tt
 results_fit w after (Err e) S = S.fit
 
@@ -121,5 +121,5 @@ pub same_by : (w after : SharedValue) (e : NotEntered) → after ≡ w → IsUnc
 same_by w after (Refuses cause) same = same
 same_by w after NoMemory same = subst (SameButPlaces w) (sym same) (same_world w)
 
-pub fit_by : (w after : SharedValue) → after ≡ w → AllFit w after
-fit_by w after same = subst (AllFit w) (sym same) (λ k p F. F)
+pub fit_by : (w after : SharedValue) → after ≡ w → EachPartStillFits w after
+fit_by w after same = subst (EachPartStillFits w) (sym same) (λ k p F. F)

@@ -1,7 +1,7 @@
 -- The one entry of a part's fresh steps and its next one, which isn't private: what that step is.
 use Rattle.std.specs.Prelude.{◌≡◌, ℕ, true, Option, Some, None}
 use Rattle.leaf_collections.specs.below.task_machine.{Private}
-use Rattle.leaf_collections.specs.below.core_invariant.{SharedValue, Fits, refused, is_beyond}
+use Rattle.leaf_collections.specs.below.core_invariant.{SharedValue, WorkerPartFits, refused, is_beyond}
 use Rattle.fork_join_commit.specs.below.step_commit.{IsBeyond, alone_entry, machine_after}
 use Rattle.remote_access.specs.Other.{IsOther}
 use Rattle.entry_calls.specs.declared.answers.Leaving.{Leaving}
@@ -11,7 +11,7 @@ use Rattle.entry_calls.specs.Ran.{LeavesBy, LentTo}
 -- a worker holds the part, and its entry of the part's fresh steps and the next one isn't refused
 pub record MayBeEntered (w : SharedValue) (p : Private) : Type 0 where
   pub worker : ℕ
-  pub fits : Fits w worker p
+  pub fits : WorkerPartFits w worker p
   pub free : refused w (alone_entry worker p) ≡ None
 
 -- it involves other tasks

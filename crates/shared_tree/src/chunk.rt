@@ -1,7 +1,7 @@
 // A part gets a chunk.
 
 ghost use Rattle.std.specs.Prelude.{◌≡◌, ◌<◌, OnErr, OnOk, None};
-ghost use Rattle.leaf_collections.specs.below.core_invariant.{refused, Enters, IsSamePart, Fits, OthersFit};
+ghost use Rattle.leaf_collections.specs.below.core_invariant.{refused, Enters, IsSamePart, WorkerPartFits, OthersFit};
 ghost use Rattle.entry_calls.specs.Calls.{GetsChunk};
 
 use crate::shared::Shared;
@@ -14,7 +14,7 @@ use std::alloc::AllocError;
 impl Shared {
     // Why the entry is refused.
     fn chunk_refused(&self, worker: u32, part: &Private) -> Option<Refused>
-        requires fits { Fits self.now worker part.now }
+        requires fits { WorkerPartFits self.now worker part.now }
         requires fresh { part.now.fresh ≡ 0 }
         ensures { result ≡ refused self.now (record { worker = worker; kind = Kind.Chunk part.now.task }) }
     {
@@ -28,14 +28,14 @@ impl Shared {
     // Makes the entry.
     fn give_chunk(&mut self, worker: u32, part: &mut Private) -> Result<(), AllocError>
         requires room { 0 < self.old.journal.room }
-        requires fits { Fits self.old worker part.old }
+        requires fits { WorkerPartFits self.old worker part.old }
         requires fresh { part.old.fresh ≡ 0 }
         requires free { refused self.old (record { worker = worker; kind = Kind.Chunk part.old.task }) ≡ None }
         ensures same { OnErr result (self.new ≡ self.old) }
         ensures back { OnErr result (IsSamePart part.old part.new) }
         ensures rest { part.new ≡ record part.old { heap = part.new.heap } }
         ensures enters { OnOk result (Enters self.old self.new (record { worker = worker; kind = Kind.Chunk part.old.task })) }
-        ensures fits { Fits self.new worker part.new }
+        ensures fits { WorkerPartFits self.new worker part.new }
         ensures others { OnOk result (OthersFit self.old self.new worker) }
     {
         let task = part.task;
@@ -61,7 +61,7 @@ impl Shared {
     /// A part gets the chunk that its next step needs. If too few units are free the run ends.
     pub fn chunk(&mut self, worker: u32, part: &mut Private) -> Result<(), NotEntered>
         requires room { 0 < self.old.journal.room }
-        requires fits { Fits self.old worker part.old }
+        requires fits { WorkerPartFits self.old worker part.old }
         requires fresh { part.old.fresh ≡ 0 }
         ensures { GetsChunk self.old self.new worker part.old part.new result }
     {

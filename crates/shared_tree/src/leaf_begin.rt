@@ -1,7 +1,7 @@
 // A leaf collection of a part begins.
 
 ghost use Rattle.std.specs.Prelude.{◌≡◌, ◌<◌, IfOk, OnErr, OnOk, None};
-ghost use Rattle.leaf_collections.specs.below.core_invariant.{refused, Enters, IsSamePart, Fits, OthersFit, HasBegun};
+ghost use Rattle.leaf_collections.specs.below.core_invariant.{refused, Enters, IsSamePart, WorkerPartFits, OthersFit, CopyingHasBegun};
 ghost use Rattle.entry_calls.specs.Calls.{BeginsLeaf};
 
 use crate::shared::Shared;
@@ -14,7 +14,7 @@ use std::alloc::AllocError;
 impl Shared {
     // Why the entry is refused.
     fn leaf_begin_refused(&self, worker: u32, part: &Private) -> Option<Refused>
-        requires fits { Fits self.now worker part.now }
+        requires fits { WorkerPartFits self.now worker part.now }
         requires fresh { part.now.fresh ≡ 0 }
         ensures { result ≡ refused self.now (record { worker = worker; kind = Kind.Begin part.now.task }) }
     {
@@ -42,14 +42,14 @@ impl Shared {
     ) -> Result<(Vec<Addr>, ToChunks), AllocError>
         requires room { 0 < self.old.journal.room }
         requires task { task ≡ part.old.task }
-        requires fits { Fits self.old worker part.old }
+        requires fits { WorkerPartFits self.old worker part.old }
         requires fresh { part.old.fresh ≡ 0 }
         requires free { refused self.old (record { worker = worker; kind = Kind.Begin part.old.task }) ≡ None }
         ensures same { OnErr result (self.new ≡ self.old) }
         ensures back { OnErr result (IsSamePart part.old part.new) }
-        ensures begun { IfOk result (λ r. HasBegun part.old part.new r.0.items r.1) }
+        ensures begun { IfOk result (λ r. CopyingHasBegun part.old part.new r.0.items r.1) }
         ensures enters { OnOk result (Enters self.old self.new (record { worker = worker; kind = Kind.Begin part.old.task })) }
-        ensures fits { Fits self.new worker part.new }
+        ensures fits { WorkerPartFits self.new worker part.new }
         ensures others { OnOk result (OthersFit self.old self.new worker) }
     {
         self.stands();
@@ -69,7 +69,7 @@ impl Shared {
         part: &mut Private,
     ) -> Result<(Vec<Addr>, ToChunks), NotEntered>
         requires room { 0 < self.old.journal.room }
-        requires fits { Fits self.old worker part.old }
+        requires fits { WorkerPartFits self.old worker part.old }
         requires fresh { part.old.fresh ≡ 0 }
         ensures { BeginsLeaf self.old self.new worker part.old part.new result }
     {

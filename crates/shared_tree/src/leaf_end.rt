@@ -1,7 +1,7 @@
 // The leaf collection of a part ends.
 
 ghost use Rattle.std.specs.Prelude.{◌≡◌, ◌<◌, None};
-ghost use Rattle.leaf_collections.specs.below.core_invariant.{refused, Enters, Fits, OthersFit};
+ghost use Rattle.leaf_collections.specs.below.core_invariant.{refused, Enters, WorkerPartFits, OthersFit};
 ghost use Rattle.leaf_collections.specs.LeafEnd.{end_entry, without_collection, FitsCopied};
 ghost use Rattle.entry_calls.specs.Calls.{EndsLeaf};
 
@@ -17,7 +17,7 @@ impl Shared {
         requires free { refused self.old (end_entry worker part.old moved) ≡ None }
         ensures part { part.new ≡ without_collection part.old }
         ensures enters { Enters self.old self.new (end_entry worker part.old moved) }
-        ensures fits { Fits self.new worker part.new }
+        ensures fits { WorkerPartFits self.new worker part.new }
         ensures others { OthersFit self.old self.new worker }
     {
         let task = part.task;

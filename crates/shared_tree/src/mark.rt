@@ -3,7 +3,7 @@
 ghost use Rattle.std.specs.Prelude.{◌≡◌, ◌<◌, ℕ, IfOk, OnErr, OnOk, None};
 ghost use Rattle.leaf_collections.specs.below.run_ledger.{heap_of};
 ghost use Rattle.leaf_collections.specs.below.refinement.{CanGoOnMarking};
-ghost use Rattle.leaf_collections.specs.below.core_invariant.{refused, Enters, AllFit, accounts, value_of};
+ghost use Rattle.leaf_collections.specs.below.core_invariant.{refused, Enters, EachPartStillFits, accounts, value_of};
 ghost use Rattle.entry_calls.specs.Calls.{BeginsMarking};
 
 use crate::shared::Shared;
@@ -54,7 +54,7 @@ impl Shared {
         requires goes { CanGoOnMarking (value_of self.old) t (heap_of (accounts self.old) t).snapshot marking }
         ensures same { OnErr result (self.new ≡ self.old) }
         ensures enters { OnOk result (Enters self.old self.new (record { worker = worker; kind = Kind.Mark t })) }
-        ensures fits { OnOk result (AllFit self.old self.new) }
+        ensures fits { OnOk result (EachPartStillFits self.old self.new) }
     {
         let marking = BoxedSlot::new(self.heaps.task_slots.allocator(), marking)?;
         self.heaps.task_slots.put_marking(t, marking);

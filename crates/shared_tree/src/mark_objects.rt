@@ -3,7 +3,7 @@
 ghost use Rattle.std.specs.Prelude.{◌≡◌, ◌<◌, ◌≤◌, ℕ, None, min};
 ghost use Rattle.leaf_collections.specs.below.run_trace.{mark_limit};
 ghost use Rattle.leaf_collections.specs.below.run_ledger.{heap_of, left_in};
-ghost use Rattle.leaf_collections.specs.below.core_invariant.{refused, Enters, AllFit, accounts};
+ghost use Rattle.leaf_collections.specs.below.core_invariant.{refused, Enters, EachPartStillFits, accounts};
 ghost use Rattle.entry_calls.specs.Calls.{MarksMore};
 
 use crate::shared::Shared;
@@ -38,7 +38,7 @@ impl Shared {
         requires free { refused self.old (record { worker = worker; kind = Kind.More t n }) ≡ None }
         ensures count { result ≡ min n (left_in (heap_of (accounts self.old) t)) }
         ensures enters { Enters self.old self.new (record { worker = worker; kind = Kind.More t n }) }
-        ensures fits { AllFit self.old self.new }
+        ensures fits { EachPartStillFits self.old self.new }
     {
         let Some(mut marking) = self.heaps.task_slots.take_marking(t) else {
             unreachable!()

@@ -1,7 +1,7 @@
 // A leaf collection is put off.
 
 ghost use Rattle.std.specs.Prelude.{◌≡◌, ◌<◌, None};
-ghost use Rattle.leaf_collections.specs.below.core_invariant.{refused, Enters, Fits, OthersFit};
+ghost use Rattle.leaf_collections.specs.below.core_invariant.{refused, Enters, WorkerPartFits, OthersFit};
 ghost use Rattle.entry_calls.specs.Calls.{PutsOff};
 
 use crate::shared::Shared;
@@ -10,7 +10,7 @@ use leaf_collections::{Entry, Kind, Private, Refused, due_cause, first_cause, wo
 impl Shared {
     // Why the entry is refused.
     fn put_off_refused(&self, worker: u32, part: &Private) -> Option<Refused>
-        requires fits { Fits self.now worker part.now }
+        requires fits { WorkerPartFits self.now worker part.now }
         requires fresh { part.now.fresh ≡ 0 }
         ensures { result ≡ refused self.now (record { worker = worker; kind = Kind.PutOff part.now.task }) }
     {
@@ -33,12 +33,12 @@ impl Shared {
     fn enter_put_off(&mut self, worker: u32, task: u32, part: &mut Private)
         requires task { task ≡ part.old.task }
         requires room { 0 < self.old.journal.room }
-        requires fits { Fits self.old worker part.old }
+        requires fits { WorkerPartFits self.old worker part.old }
         requires fresh { part.old.fresh ≡ 0 }
         requires free { refused self.old (record { worker = worker; kind = Kind.PutOff part.old.task }) ≡ None }
         ensures part { part.new ≡ record part.old { heap = record part.old.heap { since = 0 } } }
         ensures enters { Enters self.old self.new (record { worker = worker; kind = Kind.PutOff part.old.task }) }
-        ensures fits { Fits self.new worker part.new }
+        ensures fits { WorkerPartFits self.new worker part.new }
         ensures others { OthersFit self.old self.new worker }
     {
         self.journal
@@ -50,7 +50,7 @@ impl Shared {
     /// on.
     pub fn put_off(&mut self, worker: u32, part: &mut Private) -> Result<(), Refused>
         requires room { 0 < self.old.journal.room }
-        requires fits { Fits self.old worker part.old }
+        requires fits { WorkerPartFits self.old worker part.old }
         requires fresh { part.old.fresh ≡ 0 }
         ensures { PutsOff self.old self.new worker part.old part.new result }
     {

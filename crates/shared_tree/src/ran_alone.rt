@@ -2,8 +2,8 @@
 
 ghost use Rattle.std.specs.Prelude.{◌≡◌, ◌≢◌, ◌<◌, ℕ, OnErr, OnOk, IfOk, None};
 ghost use Rattle.leaf_collections.specs.below.hh_model.{ended_by, step};
-ghost use Rattle.leaf_collections.specs.below.core_invariant.{refused, EntersOrRefuses, Fits};
-ghost use Rattle.fork_join_commit.specs.below.step_commit.{alone_entry, then_accounts, GoesAlone, HaltsAlone, IsShared, Tells};
+ghost use Rattle.leaf_collections.specs.below.core_invariant.{refused, EntersOrRefuses, WorkerPartFits};
+ghost use Rattle.fork_join_commit.specs.below.step_commit.{alone_entry, then_accounts, GoesAlone, HaltsAlone, IsShared, EndingTells};
 ghost use Rattle.entry_calls.specs.Calls.{EntersLeaving};
 ghost use Rattle.shared_tree.specs.StepEnd.{AloneTo, MayBeEntered};
 
@@ -19,7 +19,7 @@ use std::alloc::AllocError;
 impl Shared {
     // Why the entry is refused.
     pub(crate) fn alone_refused(&self, worker: u32, part: &Private) -> Option<Refused>
-        requires fits { Fits self.now worker part.now }
+        requires fits { WorkerPartFits self.now worker part.now }
         requires shared { IsShared self.now part.now }
         ensures { result ≡ refused self.now (alone_entry worker part.now) }
     {
@@ -38,7 +38,7 @@ impl Shared {
     fn next_ending(&self, part: &Private) -> (Ending, u32)
         requires out { MayBeEntered self.now part.now }
         requires shared { IsShared self.now part.now }
-        ensures { Tells self.now part.now result.0 result.1 }
+        ensures { EndingTells self.now part.now result.0 result.1 }
     {
         match self.program.line(part.frames.fun(), part.frames.next()) {
             Some(line) => (last_step(part, line.instr), line.number),
@@ -54,10 +54,10 @@ impl Shared {
         value: i64,
     ) -> Result<(), AllocError>
         requires room { 0 < self.old.journal.room }
-        requires fits { Fits self.old worker part.old }
+        requires fits { WorkerPartFits self.old worker part.old }
         requires shared { IsShared self.old part.old }
         requires free { refused self.old (alone_entry worker part.old) ≡ None }
-        requires prints { (line : ℕ) × Tells self.old part.old (Ending.Prints value) line }
+        requires prints { (line : ℕ) × EndingTells self.old part.old (Ending.Prints value) line }
         ensures same { OnErr result (self.new ≡ self.old) }
         ensures back { OnErr result (part.new ≡ part.old) }
         ensures goes { OnOk result (GoesAlone self.old self.new worker part.old part.new) }
@@ -73,7 +73,7 @@ impl Shared {
     // Commits a step that ends the run and leaves all else unchanged: a trap, or a read that is stopped.
     pub(crate) fn enter_halt(&mut self, worker: u32, part: &mut Private, end: End)
         requires room { 0 < self.old.journal.room }
-        requires fits { Fits self.old worker part.old }
+        requires fits { WorkerPartFits self.old worker part.old }
         requires shared { IsShared self.old part.old }
         requires free { refused self.old (alone_entry worker part.old) ≡ None }
         requires other { end ≢ End.Done }
@@ -88,10 +88,10 @@ impl Shared {
     /// Commits the last return of the root, given memory for its parked state.
     pub(crate) fn ran_done(&mut self, worker: u32, part: Private) -> Result<Ran, NotRan>
         requires room { 0 < self.old.journal.room }
-        requires fits { Fits self.old worker part }
+        requires fits { WorkerPartFits self.old worker part }
         requires shared { IsShared self.old part }
         requires free { refused self.old (alone_entry worker part) ≡ None }
-        requires returns { (line : ℕ) × Tells self.old part Ending.Returns line }
+        requires returns { (line : ℕ) × EndingTells self.old part Ending.Returns line }
         requires root { part.task ≡ 0 }
         ensures { EntersLeaving self.old self.new worker part result }
     {
@@ -118,7 +118,7 @@ impl Shared {
         part: &mut Private,
     ) -> Result<Option<Lent>, NotEntered>
         requires room { 0 < self.old.journal.room }
-        requires fits { Fits self.old worker part.old }
+        requires fits { WorkerPartFits self.old worker part.old }
         requires shared { IsShared self.old part.old }
         ensures refused { EntersOrRefuses result (refused self.old (alone_entry worker part.old)) }
         ensures same { OnErr result (self.new ≡ self.old) }

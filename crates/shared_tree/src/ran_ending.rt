@@ -2,7 +2,7 @@
 
 ghost use Rattle.std.specs.Prelude.{◌≡◌, ◌<◌, OnErr, OnOk, IfErr, IfOk, None, Some, slice_set};
 ghost use Rattle.leaf_collections.specs.below.heap_tree.{parent_of, state_of, sibling};
-ghost use Rattle.leaf_collections.specs.below.core_invariant.{refused, RanAnswers, AllFit, Fits};
+ghost use Rattle.leaf_collections.specs.below.core_invariant.{refused, RanAnswers, EachPartStillFits, WorkerPartFits};
 ghost use Rattle.fork_join_commit.specs.below.step_commit.{alone_entry};
 ghost use Rattle.fork_join_commit.specs.ChildEnds.{EndsChild, IsAtEnd};
 ghost use Rattle.fork_join_commit.specs.Joins.{HasPlaces, IsUnchanged, SameButPlaces};
@@ -20,7 +20,7 @@ impl Shared {
     // Commits the end of a child whose sibling goes on, given memory for its parked state.
     fn ran_first(&mut self, worker: u32, part: Private) -> Result<Option<u32>, NotRan>
         requires room { 0 < self.old.journal.room }
-        requires fits { Fits self.old worker part }
+        requires fits { WorkerPartFits self.old worker part }
         requires ends { IsAtEnd self.old part }
         requires free { refused self.old (alone_entry worker part) ≡ None }
         requires alone { state_of self.old.tree (sibling part.task) ≡ Some TaskState.Ended → ⊥ }
@@ -62,7 +62,7 @@ impl Shared {
     // bring.
     fn enter_join(&mut self, worker: u32, part: Private, parent: u32)
         requires room { 0 < self.old.journal.room }
-        requires fits { Fits self.old worker part }
+        requires fits { WorkerPartFits self.old worker part }
         requires ends { IsAtEnd self.old part }
         requires free { refused self.old (alone_entry worker part) ≡ None }
         requires ended { state_of self.old.tree (sibling part.task) ≡ Some TaskState.Ended }
@@ -94,11 +94,11 @@ impl Shared {
     /// capacity of the parent's heap and set changes.
     pub(crate) fn ran_ending(&mut self, worker: u32, part: Private) -> Result<Option<u32>, NotRan>
         requires room { 0 < self.old.journal.room }
-        requires fits { Fits self.old worker part }
+        requires fits { WorkerPartFits self.old worker part }
         requires ends { IsAtEnd self.old part }
         ensures refused { RanAnswers result (refused self.old (alone_entry worker part)) }
         ensures same { IfErr result (λ e. IsUnchanged e.cause self.old self.new) }
-        ensures still { OnErr result (AllFit self.old self.new) }
+        ensures still { OnErr result (EachPartStillFits self.old self.new) }
         ensures back { IfErr result (λ e. e.part ≡ part) }
         ensures answered { IfOk result (EndsChild self.old self.new worker part) }
         ensures task_out { OnOk result (self.new.tasks_out ≡ slice_set self.old.tasks_out worker None) }

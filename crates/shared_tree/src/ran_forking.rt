@@ -3,7 +3,7 @@
 ghost use Rattle.std.specs.Prelude.{◌≡◌, ◌<◌, ℕ, OnErr, IfErr, IfOk, None};
 ghost use Rattle.leaf_collections.specs.below.hh_model.{depth_limit};
 ghost use Rattle.leaf_collections.specs.below.heap_tree.{depth_of};
-ghost use Rattle.leaf_collections.specs.below.core_invariant.{refused, RanAnswers, Fits};
+ghost use Rattle.leaf_collections.specs.below.core_invariant.{refused, RanAnswers, WorkerPartFits};
 ghost use Rattle.fork_join_commit.specs.below.step_commit.{alone_entry};
 ghost use Rattle.fork_join_commit.specs.NoTask.{GivesTaskUp};
 ghost use Rattle.fork_join_commit.specs.Forks.{ForkAnswered, ForksTo, IsAtFork};
@@ -50,7 +50,7 @@ impl Shared {
         right: u32,
     ) -> Result<Forking, NotRan>
         requires room { 0 < self.old.journal.room }
-        requires fits { Fits self.old worker part }
+        requires fits { WorkerPartFits self.old worker part }
         requires forks { IsAtFork self.old part }
         requires free { refused self.old (alone_entry worker part) ≡ None }
         requires by { (line : ℕ) × ForksTo self.old part left right line }
@@ -96,7 +96,7 @@ impl Shared {
     /// ends, if too many forks are above it.
     pub(crate) fn ran_forking(&mut self, worker: u32, part: Private) -> Result<Forking, NotRan>
         requires room { 0 < self.old.journal.room }
-        requires fits { Fits self.old worker part }
+        requires fits { WorkerPartFits self.old worker part }
         requires forks { IsAtFork self.old part }
         ensures refused { RanAnswers result (refused self.old (alone_entry worker part)) }
         ensures same { OnErr result (self.new ≡ self.old) }

@@ -1,7 +1,7 @@
 // A part's steps are committed with its next one, which isn't private, unless that one gives the part up.
 
 ghost use Rattle.std.specs.Prelude.{◌≡◌, ◌<◌, OnErr, IfErr, IfOk, None};
-ghost use Rattle.leaf_collections.specs.below.core_invariant.{refused, EntersOrRefuses, AllFit, Fits};
+ghost use Rattle.leaf_collections.specs.below.core_invariant.{refused, EntersOrRefuses, EachPartStillFits, WorkerPartFits};
 ghost use Rattle.fork_join_commit.specs.below.step_commit.{alone_entry, IsShared};
 ghost use Rattle.fork_join_commit.specs.Joins.{IsUnchanged};
 ghost use Rattle.entry_calls.specs.Calls.{EntersLent};
@@ -33,13 +33,13 @@ impl Shared {
     // Commits the steps with one that involves other tasks, unless it gives the part up.
     fn lent_joint(&mut self, worker: u32, part: &mut Private) -> Result<Lent, NotEntered>
         requires room { 0 < self.old.journal.room }
-        requires fits { Fits self.old worker part.old }
+        requires fits { WorkerPartFits self.old worker part.old }
         requires shared { IsShared self.old part.old }
         requires free { refused self.old (alone_entry worker part.old) ≡ None }
         requires joint { IsJoint self.old part.old }
         ensures refused { EntersOrRefuses result None }
         ensures same { IfErr result (λ e. IsUnchanged e self.old self.new) }
-        ensures still { OnErr result (AllFit self.old self.new) }
+        ensures still { OnErr result (EachPartStillFits self.old self.new) }
         ensures back { OnErr result (part.new ≡ part.old) }
         ensures answered { IfOk result (LentTo self.old self.new worker part.old part.new) }
     {
@@ -53,7 +53,7 @@ impl Shared {
     /// it does, or an allocation fails, nothing is committed, though heaps and sets may have spare capacity.
     pub fn ran_lent(&mut self, worker: u32, part: &mut Private) -> Result<Lent, NotEntered>
         requires room { 0 < self.old.journal.room }
-        requires fits { Fits self.old worker part.old }
+        requires fits { WorkerPartFits self.old worker part.old }
         requires shared { IsShared self.old part.old }
         ensures { EntersLent self.old self.new worker part.old part.new result }
     {

@@ -1,7 +1,7 @@
 // A part's steps are committed with one that works on an object of another task.
 
 ghost use Rattle.std.specs.Prelude.{◌≡◌, ◌<◌, ℕ, OnErr, IfErr, IfOk, None};
-ghost use Rattle.leaf_collections.specs.below.core_invariant.{refused, EntersOrRefuses, AllFit, Fits};
+ghost use Rattle.leaf_collections.specs.below.core_invariant.{refused, EntersOrRefuses, EachPartStillFits, WorkerPartFits};
 ghost use Rattle.fork_join_commit.specs.below.step_commit.{alone_entry, GoesAlone, IsShared};
 ghost use Rattle.fork_join_commit.specs.Joins.{IsUnchanged};
 ghost use Rattle.remote_access.specs.Other.{IsOther, SameButRoom, TellsOther};
@@ -46,7 +46,7 @@ impl Shared {
     // Commits a read of a number.
     fn enter_number(&mut self, worker: u32, part: &mut Private, register: IntReg, value: i64)
         requires room { 0 < self.old.journal.room }
-        requires fits { Fits self.old worker part.old }
+        requires fits { WorkerPartFits self.old worker part.old }
         requires shared { IsShared self.old part.old }
         requires free { refused self.old (alone_entry worker part.old) ≡ None }
         requires reads { (line : ℕ) × TellsOther self.old part.old (OtherStep.SetsNumber register value) line }
@@ -68,7 +68,7 @@ impl Shared {
         value: Option<Addr>,
     )
         requires room { 0 < self.old.journal.room }
-        requires fits { Fits self.old worker part.old }
+        requires fits { WorkerPartFits self.old worker part.old }
         requires shared { IsShared self.old part.old }
         requires free { refused self.old (alone_entry worker part.old) ≡ None }
         requires reads { (line : ℕ) × TellsOther self.old part.old (OtherStep.SetsReference register value) line }
@@ -90,7 +90,7 @@ impl Shared {
         line: u32,
     ) -> Result<Lent, NotEntered>
         requires room { 0 < self.old.journal.room }
-        requires fits { Fits self.old worker part.old }
+        requires fits { WorkerPartFits self.old worker part.old }
         requires shared { IsShared self.old part.old }
         requires free { refused self.old (alone_entry worker part.old) ≡ None }
         requires tells { TellsOther self.old part.old does line }
@@ -136,13 +136,13 @@ impl Shared {
     /// changes nothing at all.
     pub(crate) fn ran_other(&mut self, worker: u32, part: &mut Private) -> Result<Lent, NotEntered>
         requires room { 0 < self.old.journal.room }
-        requires fits { Fits self.old worker part.old }
+        requires fits { WorkerPartFits self.old worker part.old }
         requires shared { IsShared self.old part.old }
         requires other { IsOther self.old part.old }
         ensures refused { EntersOrRefuses result (refused self.old (alone_entry worker part.old)) }
         ensures same { OnErr result (SameButRoom self.old self.new) }
         ensures unchanged { IfErr result (λ e. IsUnchanged e self.old self.new) }
-        ensures still { OnErr result (AllFit self.old self.new) }
+        ensures still { OnErr result (EachPartStillFits self.old self.new) }
         ensures back { OnErr result (part.new ≡ part.old) }
         ensures answered { IfOk result (LentTo self.old self.new worker part.old part.new) }
     {

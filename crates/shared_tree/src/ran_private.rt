@@ -1,7 +1,7 @@
 // A part's private steps are committed.
 
 ghost use Rattle.std.specs.Prelude.{◌≡◌, ◌<◌, None};
-ghost use Rattle.leaf_collections.specs.below.core_invariant.{refused, Enters, Fits, OthersFit};
+ghost use Rattle.leaf_collections.specs.below.core_invariant.{refused, Enters, WorkerPartFits, OthersFit};
 ghost use Rattle.entry_calls.specs.Calls.{EntersSteps};
 
 use crate::shared::Shared;
@@ -11,12 +11,12 @@ impl Shared {
     // Makes the entry.
     fn enter_steps(&mut self, worker: u32, part: &Private)
         requires room { 0 < self.old.journal.room }
-        requires fits { Fits self.old worker part.now }
+        requires fits { WorkerPartFits self.old worker part.now }
         requires fresh { 0 < part.now.fresh }
         requires free { refused self.old (record { worker = worker; kind = Kind.Ran part.now.task part.now.fresh }) ≡ None }
         ensures enters { Enters self.old self.new (record { worker = worker; kind = Kind.Ran part.now.task part.now.fresh }) }
         ensures end { self.new.end ≡ self.old.end }
-        ensures fits { Fits self.new worker (record part.now { fresh = 0 }) }
+        ensures fits { WorkerPartFits self.new worker (record part.now { fresh = 0 }) }
         ensures others { OthersFit self.old self.new worker }
     {
         self.steps += part.fresh as u64;
@@ -27,7 +27,7 @@ impl Shared {
     /// Commits the fresh steps of a part, all private.
     pub fn ran_private(&mut self, worker: u32, part: &mut Private) -> Result<(), Refused>
         requires room { 0 < self.old.journal.room }
-        requires fits { Fits self.old worker part.old }
+        requires fits { WorkerPartFits self.old worker part.old }
         requires fresh { 0 < part.old.fresh }
         ensures { EntersSteps self.old self.new worker part.old part.new result }
     {

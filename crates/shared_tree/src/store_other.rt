@@ -1,7 +1,7 @@
 // A part's steps are committed with one that writes an object of another task.
 
 ghost use Rattle.std.specs.Prelude.{◌≡◌, ◌<◌, ℕ, OnErr, OnOk, IfOk, None};
-ghost use Rattle.leaf_collections.specs.below.core_invariant.{refused, EntersOrRefuses, Fits};
+ghost use Rattle.leaf_collections.specs.below.core_invariant.{refused, EntersOrRefuses, WorkerPartFits};
 ghost use Rattle.fork_join_commit.specs.below.step_commit.{alone_entry, GoesAlone, IsShared};
 ghost use Rattle.remote_access.specs.Other.{store_of, SameButRoom, TellsOther};
 ghost use Rattle.entry_calls.specs.Ran.{LentTo};
@@ -25,7 +25,7 @@ impl Shared {
         swap: Option<IntReg>,
     ) -> Result<(), AllocError>
         requires room { 0 < self.old.journal.room }
-        requires fits { Fits self.old worker part.old }
+        requires fits { WorkerPartFits self.old worker part.old }
         requires shared { IsShared self.old part.old }
         requires free { refused self.old (alone_entry worker part.old) ≡ None }
         requires stores { (line : ℕ) × TellsOther self.old part.old (store_of swap object field value) line }
@@ -50,7 +50,7 @@ impl Shared {
         value: i64,
     )
         requires room { 0 < self.old.journal.room }
-        requires fits { Fits self.old worker part.old }
+        requires fits { WorkerPartFits self.old worker part.old }
         requires shared { IsShared self.old part.old }
         requires free { refused self.old (alone_entry worker part.old) ≡ None }
         requires stores { (line : ℕ) × TellsOther self.old part.old (OtherStep.StoresNumber object field value) line }
@@ -73,7 +73,7 @@ impl Shared {
         swap: Option<IntReg>,
     ) -> Result<Lent, NotEntered>
         requires room { 0 < self.old.journal.room }
-        requires fits { Fits self.old worker part.old }
+        requires fits { WorkerPartFits self.old worker part.old }
         requires shared { IsShared self.old part.old }
         requires free { refused self.old (alone_entry worker part.old) ≡ None }
         requires stores { (line : ℕ) × TellsOther self.old part.old (store_of swap object field value) line }

@@ -2,7 +2,7 @@
 
 ghost use Rattle.std.specs.Prelude.{◌≡◌, ◌==◌, ◌<◌, None};
 ghost use Rattle.leaf_collections.specs.below.run_ledger.{unless_wrong_number, refused_unless, heap_of, left_in, marked_in, sweep_number};
-ghost use Rattle.leaf_collections.specs.below.core_invariant.{refused, Enters, AllFit, accounts};
+ghost use Rattle.leaf_collections.specs.below.core_invariant.{refused, Enters, EachPartStillFits, accounts};
 ghost use Rattle.heap_marking.specs.MarkCauses.{marking_cause};
 ghost use Rattle.entry_calls.specs.Calls.{SweepsHeap};
 
@@ -51,7 +51,7 @@ impl Shared {
         requires room { 0 < self.old.journal.room }
         requires free { refused self.old (record { worker = worker; kind = Kind.Sweep t given }) ≡ None }
         ensures enters { Enters self.old self.new (record { worker = worker; kind = Kind.Sweep t given }) }
-        ensures fits { AllFit self.old self.new }
+        ensures fits { EachPartStillFits self.old self.new }
     {
         self.room = drop_unmarked(&mut self.heaps, t);
         forget_kept(&mut self.heaps.task_slots, t);

@@ -1,5 +1,5 @@
 -- Entries of a part's fresh steps and a last one, as the calls make them.
-use Rattle.step_commit.proofs.Common.{◌≡◌, ℕ, ℤ, suc, ◌+◌, ◌<◌, ◌≤◌, ◌^◌, ◌||◌, ◌&&◌, arith, not, true, Option, Some, None, [], slice_get, is_none, is_some, length, refl, ap, ap₂, sym, subst, ◌∙◌, or_left, ReservedVecValue, Instr, Ret, Line, End, Done, Trapped, MachineState, Task, Trap, ended_by, fetched, step, EntryValue, private_limit, has_no_caller, owns, touched, ran_tells, with_next, Private, FitsSome, IsSafe, some_next, some_safe, Beyond, Prints, Returns, Traps, SharedValue, accounts, IsSharedValue, Fits, is_beyond, is_beyond_by, is_beyond_line, is_joint, refused, steps_now, FinishesAlone, GoesAlone, HaltsAlone, IsShared, Tells, alone_entry, machine_after, then_accounts}
+use Rattle.step_commit.proofs.Common.{◌≡◌, ℕ, ℤ, suc, ◌+◌, ◌<◌, ◌≤◌, ◌^◌, ◌||◌, ◌&&◌, arith, not, true, Option, Some, None, [], slice_get, is_none, is_some, length, refl, ap, ap₂, sym, subst, ◌∙◌, or_left, ReservedVecValue, Instr, Ret, Line, End, Done, Trapped, MachineState, Task, Trap, ended_by, fetched, step, EntryValue, private_limit, has_no_caller, owns, touched, ran_tells, with_next, Private, FitsSome, IsSafe, some_next, some_safe, Beyond, Prints, Returns, Traps, SharedValue, accounts, IsSharedValue, WorkerPartFits, is_beyond, is_beyond_by, is_beyond_line, is_joint, refused, steps_now, FinishesAlone, GoesAlone, HaltsAlone, IsShared, EndingTells, alone_entry, machine_after, then_accounts}
 use Rattle.step_commit.proofs.LastStepEntry as last
 use Rattle.step_commit.proofs.LastStepEntry.{AsksLast, last_entry}
 use Rattle.step_commit.proofs.LastSteps.{entry_is, fits_machine, machine_same}
@@ -9,19 +9,19 @@ use Rattle.step_commit.proofs.RunHalted as halting
 use Rattle.step_commit.proofs.TaskEnds.{has_slot, has_node}
 
 -- a step that traps ends the run so
-pub trap_is : (w : SharedValue) (p : Private) (kind : Trap) (number : ℕ) → Tells w p (Traps kind) number → step w.program (then_accounts w p).machine p.task ≡ ended_by (then_accounts w p).machine (Trapped kind p.task number)
+pub trap_is : (w : SharedValue) (p : Private) (kind : Trap) (number : ℕ) → EndingTells w p (Traps kind) number → step w.program (then_accounts w p).machine p.task ≡ ended_by (then_accounts w p).machine (Trapped kind p.task number)
 trap_is w p kind number T = T.says ∙ ap (λ n. ended_by (then_accounts w p).machine (Trapped kind p.task n)) T.number_is
 
 -- a call asks for an entry of the part's fresh steps and its next one, and nothing refuses it
 pub record AsksAlone (w : SharedValue) (k : ℕ) (p : Private) : Type 0 where
   pub I : IsSharedValue w
-  pub F : Fits w k p
+  pub F : WorkerPartFits w k p
   pub shared : IsShared w p
   pub free : refused w (alone_entry k p) ≡ None
 
 -- by what is known of an equal value
-pub asks_alone : {w after : SharedValue} {k : ℕ} {p : Private} → w ≡ after → IsSharedValue w → Fits after k p → IsShared after p → refused after (alone_entry k p) ≡ None → AsksAlone w k p
-asks_alone {w} {after} {k} {p} same I F shared free = record { I = I; F = subst (λ z. Fits z k p) (sym same) F; shared = subst (λ z. IsShared z p) (sym same) shared; free = subst (λ z. refused z (alone_entry k p) ≡ None) (sym same) free }
+pub asks_alone : {w after : SharedValue} {k : ℕ} {p : Private} → w ≡ after → IsSharedValue w → WorkerPartFits after k p → IsShared after p → refused after (alone_entry k p) ≡ None → AsksAlone w k p
+asks_alone {w} {after} {k} {p} same I F shared free = record { I = I; F = subst (λ z. WorkerPartFits z k p) (sym same) F; shared = subst (λ z. IsShared z p) (sym same) shared; free = subst (λ z. refused z (alone_entry k p) ≡ None) (sym same) free }
 
 module _ {w : SharedValue} {k : ℕ} {p : Private} (asks : AsksAlone w k p) where
   open asks use {I, F, shared, free}
@@ -64,7 +64,7 @@ module _ {w : SharedValue} {k : ℕ} {p : Private} (asks : AsksAlone w k p) wher
   set_there = subst (λ n. p.task < n) (sym I.noted) node_there
 
   -- AN OUTPUT
-  module _ (value : ℤ) (line : ℕ) (T : Tells w p (Prints value) line) (j : ReservedVecValue EntryValue) where
+  module _ (value : ℤ) (line : ℕ) (T : EndingTells w p (Prints value) line) (j : ReservedVecValue EntryValue) where
     pub printed_world : IsSharedValue (output.printed asks_last value line T j)
     printed_world = output.printed_world asks_last value line T j
 
@@ -80,7 +80,7 @@ module _ {w : SharedValue} {k : ℕ} {p : Private} (asks : AsksAlone w k p) wher
     halts_alone = halting.halts_alone asks_last x other is j
 
   -- THE ROOT'S END
-  module _ (line : ℕ) (T : Tells w p Returns line) (root : p.task ≡ 0) (j : ReservedVecValue EntryValue) where
+  module _ (line : ℕ) (T : EndingTells w p Returns line) (root : p.task ≡ 0) (j : ReservedVecValue EntryValue) where
     pub finished_world : IsSharedValue (done.w' asks_last line T root j)
     finished_world = done.done_world asks_last line T root j
 
@@ -96,11 +96,11 @@ module _ {w : SharedValue} {k : ℕ} {p : Private} (asks : AsksAlone w k p) wher
       ap (λ (z : MachineState). is_beyond w.program z p.task) (machine_same w k p I F runs_on)
       ∙ (ap (is_beyond_by w.program m p.task) is ∙ (ap (is_beyond_line m p.task x) next ∙ h))
 
-  pub other_beyond : (line : ℕ) → Tells w p Beyond line → is_beyond w.program (machine_after w p) p.task ≡ true
+  pub other_beyond : (line : ℕ) → EndingTells w p Beyond line → is_beyond w.program (machine_after w p) p.task ≡ true
   other_beyond line T = beyond_line T.task T.line T.is T.next T.says
 
   -- the last return of a task that isn't the root
-  pub child_beyond : (line : ℕ) → Tells w p Returns line → (p.task ≡ 0 → ⊥) → is_beyond w.program (machine_after w p) p.task ≡ true
+  pub child_beyond : (line : ℕ) → EndingTells w p Returns line → (p.task ≡ 0 → ⊥) → is_beyond w.program (machine_after w p) p.task ≡ true
   child_beyond line T ne =
       beyond_line T.task T.line T.is T.next
       (or_left (is_joint T.task T.line.instr) (not (owns m.tasks p.task (touched T.task.top T.line.instr))) (joint T.task T.line.instr T.says.0 T.says.1 (parent T.task T.is)))

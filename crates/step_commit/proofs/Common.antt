@@ -27,7 +27,7 @@ pub use Rattle.core_invariant.proofs.below.task_machine.{some_next, some_safe, o
 pub use Rattle.core_invariant.specs.Again.{KeepsPlaces}
 pub use Rattle.core_invariant.specs.Causes.{first_cause, or_else, task_asked}
 pub use Rattle.core_invariant.specs.Entered.{refused, Enters}
-pub use Rattle.core_invariant.specs.Fits.{Fits, belongings_of_part, part_of}
+pub use Rattle.core_invariant.specs.WorkerPartFits.{WorkerPartFits, belongings_of_part, part_of}
 pub use Rattle.core_invariant.specs.Links.{above_of, FitsFirst}
 pub use Rattle.core_invariant.specs.Measured.{IsMeasured}
 pub use Rattle.core_invariant.specs.Next.{is_beyond, is_beyond_by, is_beyond_line, is_joint, ending, line_asks, next_line, instr_asks, on_own, on_own_cell, unwritten}
@@ -38,15 +38,15 @@ pub use Rattle.core_invariant.specs.below.chunk_pool.{Slot, slot_at}
 pub use Rattle.core_invariant.specs.below.heap_tree.{depth_by, depth_in, through, with_state, Ended}
 pub use Rattle.core_invariant.specs.below.hh_lang.{Instr, Ret, Line, ProgramText, Out, Par, Set, Mov, Movr, Nil, Calc, Same, Jmp, Jz, Newm, Pack, Getr, Geti, Putr, Puti, Cntr, Cnti, Freeze, Cas, Call, Operator}
 pub use Rattle.core_invariant.specs.below.hh_model.{End, Done, Trapped, MachineState, Task, Trap, ended_by, fetched, step, Name, row_of, asked, is_joined, is_over, runs, effect, can_step, follow, goes_on, is_running, is_waiting, parent_of, parents, setting, Running, Frame, Object, Div, Range, Frozen, Size, Depth, Effect, Goes, Calls, calculated, counts_in, int_in, made, onward, or_trap, place_in, put_object, read_effect, ref_in, same_name, unless_frozen, with_int, words_for, entry_frame, frame_limit, last_of, owner_of, returned_to, with_task, object_at, ended_task, last_return, result_of, run, run_from, start, MakesChildren, TasksStay, AreLow, IsForkJoinState, words_asked}
-pub use Rattle.core_invariant.specs.below.leaf_heap.{AreTidy, AreWithin, IsTidy, LeafHeapValue, place_for, with_object_placed, units}
-pub use Rattle.core_invariant.specs.below.ledger_step_laws.{Rests, own, rested, LastStepEndsRun, EndsLast, GoesOn, IsOfKind, LastKind, Reading, Writing, Printing, Forking, Ending, Joining, Finishing, Halting, Knows, RunsPrivateSteps, Splits, ArePrivate, Halts, JustReads, ReadsOther, WritesOther, Wrote, StepsAlone, LastStepPrints}
+pub use Rattle.core_invariant.specs.below.leaf_heap.{AreTidy, CellsFitInChunks, IsTidy, LeafHeapValue, place_for, with_object_placed, units}
+pub use Rattle.core_invariant.specs.below.ledger_step_laws.{Rests, own, rested, LastStepEndsRun, EndsLast, GoesOn, IsOfKind, LastKind, Reading, Writing, Printing, Forking, Ending, Joining, Finishing, Halting, LedgerIsKnown, RunsPrivateSteps, Splits, ArePrivate, Halts, JustReads, ReadsOther, WritesOther, ChangesByWrite, StepsAlone, LastStepPrints}
 pub use Rattle.core_invariant.specs.below.object_layout.{Addr, ChunkValue, chunk_at, no_chunk, words_in, IsObject, Born, Cell, Hole, Mark, Moved, moved_to, size_of, Located, located_by, objects_from, object_of, cell_of, located, LiesThere}
 pub use Rattle.core_invariant.specs.below.plain_vec.{ReservedVecValue, option_is}
-pub use Rattle.core_invariant.specs.below.refinement.{Belongings, In, Lies, Memory, objects, objects_of_chunks, StepsInBelongings, PartFits, with_belongings, BelongingsStand, Place, Stands, BegunBy, HoldsLarge, words, BelongingsAfter, WorkerFits, ahead, StepsTo, Chunk, object_name, BelongingsAreRead, AreLaidOut, AllRead, FrameIsRead, FramesAreRead, HoldsRead, IsModelObject, TaskIsRead, HasNames, handed, EndsBelongings, part_for, EntryMakes, taken_by, Marks, NodeGoes, RanCounts, OthersNotes, StandsFor, as_node}
+pub use Rattle.core_invariant.specs.below.refinement.{Belongings, In, Lies, Memory, objects, objects_of_chunks, StepsInBelongings, PartFits, with_belongings, BelongingsStand, LiesWithOwner, MemoryStands, BegunBy, HoldsLarge, words, BelongingsAfter, WorkerFits, ahead, StepsTo, Chunk, object_name, BelongingsAreRead, AreLaidOut, AllRead, FrameIsRead, FramesAreRead, HoldsRead, IsModelObject, TaskIsRead, ChunksHaveNames, handed, EndsBelongings, part_for, EntryMakes, taken_by, Marks, NodeGoes, RanCounts, OthersNotes, StandsFor, as_node}
 pub use Rattle.core_invariant.specs.below.run_ledger.{has_no_caller, owns, touched, Ledger, heap_of, task_steps, is_private, most_steps, standing, after, long_at, Refused, Collecting, Long, lacks_room, is_due, is_in_need, on_asked, task_step, kind_refusal, refused_if, refused_unless, Heap, or_fresh, is_open, let_go, RunEnd, Machine, NotOut, is_fuel, is_out, AsksAtMost}
 pub use Rattle.core_invariant.specs.below.run_trace.{EntryValue, private_limit, SettingsValue, field_limit, Kind, Took, Begin, PutOff, More, Sweep, Fuel}
 pub use Rattle.core_invariant.specs.below.task_frames.{with_next, FramesValue, int_of, ref_of, CallFrame}
-pub use Rattle.core_invariant.specs.below.task_machine.{Private, FitsSome, IsSafe, HeapMatchesAccount, KeepsAccounts, FitsNow, Places, KeepsRest, Ran, IsShaped, blank, outline_after, outline_by, outline_of, outline_of_cell, outline_of_chunk, steps, Paused, unended, Pauses, PausesBy, RanBy, account_after, account_by, NamesAddress, AreAt, FrameStands, FramesStand, birth_of, Runs}
+pub use Rattle.core_invariant.specs.below.task_machine.{Private, FitsSome, IsSafe, HeapMatchesAccount, KeepsAccounts, FitsNow, Places, KeepsRest, Ran, HeapIsShaped, blank, outline_after, outline_by, outline_of, outline_of_cell, outline_of_chunk, steps, Paused, unended, Pauses, PausesBy, RanBy, account_after, account_by, NamesAddress, AreAt, FrameStands, FramesStand, birth_of, RunsSteps}
 pub use Rattle.core_invariant.specs.below.task_slots.{ParkedTask}
 pub use Rattle.core_invariant.specs.declared.next_step.Ending.TheVariants.{Beyond, Prints, Returns, Traps}
 pub use Rattle.journal_laws.proofs.Asked.{asked_at_line, counts_few}
@@ -59,4 +59,4 @@ pub use Rattle.std.proofs.lemmas.List.{length-map, length-replicate}
 pub use Rattle.std.proofs.lemmas.List.Elements.{All-from_get_or, All-get_or, All-cons, All-head, All-map, All-nil, All-tail, All-weaker}
 pub use Rattle.std.proofs.lemmas.Option.{same_Some}
 pub use Rattle.std.specs.Option.{option_flatten}
-pub use Rattle.step_commit.specs.Alone.{FinishesAlone, GoesAlone, HaltsAlone, IsShared, Tells, alone_entry, machine_after, then_accounts, SaysOf, TellsOf, ended_rest}
+pub use Rattle.step_commit.specs.Alone.{FinishesAlone, GoesAlone, HaltsAlone, IsShared, EndingTells, alone_entry, machine_after, then_accounts, SaysOf, TellsOf, ended_rest}

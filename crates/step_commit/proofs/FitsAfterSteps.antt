@@ -1,11 +1,11 @@
 -- A part that fits the shared value fits it again after private steps.
-use Rattle.step_commit.proofs.Common.{arith, ◌≡◌, ℕ, ◌+◌, ◌-◌, ◌*◌, ◌/◌, ◌≤◌, ◌^◌, not, Some, None, min, ne_eqb, inr, refl, ap, sym, subst, ◌∙◌, All-from_get_or, All-get_or, in_map, Name, Ledger, heap_of, task_steps, Addr, ChunkValue, chunk_at, no_chunk, words_in, IsObject, chunk_there, Slot, slot_at, AreTidy, AreWithin, IsTidy, are_near, Rests, own, rested, rested_worker, Belongings, In, Lies, Memory, objects, objects_of_chunks, StepsInBelongings, PartFits, with_belongings, BelongingsStand, Place, Stands, BegunBy, in_chunk, stepped, at_belongings, off_belongings, aside_is, Private, HeapMatchesAccount, KeepsAccounts, FitsNow as FitsMachine, Places, KeepsRest, Ran, KeepsPlaces, chunk_of, SharedValue, accounts, value_of, IsMeasured, HeapForm, IsSharedValue, Fits, belongings_of_part, part_of, above_of, object_seen, seen_object, Formed, formed_tidy, steady, place_there, run_keeps_places, Runs}
+use Rattle.step_commit.proofs.Common.{arith, ◌≡◌, ℕ, ◌+◌, ◌-◌, ◌*◌, ◌/◌, ◌≤◌, ◌^◌, not, Some, None, min, ne_eqb, inr, refl, ap, sym, subst, ◌∙◌, All-from_get_or, All-get_or, in_map, Name, Ledger, heap_of, task_steps, Addr, ChunkValue, chunk_at, no_chunk, words_in, IsObject, chunk_there, Slot, slot_at, AreTidy, CellsFitInChunks, IsTidy, are_near, Rests, own, rested, rested_worker, Belongings, In, Lies, Memory, objects, objects_of_chunks, StepsInBelongings, PartFits, with_belongings, BelongingsStand, LiesWithOwner, MemoryStands, BegunBy, in_chunk, stepped, at_belongings, off_belongings, aside_is, Private, HeapMatchesAccount, KeepsAccounts, FitsNow as FitsMachine, Places, KeepsRest, Ran, KeepsPlaces, chunk_of, SharedValue, accounts, value_of, IsMeasured, HeapForm, IsSharedValue, WorkerPartFits, belongings_of_part, part_of, above_of, object_seen, seen_object, Formed, formed_tidy, steady, place_there, run_keeps_places, RunsSteps}
 use Rattle.core_invariant.proofs.PartFitsMachine as link
 use Rattle.step_commit.proofs.StepsCounted as run
 use Rattle.step_commit.proofs.FormByOutline.{run_formed}
 use Rattle.step_commit.proofs.PartBelongings.{belongings_read}
 
-module _ (w : SharedValue) (k : ℕ) (p q : Private) (n : ℕ) (I : IsSharedValue w) (F : Fits w k p) (on : (accounts w).end ≡ None) (idle : p.begun ≡ None) (R : Runs w.program p n q) (C : KeepsAccounts w.program p n q) (rest : KeepsRest p q) (few : p.fresh + n ≤ 257) where
+module _ (w : SharedValue) (k : ℕ) (p q : Private) (n : ℕ) (I : IsSharedValue w) (F : WorkerPartFits w k p) (on : (accounts w).end ≡ None) (idle : p.begun ≡ None) (R : RunsSteps w.program p n q) (C : KeepsAccounts w.program p n q) (rest : KeepsRest p q) (few : p.fresh + n ≤ 257) where
   abbrev l : Ledger
   l = accounts w
 
@@ -82,7 +82,7 @@ module _ (w : SharedValue) (k : ℕ) (p q : Private) (n : ℕ) (I : IsSharedValu
   tidy_then : AreTidy q.heap.chunks
   tidy_then = formed_tidy q.heap formed_then
 
-  within_then : AreWithin q.heap.chunks
+  within_then : CellsFitInChunks q.heap.chunks
   within_then = All-from_get_or (λ (x : ChunkValue). words_in x.cells ≤ x.size) q.heap.chunks no_chunk (λ i lt. (formed_then.each i lt).within)
 
   form_then : HeapForm q.heap
@@ -118,7 +118,7 @@ module _ (w : SharedValue) (k : ℕ) (p q : Private) (n : ℕ) (I : IsSharedValu
   owned_then c i = let j = keeps.numbers c i in ap v.owner (sym j.2) ∙ old.owned (chunk_of j.0) (old_chunk j.0 j.1)
 
   -- another's object keeps its address
-  elsewhere : (m : Name) (a : Addr) → (own L' m ≡ t → ⊥) → above m ≡ Some a → Place after L' m a
+  elsewhere : (m : Name) (a : Addr) → (own L' m ≡ t → ⊥) → above m ≡ Some a → LiesWithOwner after L' m a
   elsewhere m a ne e =
       let x = link.above_tells w k p I F on m a e in
       let f = link.found_is (objects v (own l m)) m a x.2 in
@@ -134,7 +134,7 @@ module _ (w : SharedValue) (k : ℕ) (p q : Private) (n : ℕ) (I : IsSharedValu
         here = λ z. subst (λ y. Lies (after.belongings y).chunks m a) (sym same) (subst (λ (h : Belongings). Lies h.chunks m a) (sym (off_belongings v t (belongings_of_part Q) u x.0)) (f.object, f.there, record { name = f.name; at = f.at }));
       }
 
-  stands_then : Stands after L'
+  stands_then : MemoryStands after L'
   stands_then =
       stepped before after L L' t (link.sound w k p I F on) (run.sound_then w k p q n I F on idle R C) (link.W w k p I F on) (run.alone_then w k p q n I F on idle R C)
       (link.at_rest w k p I F on) (rested_worker (task_steps w.program l t (p.fresh + n)) t) (link.idle w k p I F on) at_belongings_then
@@ -146,7 +146,7 @@ module _ (w : SharedValue) (k : ℕ) (p q : Private) (n : ℕ) (I : IsSharedValu
     F.measured.1,
   )
 
-  again : Fits w k Q
+  again : WorkerPartFits w k Q
   again = record {
     out = F.out;
     fits = record {
@@ -166,5 +166,5 @@ module _ (w : SharedValue) (k : ℕ) (p q : Private) (n : ℕ) (I : IsSharedValu
   }
 
   -- THE PART FITS AGAIN
-  pub parts_fit_again : Fits w k q
-  parts_fit_again = subst (Fits w k) (sym q_is) again
+  pub parts_fit_again : WorkerPartFits w k q
+  parts_fit_again = subst (WorkerPartFits w k) (sym q_is) again

@@ -1,5 +1,5 @@
 -- What is known of a heap's chunks follows from its outline, so it stays known when private steps are taken.
-use Rattle.step_commit.proofs.Common.{◌≡◌, ℕ, zero, suc, pos, ◌+◌, ◌-◌, ◌*◌, ◌<◌, ◌≤◌, arith, false, Option, Some, None, List, [], ◌∷◌, length, map, replicate, slice_get, All, inl, inr, refl, ap, sym, subst, ◌∙◌, length-map, length-replicate, All-cons, All-head, All-map, All-nil, All-tail, All-weaker, ProgramText, MachineState, row_of, asked, Born, Cell, Hole, Mark, Moved, moved_to, size_of, chunk_at, ChunkValue, Located, located_by, objects_from, LeafHeapValue, IsTidy, place_for, with_object_placed, units, HoldsLarge, words, Private, IsShaped, blank, outline_after, outline_by, outline_of, outline_of_cell, outline_of_chunk, steps, Places, Ran, outline_at, outline_size, outline_words, outline_apart, outline_current, outline_kept, words_by, chunk_of, Formed, IsFormed, formed_placed, asked_at_line}
+use Rattle.step_commit.proofs.Common.{◌≡◌, ℕ, zero, suc, pos, ◌+◌, ◌-◌, ◌*◌, ◌<◌, ◌≤◌, arith, false, Option, Some, None, List, [], ◌∷◌, length, map, replicate, slice_get, All, inl, inr, refl, ap, sym, subst, ◌∙◌, length-map, length-replicate, All-cons, All-head, All-map, All-nil, All-tail, All-weaker, ProgramText, MachineState, row_of, asked, Born, Cell, Hole, Mark, Moved, moved_to, size_of, chunk_at, ChunkValue, Located, located_by, objects_from, LeafHeapValue, IsTidy, place_for, with_object_placed, units, HoldsLarge, words, Private, HeapIsShaped, blank, outline_after, outline_by, outline_of, outline_of_cell, outline_of_chunk, steps, Places, Ran, outline_at, outline_size, outline_words, outline_apart, outline_current, outline_kept, words_by, chunk_of, Formed, IsFormed, formed_placed, asked_at_line}
 
 -- ---- OBJECTS
 
@@ -107,7 +107,7 @@ formed_outline h F =
           (none_back (chunk_of (chunk_at h.chunks i)).objects (sym (objects_of (chunk_at h.chunks i)) ∙ (ap (λ (k : ChunkValue). (chunk_of k).objects) (sym at) ∙ empty)));
     }
 
-pub formed_from : (h : LeafHeapValue) → IsShaped h → Formed (outline_of h) → Formed h
+pub formed_from : (h : LeafHeapValue) → HeapIsShaped h → Formed (outline_of h) → Formed h
 formed_from h S F =
     let len : length (map outline_of_chunk h.chunks) ≡ length h.chunks = length-map h.chunks outline_of_chunk in
     record {

@@ -1,5 +1,5 @@
 -- An entry of a part's fresh steps and its next one: what is known of the accounts before and after it.
-use Rattle.step_commit.proofs.Common.{◌≡◌, ℕ, suc, ◌+◌, true, false, Option, Some, None, slice_get, is_none, min, inl, inr, refl, ap, ap₂, sym, subst, ◌∙◌, option_flatten, cases_eq, same_Some, none_of, Line, Task, effect, can_step, fetched, follow, goes_on, is_running, is_waiting, parent_of, parents, runs, setting, step, step_taken, EntryValue, Ledger, heap_of, is_private, most_steps, standing, task_steps, after, long_at, entry_tells, task_step_machine, FramesValue, Knows, RunsPrivateSteps, Splits, steps_know, entry_runs, BelongingsAfter, Belongings, Memory, WorkerFits, Private, SharedValue, accounts, value_of, IsMeasured, IsSharedValue, Fits, belongings_of_part, part_of, Enters, refused, part_idle, none_begun, entry_on, still_goes, goes, MakesSteps, ran_to, steps_others, steps_part, steps_world, After, GoesAlone, IsShared, SaysOf, Tells, alone_entry}
+use Rattle.step_commit.proofs.Common.{◌≡◌, ℕ, suc, ◌+◌, true, false, Option, Some, None, slice_get, is_none, min, inl, inr, refl, ap, ap₂, sym, subst, ◌∙◌, option_flatten, cases_eq, same_Some, none_of, Line, Task, effect, can_step, fetched, follow, goes_on, is_running, is_waiting, parent_of, parents, runs, setting, step, step_taken, EntryValue, Ledger, heap_of, is_private, most_steps, standing, task_steps, after, long_at, entry_tells, task_step_machine, FramesValue, LedgerIsKnown, RunsPrivateSteps, Splits, steps_know, entry_runs, BelongingsAfter, Belongings, Memory, WorkerFits, Private, SharedValue, accounts, value_of, IsMeasured, IsSharedValue, WorkerPartFits, belongings_of_part, part_of, Enters, refused, part_idle, none_begun, entry_on, still_goes, goes, MakesSteps, ran_to, steps_others, steps_part, steps_world, After, GoesAlone, IsShared, SaysOf, EndingTells, alone_entry}
 use Rattle.core_invariant.specs.below.run_trace.{Ran}
 use Rattle.core_invariant.specs.declared.next_step.Ending.{Ending}
 use Rattle.core_invariant.proofs.PartFitsMachine as link
@@ -16,7 +16,7 @@ pub last_steps : (w : SharedValue) (p : Private) → w.steps + (p.fresh + 1) ≡
 last_steps w p = ap (λ n. w.steps + n) (sym (one_added p.fresh))
 
 -- they are committed, and the part goes on with other frames
-pub goes_alone : {w w' : SharedValue} {k : ℕ} {p : Private} (I : IsSharedValue w) (F : Fits w k p) (free : refused w (last_entry k p) ≡ None) (M : MakesSteps w w' k p p.fresh) (frames : FramesValue) → w'.tasks_out ≡ w.tasks_out → w'.end ≡ w.end → w'.pool ≡ w.pool
+pub goes_alone : {w w' : SharedValue} {k : ℕ} {p : Private} (I : IsSharedValue w) (F : WorkerPartFits w k p) (free : refused w (last_entry k p) ≡ None) (M : MakesSteps w w' k p p.fresh) (frames : FramesValue) → w'.tasks_out ≡ w.tasks_out → w'.end ≡ w.end → w'.pool ≡ w.pool
     → BelongingsAfter w.program (value_of w) (value_of w') (task_steps w.program (accounts w) p.task p.fresh) (ran_to w k p (suc p.fresh)) p.task (belongings_of_part p) M.runs.splits.task M.runs.splits.line M.runs.splits.kind M.runs.splits.last M.makes (belongings_of_part (record p { frames = frames; fresh = 0 }))
     → GoesAlone w w' k p (record p { frames = frames; fresh = 0 })
 goes_alone {w} {w'} {k} {p} I F free M frames out end pool read = record {
@@ -30,7 +30,7 @@ goes_alone {w} {w'} {k} {p} I F free M frames out end pool read = record {
 -- a call asks for an entry of the part's fresh steps and its next one, which isn't private, and nothing refuses it
 pub record AsksLast (w : SharedValue) (k : ℕ) (p : Private) : Type 0 where
   pub I : IsSharedValue w
-  pub F : Fits w k p
+  pub F : WorkerPartFits w k p
   pub shared : IsShared w p
   pub free : refused w (last_entry k p) ≡ None
 
@@ -79,7 +79,7 @@ module _ {w : SharedValue} {k : ℕ} {p : Private} (asks : AsksLast w k p) where
   pub A : After l M t F.fits.task
   A = link.A w k p I F on
 
-  pub knows_mid : Knows M
+  pub knows_mid : LedgerIsKnown M
   knows_mid = steps_know w.program w.settings t p.fresh l runs_so.task runs_so.knows (inr runs_so.collects) runs_so.at runs_so.runs runs_so.can S.private
 
   pub mid_goes : M.machine.end ≡ None
@@ -92,7 +92,7 @@ module _ {w : SharedValue} {k : ℕ} {p : Private} (asks : AsksLast w k p) where
   idle = part_idle w k p F on
 
   -- what is known of the next step in the machine
-  pub said : (ending : Ending) (number : ℕ) → Tells w p ending number → (S.line.number ≡ number) × SaysOf w.program M.machine t S.task S.line ending
+  pub said : (ending : Ending) (number : ℕ) → EndingTells w p ending number → (S.line.number ≡ number) × SaysOf w.program M.machine t S.task S.line ending
   said ending number T =
       let task : T.task ≡ S.task = same_Some T.task S.task (sym T.is ∙ S.at.task) in
       let line : T.line ≡ S.line = same_Some T.line S.line (sym T.next ∙ (ap (λ (x : Task). fetched_of x) task ∙ S.at.next)) in (

@@ -1,5 +1,5 @@
 -- A part whose next step isn't private, before the run's end: what that step does, and how an entry with it splits.
-use Rattle.step_commit.proofs.Common.{◌≡◌, ℕ, zero, suc, ◌+◌, ◌≤◌, ◌||◌, arith, true, false, cond, min, nat_le, Option, Some, None, is_some, refl, ap, ap₂, sym, subst, ◌∙◌, le-leb, cond-false, cond-true, none_of, Line, ProgramText, MachineState, asked, fetched, EntryValue, private_limit, SettingsValue, Ledger, Refused, Collecting, Long, heap_of, lacks_room, is_due, is_in_need, is_private, most_steps, on_asked, standing, task_step, task_steps, kind_refusal, refused_if, refused_unless, ArePrivate, ahead, aside_is, Private, FitsNow as FitsMachine, Places, has_line, same_line, SharedValue, accounts, value_of, IsSharedValue, Fits, part_of, above_of, ending, line_asks, next_line, first_cause, or_else, refused, asks_is, at_part, end_now, fits_now, refused_is, end_by, goes, IsShared, Tells, alone_entry, machine_after}
+use Rattle.step_commit.proofs.Common.{◌≡◌, ℕ, zero, suc, ◌+◌, ◌≤◌, ◌||◌, arith, true, false, cond, min, nat_le, Option, Some, None, is_some, refl, ap, ap₂, sym, subst, ◌∙◌, le-leb, cond-false, cond-true, none_of, Line, ProgramText, MachineState, asked, fetched, EntryValue, private_limit, SettingsValue, Ledger, Refused, Collecting, Long, heap_of, lacks_room, is_due, is_in_need, is_private, most_steps, on_asked, standing, task_step, task_steps, kind_refusal, refused_if, refused_unless, ArePrivate, ahead, aside_is, Private, FitsNow as FitsMachine, Places, has_line, same_line, SharedValue, accounts, value_of, IsSharedValue, WorkerPartFits, part_of, above_of, ending, line_asks, next_line, first_cause, or_else, refused, asks_is, at_part, end_now, fits_now, refused_is, end_by, goes, IsShared, EndingTells, alone_entry, machine_after}
 use Rattle.core_invariant.specs.below.run_trace.{Ran}
 use Rattle.core_invariant.proofs.PartFitsMachine as link
 use Rattle.step_commit.proofs.NextStepEnds.{asks_none, ending_tells}
@@ -15,7 +15,7 @@ standing_last p s t (suc k) l h due need shared =
     ∙ (cond-true (is_private p l.machine t) (suc (standing s p (task_step p l t) t (suc k))) 1 h.2 ∙ ap suc (standing_last p s t k (task_step p l t) h.3 due need shared))
 
 -- BEFORE ITS NEXT STEP
-module _ (w : SharedValue) (k : ℕ) (p : Private) (I : IsSharedValue w) (F : Fits w k p) (on : (accounts w).end ≡ None) where
+module _ (w : SharedValue) (k : ℕ) (p : Private) (I : IsSharedValue w) (F : WorkerPartFits w k p) (on : (accounts w).end ≡ None) where
   pub fits_machine : FitsMachine w.program p (task_steps w.program (accounts w) p.task p.fresh).machine (above_of (value_of w) (accounts w) p.task)
   fits_machine = subst (λ (m : MachineState). FitsMachine w.program p m (above_of (value_of w) (accounts w) p.task)) (link.machine_is w k p I F on) (link.first_fits w k p I F on)
 
@@ -23,7 +23,7 @@ module _ (w : SharedValue) (k : ℕ) (p : Private) (I : IsSharedValue w) (F : Fi
   pub machine_same : machine_after w p ≡ (task_steps w.program (accounts w) p.task p.fresh).machine
   machine_same = ap (λ (z : Ledger). (ahead w.program (part_of w.settings p) z).machine) (aside_is (accounts w) (goes w k p I F on)) ∙ link.machine_is w k p I F on
 
-module _ (w : SharedValue) (k : ℕ) (p : Private) (I : IsSharedValue w) (F : Fits w k p) (shared : IsShared w p) (on : (accounts w).end ≡ None) where
+module _ (w : SharedValue) (k : ℕ) (p : Private) (I : IsSharedValue w) (F : WorkerPartFits w k p) (shared : IsShared w p) (on : (accounts w).end ≡ None) where
   abbrev t : ℕ
   t = p.task
 
@@ -46,7 +46,7 @@ module _ (w : SharedValue) (k : ℕ) (p : Private) (I : IsSharedValue w) (F : Fi
   line_is_fetched : (line : Line) → next_line w.program p ≡ Some line → fetched w.program (fits_machine w k p I F on).task.top ≡ Some line
   line_is_fetched line e = sym (same_line w.program p M.machine above (fits_machine w k p I F on)) ∙ e
 
-  pub tells : (line : Line) → next_line w.program p ≡ Some line → Tells w p (ending p line.instr) line.number
+  pub tells : (line : Line) → next_line w.program p ≡ Some line → EndingTells w p (ending p line.instr) line.number
   tells line e = ending_tells w.program p M.machine above (fits_machine w k p I F on) line (line_is_fetched line e) shared_now
 
   asks : asked w.program M.machine t ≡ None
@@ -84,7 +84,7 @@ else_same : (o rest other : Option Refused) → (o ≡ None → rest ≡ other) 
 else_same None rest other h = h refl
 else_same (Some c) rest other h = refl
 
-pub alone_answer : (w : SharedValue) (k : ℕ) (p : Private) → IsSharedValue w → Fits w k p → IsShared w p → refused w (alone_entry k p) ≡ or_else (first_cause w.end w.steps w.settings k false) (refused_if (is_some p.begun) Collecting None)
+pub alone_answer : (w : SharedValue) (k : ℕ) (p : Private) → IsSharedValue w → WorkerPartFits w k p → IsShared w p → refused w (alone_entry k p) ≡ or_else (first_cause w.end w.steps w.settings k false) (refused_if (is_some p.begun) Collecting None)
 alone_answer w k p I F shared =
     ap (refused w) (entry_is k p)
     ∙ (refused_is w I (record { worker = k; kind = Ran p.task (suc p.fresh) })
@@ -92,6 +92,6 @@ alone_answer w k p I F shared =
     (λ h. last_kind w k p I F shared (sym (end_now w I) ∙ none_of w.end (end_by (is_some w.end) _ _ _ _ _ h))))
 
 -- after the causes that come first nothing refuses it
-pub alone_free : (w : SharedValue) (k : ℕ) (p : Private) → IsSharedValue w → Fits w k p → IsShared w p → p.begun ≡ None → first_cause w.end w.steps w.settings k false ≡ None → refused w (alone_entry k p) ≡ None
+pub alone_free : (w : SharedValue) (k : ℕ) (p : Private) → IsSharedValue w → WorkerPartFits w k p → IsShared w p → p.begun ≡ None → first_cause w.end w.steps w.settings k false ≡ None → refused w (alone_entry k p) ≡ None
 alone_free w k p I F shared idle first =
     alone_answer w k p I F shared ∙ (ap (λ o. or_else o (refused_if (is_some p.begun) Collecting None)) first ∙ ap (λ o. refused_if (is_some o) Collecting None) idle)

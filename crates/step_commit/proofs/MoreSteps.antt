@@ -1,17 +1,17 @@
 -- A part after private steps, of which some may be fresh already: it fits again, and its next step is described in
 -- terms of the machine.
-use Rattle.step_commit.proofs.Common.{◌≡◌, ℕ, ◌+◌, ◌≤◌, None, refl, ap, sym, subst, ◌∙◌, ProgramText, MachineState, Private, Paused, KeepsAccounts, unended, steps, KeepsRest, Pauses, PausesBy, Ran, steps_more, SharedValue, accounts, value_of, IsSharedValue, Fits, FitsFirst, above_of, beyond_machine, machine_after, Runs}
+use Rattle.step_commit.proofs.Common.{◌≡◌, ℕ, ◌+◌, ◌≤◌, None, refl, ap, sym, subst, ◌∙◌, ProgramText, MachineState, Private, Paused, KeepsAccounts, unended, steps, KeepsRest, Pauses, PausesBy, Ran, steps_more, SharedValue, accounts, value_of, IsSharedValue, WorkerPartFits, FitsFirst, above_of, beyond_machine, machine_after, RunsSteps}
 use Rattle.step_commit.proofs.FitsAfterSteps.{parts_fit_again}
 
-module _ (w : SharedValue) (text : ProgramText) (same : w.program ≡ text) (k : ℕ) (I : IsSharedValue w) (old new : Private) (fits : Fits w k old) (on : (accounts w).end ≡ None) (F : FitsFirst w old) (idle : old.begun ≡ None) (n : ℕ) (runs : Runs text old n new)
+module _ (w : SharedValue) (text : ProgramText) (same : w.program ≡ text) (k : ℕ) (I : IsSharedValue w) (old new : Private) (fits : WorkerPartFits w k old) (on : (accounts w).end ≡ None) (F : FitsFirst w old) (idle : old.begun ≡ None) (n : ℕ) (runs : RunsSteps text old n new)
     (accounts_kept : KeepsAccounts text old n new) (rest : KeepsRest old new) (few : old.fresh + n ≤ 257) where
-  R : Runs w.program old n new
-  R = subst (λ (p : ProgramText). Runs p old n new) (sym same) runs
+  R : RunsSteps w.program old n new
+  R = subst (λ (p : ProgramText). RunsSteps p old n new) (sym same) runs
 
   pub ran : Ran w.program old (machine_after w old) (above_of (value_of w) (accounts w) old.task) n new
   ran = R (machine_after w old) _ F
 
-  pub fits_on : Fits w k new
+  pub fits_on : WorkerPartFits w k new
   fits_on = parts_fit_again w k old new n I fits on idle R (subst (λ (p : ProgramText). KeepsAccounts p old n new) (sym same) accounts_kept) rest few
 
   pub few_more : new.allocations ≤ old.allocations + n

@@ -1,5 +1,5 @@
 -- A part's next private steps, in the accounts: they are private there, neither due nor in need, and the heap follows.
-use Rattle.step_commit.proofs.Common.{◌≡◌, ℕ, zero, suc, ◌+◌, ◌<◌, ◌≤◌, ◌^◌, arith, true, false, Some, None, slice_get, nat_le, refl, ap, ap₂, sym, subst, ◌∙◌, ProgramText, Running, Task, MachineState, asked, step, SettingsValue, Heap, Ledger, heap_of, or_fresh, lacks_room, is_due, is_in_need, is_private, on_asked, task_step, task_steps, task_step_machine, steps_last, ArePrivate, Private, HeapMatchesAccount, KeepsAccounts, RanBy, account_after, account_by, FitsNow as FitsMachine, steps, Places, Ran, allocated_account, After, after_none, after_both, after_one, step_is, Runs}
+use Rattle.step_commit.proofs.Common.{◌≡◌, ℕ, zero, suc, ◌+◌, ◌<◌, ◌≤◌, ◌^◌, arith, true, false, Some, None, slice_get, nat_le, refl, ap, ap₂, sym, subst, ◌∙◌, ProgramText, Running, Task, MachineState, asked, step, SettingsValue, Heap, Ledger, heap_of, or_fresh, lacks_room, is_due, is_in_need, is_private, on_asked, task_step, task_steps, task_step_machine, steps_last, ArePrivate, Private, HeapMatchesAccount, KeepsAccounts, RanBy, account_after, account_by, FitsNow as FitsMachine, steps, Places, Ran, allocated_account, After, after_none, after_both, after_one, step_is, RunsSteps}
 
 module _ (p : ProgramText) (s : SettingsValue) (t : ℕ) where
   pub private_more : (n k : ℕ) (l : Ledger) → ArePrivate p s l t n → ArePrivate p s (task_steps p l t n) t k → ArePrivate p s l t (n + k)
@@ -48,7 +48,7 @@ module _ (p : ProgramText) (s : SettingsValue) (t : ℕ) where
 
 -- WHAT A RUN OF A PART ENSURES, in accounts whose machine the part fitted: the steps are private there, neither due nor
 -- in need, the part's heap is as its account says afterwards, and the part fits the machine
-module _ (p : ProgramText) (s : SettingsValue) (old new : Private) (k : ℕ) (R : Runs p old k new) (C : KeepsAccounts p old k new) (leaf : old.leaf_limit ≡ s.leaf) (small : old.leaf_limit < 2 ^ 64)
+module _ (p : ProgramText) (s : SettingsValue) (old new : Private) (k : ℕ) (R : RunsSteps p old k new) (C : KeepsAccounts p old k new) (leaf : old.leaf_limit ≡ s.leaf) (small : old.leaf_limit < 2 ^ 64)
     (l : Ledger) (x : Task) (h : Heap) (going : l.machine.end ≡ None) (is : slice_get l.machine.tasks old.task ≡ Some x) (run : x.status ≡ Running) (there : slice_get l.heaps old.task ≡ Some h)
     (above : Places) (F : FitsMachine p old l.machine above) (counts : HeapMatchesAccount old.heap h) where
   A : Ran p old l.machine above k new

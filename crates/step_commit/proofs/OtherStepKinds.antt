@@ -1,10 +1,10 @@
 -- The kind of a last step that works on an object of another task, by the machine after it.
-use Rattle.step_commit.proofs.Common.{◌≡◌, ◌⊎◌, ℕ, true, false, Option, Some, None, length, slice_get, inl, inr, ap, sym, subst, ◌∙◌, option_flatten, both_ways, false≢true, same_Some, none_some, Instr, Putr, Puti, Cas, Line, ProgramText, End, Done, Frame, Name, Object, MachineState, Task, int_in, object_at, place_in, ref_in, same_name, ended_by, runs, running_tells, Ledger, let_go, is_private, touched, heap_machine, GoesOn, Halts, IsOfKind, JustReads, LastKind, ReadsOther, WritesOther, Wrote, Reading, Writing, Printing, Forking, Ending, Joining, Finishing, Halting}
+use Rattle.step_commit.proofs.Common.{◌≡◌, ◌⊎◌, ℕ, true, false, Option, Some, None, length, slice_get, inl, inr, ap, sym, subst, ◌∙◌, option_flatten, both_ways, false≢true, same_Some, none_some, Instr, Putr, Puti, Cas, Line, ProgramText, End, Done, Frame, Name, Object, MachineState, Task, int_in, object_at, place_in, ref_in, same_name, ended_by, runs, running_tells, Ledger, let_go, is_private, touched, heap_machine, GoesOn, Halts, IsOfKind, JustReads, LastKind, ReadsOther, WritesOther, ChangesByWrite, Reading, Writing, Printing, Forking, Ending, Joining, Finishing, Halting}
 use Rattle.core_invariant.specs.below.ledger_step_laws.{Private}
 use Rattle.step_commit.proofs.LastKinds.{joined_not}
 
 -- an instruction that only reads doesn't write
-reads_or_writes : {A : Type 0} (x : Task) (i : Instr) (y y' y'' : Object) (f f' : Frame) → JustReads x i y f → Wrote x i y' y'' f' → y ≡ y' → A
+reads_or_writes : {A : Type 0} (x : Task) (i : Instr) (y y' y'' : Object) (f f' : Frame) → JustReads x i y f → ChangesByWrite x i y' y'' f' → y ≡ y' → A
 reads_or_writes x (Putr o k v) y y' y'' f f' r w e = absurd r
 reads_or_writes x (Puti o k v) y y' y'' f f' r w e = absurd r
 reads_or_writes x (Cas d o k v b) y y' y'' f f' r w e =

@@ -1,5 +1,5 @@
 -- An output is committed.
-use Rattle.step_commit.proofs.Common.{◌≡◌, ℕ, ℤ, ◌+◌, ◌++◌, true, Some, None, [], ◌∷◌, slice_get, slice_set, refl, ap, sym, ◌∙◌, got_same, ReservedVecValue, Instr, Out, MachineState, Task, effect, int_in, onward, follow, runs, setting, EntryValue, with_next, Printing, RunsPrivateSteps, StepsTo, numbers_go, Private, Prints as PrintsOf, SharedValue, IsSharedValue, belongings_of_part, same_form, MakesSteps, steps_world, all_kept, GoesAlone, Tells, alone_entry, LastStepPrints}
+use Rattle.step_commit.proofs.Common.{◌≡◌, ℕ, ℤ, ◌+◌, ◌++◌, true, Some, None, [], ◌∷◌, slice_get, slice_set, refl, ap, sym, ◌∙◌, got_same, ReservedVecValue, Instr, Out, MachineState, Task, effect, int_in, onward, follow, runs, setting, EntryValue, with_next, Printing, RunsPrivateSteps, StepsTo, numbers_go, Private, Prints as PrintsOf, SharedValue, IsSharedValue, belongings_of_part, same_form, MakesSteps, steps_world, all_kept, GoesAlone, EndingTells, alone_entry, LastStepPrints}
 use Rattle.step_commit.proofs.LastKinds.{prints}
 use Rattle.step_commit.proofs.LastStepEntry as last
 use Rattle.step_commit.proofs.LastStepEntry.{AsksLast, goes_alone, last_enters, last_steps}
@@ -8,7 +8,7 @@ abbrev register_of : Instr → ℕ
 register_of (Out a) = a
 register_of _ = 0
 
-module _ {w : SharedValue} {k : ℕ} {p : Private} (asks : AsksLast w k p) (value : ℤ) (number : ℕ) (T : Tells w p (PrintsOf value) number) where
+module _ {w : SharedValue} {k : ℕ} {p : Private} (asks : AsksLast w k p) (value : ℤ) (number : ℕ) (T : EndingTells w p (PrintsOf value) number) where
   open asks use {I, F, free}
   open (last.names asks) use {t, l, M, L, v, h, S}
 

@@ -1,6 +1,6 @@
 -- The belongings of a part that fits the machine, and whose heap is as its account says, are read by their addresses in
 -- a value.
-use Rattle.step_commit.proofs.Common.{◌≡◌, ℕ, ◌-◌, ◌<◌, ◌^◌, arith, Option, Some, None, List, [], ◌∷◌, min, slice_get, inl, inr, refl, ap, ap₂, sym, subst, ◌∙◌, cases_eq, same_Some, ProgramText, Frame as ModelFrame, Name, Object, Task, object_at, runs_is, Heap, Ledger, heap_of, Addr, Born, cell_of, ChunkValue, Located, located, LiesThere, CallFrame, own, Chunk, Belongings, In, Lies, Memory, object_name, objects, objects_of_chunks, BelongingsAreRead, AreLaidOut, AllRead, FrameIsRead, FramesAreRead, HoldsRead, IsModelObject, TaskIsRead, HasNames, BelongingsStand, Place, in_chunk, Private, HeapMatchesAccount, FitsNow as FitsMachine, AreAt, FrameStands, FramesStand, Places, birth_of, chunks_of, belongings_of_part, object_seen, seen_object, large_are, small_names, Formed, content_of, inside_from, laid_from}
+use Rattle.step_commit.proofs.Common.{◌≡◌, ℕ, ◌-◌, ◌<◌, ◌^◌, arith, Option, Some, None, List, [], ◌∷◌, min, slice_get, inl, inr, refl, ap, ap₂, sym, subst, ◌∙◌, cases_eq, same_Some, ProgramText, Frame as ModelFrame, Name, Object, Task, object_at, runs_is, Heap, Ledger, heap_of, Addr, Born, cell_of, ChunkValue, Located, located, LiesThere, CallFrame, own, Chunk, Belongings, In, Lies, Memory, object_name, objects, objects_of_chunks, BelongingsAreRead, AreLaidOut, AllRead, FrameIsRead, FramesAreRead, HoldsRead, IsModelObject, TaskIsRead, ChunksHaveNames, BelongingsStand, LiesWithOwner, in_chunk, Private, HeapMatchesAccount, FitsNow as FitsMachine, AreAt, FrameStands, FramesStand, Places, birth_of, chunks_of, belongings_of_part, object_seen, seen_object, large_are, small_names, Formed, content_of, inside_from, laid_from}
 
 -- ---- REFERENCES
 
@@ -27,7 +27,7 @@ module _ (place : Places) (at : Name → Addr → Type 0) (lies : (n : Name) (a 
 
 module _ (program : ProgramText) (q : Private) (L : Ledger) (above : Places) (G : FitsMachine program q L.machine above) (F : Formed q.heap) (C : HeapMatchesAccount q.heap (heap_of L q.task)) (few : (heap_of L q.task).since < 2 ^ 64)
     (v : Memory) (here : v.belongings q.task ≡ belongings_of_part q) (owned : (k : ChunkValue) → In q.heap.chunks k → v.owner k.number ≡ Some q.task)
-    (elsewhere : (n : Name) (a : Addr) → (own L n ≡ q.task → ⊥) → above n ≡ Some a → Place v L n a) where
+    (elsewhere : (n : Name) (a : Addr) → (own L n ≡ q.task → ⊥) → above n ≡ Some a → LiesWithOwner v L n a) where
   abbrev t : ℕ
   t = q.task
 
@@ -72,7 +72,7 @@ module _ (program : ProgramText) (q : Private) (L : Ledger) (above : Places) (G 
 
   belongings_then : BelongingsStand v L t
   belongings_then = record {
-    names = subst (λ cs. HasNames cs a_t) (sym belongings_chunks) (record { small = small_names cells ∙ C.chunks; large = large_are cells ∙ C.large });
+    names = subst (λ cs. ChunksHaveNames cs a_t) (sym belongings_chunks) (record { small = small_names cells ∙ C.chunks; large = large_are cells ∙ C.large });
     room = ap (λ (h : Belongings). h.room) here ∙ C.room;
     since = ap (λ (h : Belongings). h.since) here ∙ (C.since ∙ (let e : min a_t.since (2 ^ 64 - 1) ≡ a_t.since = omega (arith, few) in e));
     count = λ live. ap (λ (h : Belongings). h.count) here ∙ G.count;
@@ -85,7 +85,7 @@ module _ (program : ProgramText) (q : Private) (L : Ledger) (above : Places) (G 
 
   -- ---- ADDRESSES
 
-  own_place : (n : Name) (a : Addr) → own L n ≡ t → G.place n ≡ Some a → Place v L n a
+  own_place : (n : Name) (a : Addr) → own L n ≡ t → G.place n ≡ Some a → LiesWithOwner v L n a
   own_place n a mine e =
       let i : In (objects_of_chunks ks) (located a.chunk a.offset (birth_of n) (cell_of cells a)) = object_seen cells a (birth_of n) (G.heap.own n a mine e) in
       let c = in_chunk ks _ i in
@@ -94,23 +94,23 @@ module _ (program : ProgramText) (q : Private) (L : Ledger) (above : Places) (G 
         here = λ r. subst (λ u. Lies (v.belongings u).chunks n a) (sym mine) (subst (λ cs. Lies cs n a) (sym belongings_chunks) (located a.chunk a.offset (birth_of n) (cell_of cells a), i, record { name = refl; at = refl }));
       }
 
-  lies : (n : Name) (a : Addr) → G.place n ≡ Some a → Place v L n a
+  lies : (n : Name) (a : Addr) → G.place n ≡ Some a → LiesWithOwner v L n a
   lies n a e = elim (cases_eq (own L n) t) [ inl mine ↦ own_place n a mine e | inr ne ↦ elsewhere n a ne (sym (G.heap.others n ne) ∙ e) ]
 
-  content : (o : Located) → In (objects v t) o → (x : Object) × (object_at L.machine.store (object_name o) ≡ Some x) × IsModelObject (Place v L) o x
+  content : (o : Located) → In (objects v t) o → (x : Object) × (object_at L.machine.store (object_name o) ≡ Some x) × IsModelObject (LiesWithOwner v L) o x
   content o i =
       let y = lying o (in_part o i) in
       let O = G.heap.objects o.at o.birth y.mark in
-      subst (λ (z : Located). (x : Object) × (object_at L.machine.store (object_name z) ≡ Some x) × IsModelObject (Place v L) z x) (sym y.is)
-      (O.object, O.is, record { mutable = O.stands.mutable; refs = refs_read G.place (Place v L) lies O.object.refs (cell_of cells o.at).refs O.stands.refs; ints = O.stands.ints })
+      subst (λ (z : Located). (x : Object) × (object_at L.machine.store (object_name z) ≡ Some x) × IsModelObject (LiesWithOwner v L) z x) (sym y.is)
+      (O.object, O.is, record { mutable = O.stands.mutable; refs = refs_read G.place (LiesWithOwner v L) lies O.object.refs (cell_of cells o.at).refs O.stands.refs; ints = O.stands.ints })
 
-  task_then : (x : Task) → slice_get L.machine.tasks t ≡ Some x → TaskIsRead (Place v L) (v.belongings t) x
+  task_then : (x : Task) → slice_get L.machine.tasks t ≡ Some x → TaskIsRead (LiesWithOwner v L) (v.belongings t) x
   task_then x e =
       let same : G.task ≡ x = same_Some G.task x (sym G.is ∙ e) in
-      let read : FramesAreRead (Place v L) (belongings_of_part q).frames (G.task.top ∷ G.task.below) =
-      (frame_read G.place (Place v L) lies G.task.top q.frames.top G.stack.top, frames_read G.place (Place v L) lies G.task.below q.frames.below G.stack.below) in
-      subst (TaskIsRead (Place v L) (v.belongings t)) same
-      (subst (HoldsRead (Place v L) (v.belongings t) G.task) (sym (runs_is G.task.status G.running)) (subst (λ (z : Belongings). FramesAreRead (Place v L) z.frames (G.task.top ∷ G.task.below)) (sym here) read))
+      let read : FramesAreRead (LiesWithOwner v L) (belongings_of_part q).frames (G.task.top ∷ G.task.below) =
+      (frame_read G.place (LiesWithOwner v L) lies G.task.top q.frames.top G.stack.top, frames_read G.place (LiesWithOwner v L) lies G.task.below q.frames.below G.stack.below) in
+      subst (TaskIsRead (LiesWithOwner v L) (v.belongings t)) same
+      (subst (HoldsRead (LiesWithOwner v L) (v.belongings t) G.task) (sym (runs_is G.task.status G.running)) (subst (λ (z : Belongings). FramesAreRead (LiesWithOwner v L) z.frames (G.task.top ∷ G.task.below)) (sym here) read))
 
   pub belongings_read : BelongingsAreRead v L t
   belongings_read = record { belongings = belongings_then; contents = content; task = task_then }

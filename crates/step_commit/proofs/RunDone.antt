@@ -1,5 +1,5 @@
 -- The root's last frame returns, and the run is done: the root is returned.
-use Rattle.step_commit.proofs.Common.{◌≡◌, ℕ, ◌<◌, arith, Option, Some, None, List, [], slice_get, refl, ap, sym, subst, ◌∙◌, got_same, ReservedVecValue, Instr, Ret, Done, Frame, MachineState, Task, effect, ended_by, ended_task, follow, last_of, last_return, parent_of, result_of, returned_to, runs, setting, with_task, EntryValue, Ledger, RunEnd, Machine, Rests, LastStepEndsRun, Finishing, RunsPrivateSteps, handed, done_returns_all, Private, Returns, SharedValue, IsSharedValue, end_now, accounts_are, MakesSteps, steps_others, steps_world, lets_go, FinishesAlone, Tells}
+use Rattle.step_commit.proofs.Common.{◌≡◌, ℕ, ◌<◌, arith, Option, Some, None, List, [], slice_get, refl, ap, sym, subst, ◌∙◌, got_same, ReservedVecValue, Instr, Ret, Done, Frame, MachineState, Task, effect, ended_by, ended_task, follow, last_of, last_return, parent_of, result_of, returned_to, runs, setting, with_task, EntryValue, Ledger, RunEnd, Machine, Rests, LastStepEndsRun, Finishing, RunsPrivateSteps, handed, done_returns_all, Private, Returns, SharedValue, IsSharedValue, end_now, accounts_are, MakesSteps, steps_others, steps_world, lets_go, FinishesAlone, EndingTells}
 use Rattle.step_commit.proofs.LastKinds.{done}
 use Rattle.step_commit.proofs.LastStepEntry as last
 use Rattle.step_commit.proofs.LastStepEntry.{AsksLast, last_entry, last_steps}
@@ -9,7 +9,7 @@ no_parent : (par : ℕ → Option ℕ) → ((t p : ℕ) → par t ≡ Some p →
 no_parent par low t z None e = refl
 no_parent par low t z (Some q) e = let lt : q < t = low t q e in absurd (omega (arith, z, lt))
 
-module _ {w : SharedValue} {k : ℕ} {p : Private} (asks : AsksLast w k p) (number : ℕ) (T : Tells w p Returns number) (root : p.task ≡ 0) where
+module _ {w : SharedValue} {k : ℕ} {p : Private} (asks : AsksLast w k p) (number : ℕ) (T : EndingTells w p Returns number) (root : p.task ≡ 0) where
   open asks use {I, F, free}
   open (last.names asks) use {t, l, M, L, S}
 

@@ -1,5 +1,5 @@
 -- The accounts after a part's private steps, and the counts of its heap.
-use Rattle.step_commit.proofs.Common.{arith, ◌≡◌, ℕ, ◌+◌, ◌<◌, ◌≤◌, ◌^◌, Bool, Option, Some, None, List, slice_get, refl, ap, sym, subst, ◌∙◌, Name, MachineState, Running, field_limit, Heap, Ledger, heap_of, let_go, or_fresh, task_steps, SoundLedger, heap_machine, task_steps_more, task_steps_sound, limit_small, LeafHeapValue as HeapOfCode, ArePrivate, StepsAlone, own, rested, heap_then, rested_alone, steps_alone_all, with_at, rested_sound, rested_view, alone_along, alone_back, Memory, Private, HeapMatchesAccount, KeepsAccounts, RanBy, account_after, FitsNow as FitsMachine, steps, Places, Ran, SharedValue, accounts, value_of, IsSharedValue, Fits, above_of, account_idle, steady, packs_few, status, After, hold_same, Runs}
+use Rattle.step_commit.proofs.Common.{arith, ◌≡◌, ℕ, ◌+◌, ◌<◌, ◌≤◌, ◌^◌, Bool, Option, Some, None, List, slice_get, refl, ap, sym, subst, ◌∙◌, Name, MachineState, Running, field_limit, Heap, Ledger, heap_of, let_go, or_fresh, task_steps, SoundLedger, heap_machine, task_steps_more, task_steps_sound, limit_small, LeafHeapValue as HeapOfCode, ArePrivate, StepsAlone, own, rested, heap_then, rested_alone, steps_alone_all, with_at, rested_sound, rested_view, alone_along, alone_back, Memory, Private, HeapMatchesAccount, KeepsAccounts, RanBy, account_after, FitsNow as FitsMachine, steps, Places, Ran, SharedValue, accounts, value_of, IsSharedValue, WorkerPartFits, above_of, account_idle, steady, packs_few, status, After, hold_same, RunsSteps}
 use Rattle.core_invariant.proofs.NextStepAsks as ask
 use Rattle.core_invariant.proofs.PartFitsMachine as link
 use Rattle.step_commit.proofs.WordsFew.{asks_few, since_after}
@@ -22,7 +22,7 @@ heap_rested l t a e = ap or_fresh (with_at l t let_go ∙ ap (heap_then let_go) 
 
 -- ---- THE PART
 
-module _ (w : SharedValue) (k : ℕ) (p q : Private) (n : ℕ) (I : IsSharedValue w) (F : Fits w k p) (on : (accounts w).end ≡ None) (idle : p.begun ≡ None) (R : Runs w.program p n q) (C : KeepsAccounts w.program p n q) where
+module _ (w : SharedValue) (k : ℕ) (p q : Private) (n : ℕ) (I : IsSharedValue w) (F : WorkerPartFits w k p) (on : (accounts w).end ≡ None) (idle : p.begun ≡ None) (R : RunsSteps w.program p n q) (C : KeepsAccounts w.program p n q) where
   abbrev l : Ledger
   l = accounts w
 

@@ -12,7 +12,7 @@ use Rattle.core_invariant.specs.declared.next_step.Ending.{Ending}
 use Rattle.core_invariant.specs.declared.next_step.Ending.TheVariants.{Prints, Returns, Traps, Beyond}
 use Rattle.core_invariant.specs.below.task_slots.{ParkedTask, Result}
 use Rattle.core_invariant.specs.SharedValue.{SharedValue, accounts}
-use Rattle.core_invariant.specs.Fits.{Fits, OthersFit, beyond}
+use Rattle.core_invariant.specs.WorkerPartFits.{WorkerPartFits, OthersFit, beyond}
 use Rattle.core_invariant.specs.Next.{is_beyond, is_joint}
 use Rattle.core_invariant.specs.Entered.{Enters}
 
@@ -37,7 +37,7 @@ pub record IsShared (w : SharedValue) (p : Private) : Type 0 where
 pub record GoesAlone (w after : SharedValue) (k : ℕ) (p q : Private) : Type 0 where
   pub enters : Enters w after (alone_entry k p)
   pub goes : (accounts after).end ≡ None
-  pub fits : Fits after k q
+  pub fits : WorkerPartFits after k q
   -- only its frames change, and no step is fresh
   pub part : q ≡ record p { frames = q.frames; fresh = 0 }
   pub others : OthersFit w after k
@@ -50,7 +50,7 @@ HasHalted end = (e : End) × (end ≡ Some (Machine e)) × (e ≢ Done)
 pub record HaltsAlone (w after : SharedValue) (k : ℕ) (p q : Private) : Type 0 where
   pub enters : Enters w after (alone_entry k p)
   pub halts : HasHalted (accounts after).end
-  pub fits : Fits after k q
+  pub fits : WorkerPartFits after k q
   -- no step is fresh
   pub part : q ≡ record p { fresh = 0 }
   pub others : OthersFit w after k
@@ -88,5 +88,5 @@ pub record TellsOf (p : ProgramText) (m : MachineState) (t : ℕ) (ending : Endi
   pub number_is : line.number ≡ number
   pub says : SaysOf p m t task line ending
 
-abbrev pub Tells : SharedValue → Private → Ending → ℕ → Type 0
-Tells w p ending number = TellsOf w.program (then_accounts w p).machine p.task ending number
+abbrev pub EndingTells : SharedValue → Private → Ending → ℕ → Type 0
+EndingTells w p ending number = TellsOf w.program (then_accounts w p).machine p.task ending number

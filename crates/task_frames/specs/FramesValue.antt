@@ -9,8 +9,8 @@ pub record FramesValue : Type 0 where
   pub top : CallFrame
 
 -- how many frames there are
-abbrev pub depth_of : FramesValue → ℕ
-depth_of s = length s.below + 1
+abbrev pub frame_depth : FramesValue → ℕ
+frame_depth s = length s.below + 1
 
 -- all frames, the oldest first
 abbrev pub frames_of : FramesValue → List CallFrame
@@ -43,8 +43,8 @@ with_next s next = record s { top = record s.top { next = next } }
 abbrev pub int_written : CallFrame → ℕ → ℤ → CallFrame
 int_written f i value = record f { ints = slice_set f.ints i value }
 
-abbrev pub with_int : FramesValue → ℕ → ℤ → FramesValue
-with_int s i value = record s { top = int_written s.top i value }
+abbrev pub frames_with_int : FramesValue → ℕ → ℤ → FramesValue
+frames_with_int s i value = record s { top = int_written s.top i value }
 
 abbrev pub ref_written : CallFrame → ℕ → Option Addr → CallFrame
 ref_written f i value = record f { refs = slice_set f.refs i value }

@@ -4,7 +4,7 @@ ghost use Rattle.std.specs.Prelude.{◌≡◌, ◌<◌, ◌≤◌, ◌↔◌, []
 ghost use Rattle.hh_lang.specs.Limits.{frame_limit};
 ghost use Rattle.std.specs.Borrow.{sem};
 ghost use Rattle.task_frames.specs.FramesLends.{lends_top};
-ghost use Rattle.task_frames.specs.FramesValue.{FramesValue, branched, depth_of, frames_of, int_of, int_written, ref_of, ref_written, pushed, IsPopped, references_of, references_written, with_next, with_int, with_reference};
+ghost use Rattle.task_frames.specs.FramesValue.{FramesValue, branched, frame_depth, frames_of, int_of, int_written, ref_of, ref_written, pushed, IsPopped, references_of, references_written, with_next, frames_with_int, with_reference};
 
 use hh_lang::{FRAME_LIMIT, IntReg, RefReg};
 use object_layout::Addr;
@@ -162,7 +162,7 @@ impl Frames {
     ///
     /// The frame limit is checked before memory is allocated.
     pub fn push(&mut self, fun: u32) -> Result<(), NotPushed>
-        ensures deep { (result ≡ Err NotPushed.Deep) ↔ (depth_of self.old ≡ frame_limit) }
+        ensures deep { (result ≡ Err NotPushed.Deep) ↔ (frame_depth self.old ≡ frame_limit) }
         ensures ok { OnOk result (self.new ≡ pushed self.old fun) }
         ensures err { OnErr result (self.new ≡ self.old) }
     {
@@ -180,7 +180,7 @@ impl Frames {
 
     /// Drops the top frame, so that the one below it is on top.
     pub fn pop(&mut self)
-        requires { 1 < depth_of self.old }
+        requires { 1 < frame_depth self.old }
         ensures { IsPopped self.old self.new }
     {
         if let Some(frame) = self.stack.below.pop() {
@@ -190,7 +190,7 @@ impl Frames {
 
     /// How many frames there are: from 1 to `FRAME_LIMIT`.
     pub fn depth(&self) -> u32
-        ensures count { result ≡ depth_of self.now }
+        ensures count { result ≡ frame_depth self.now }
         ensures most { result ≤ frame_limit }
     {
         self.stack.below.len() as u32 + 1
@@ -251,7 +251,7 @@ impl Frames {
     /// Writes a number register of the top frame.
     pub fn set_int(&mut self, i: u32, value: i64)
         requires { i < 16 }
-        ensures { self.new ≡ with_int self.old i value }
+        ensures { self.new ≡ frames_with_int self.old i value }
     {
         self.stack.top.ints[i as usize] = value;
     }
@@ -274,7 +274,7 @@ impl Frames {
 
     /// All reference registers of a frame. Frames are counted from 0, the oldest.
     pub fn references_in(&self, frame: u32) -> [Option<Addr>; 16]
-        requires { frame < depth_of self.now }
+        requires { frame < frame_depth self.now }
         ensures { result ≡ references_of (frames_of self.now) frame }
     {
         let stack = &*self.stack;
@@ -287,7 +287,7 @@ impl Frames {
 
     /// Writes all reference registers of a frame. Frames are counted from 0, the oldest.
     pub fn set_references_in(&mut self, frame: u32, refs: &[Option<Addr>; 16])
-        requires { frame < depth_of self.old }
+        requires { frame < frame_depth self.old }
         ensures { frames_of self.new ≡ references_written (frames_of self.old) frame refs.now }
     {
         if (frame as usize) < self.stack.below.len() {

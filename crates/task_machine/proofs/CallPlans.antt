@@ -1,8 +1,8 @@
 -- A call is planned only for a call instruction.
-use Rattle.task_machine.proofs.Common.{ℕ, ◌+◌, Bool, true, false, cond, Option, Some, None, length, slice_get, unwrap_or, is_some, nat_le, nat_lt, pos, Cell, object_of, place_for, Instr, Set, Mov, Movr, Nil, Calc, Same, Jmp, Jz, Newm, Pack as PackOf, Getr, Geti, Putr, Puti, Cntr, Cnti, Freeze as FreezeOf, Cas, Call as CallOf, Par, Ret, Out, Line, ProgramText, line_at, counts_in, same_reference, int_of, ref_of, Private, Shared, Due, NeedChunk, Plan, Pause, Calculate, SetInt, SetReference, Return, New, WriteReference, WriteInt, Swap, Spot, is_calculation, counts_ints, counts_refs, own_or_shown, reads_int, reads_ref, shown_of, allocating, or_shared, own_in, planned, next_plan, planned_line, IsCall, IsCallLine, IsCallPlan, StandsAtCall}
+use Rattle.task_machine.proofs.Common.{ℕ, ◌+◌, Bool, true, false, cond, Option, Some, None, length, slice_get, unwrap_or, is_some, nat_le, nat_lt, pos, Cell, object_of, place_for, Instr, Set, Mov, Movr, Nil, Calc, Same, Jmp, Jz, Newm, Pack as PackOf, Getr, Geti, Putr, Puti, Cntr, Cnti, Freeze as FreezeOf, Cas, Call as CallOf, Par, Ret, Out, Line, ProgramText, line_at, counts_in, same_reference, int_of, ref_of, Private, Shared, Due, NeedChunk, Plan, Pause, Calculate, SetInt, SetReference, Return, New, WriteReference, WriteInt, Swap, Spot, is_calculation, counts_ints, counts_refs, own_or_shown, reads_int, reads_ref, shown_of, allocating, or_shared, own_in, planned, next_plan, planned_line, IsCallInstr, IsCallLine, IsCallPlan, StandsAtCall}
 use Rattle.hh_model.specs.Effect.{place_in as field_in}
 use Rattle.task_machine.specs.declared.plan.Plan.TheVariants.{Pack, Freeze}
-use Rattle.task_machine.specs.Plan.{unless_frozen}
+use Rattle.task_machine.specs.Plan.{plan_unless_frozen}
 
 abbrev Not : Plan → Type 0
 Not q = IsCallPlan q → ⊥
@@ -36,7 +36,7 @@ module _ (part : Private) where
   seen o None go f = shared (shown_of part.view (ref_of part.frames.top o)) go f
   seen o (Some s) go f = f (object_of part.heap.chunks s.object)
 
-  pub call_planned : (i : Instr) → IsCallPlan (planned part i) → IsCall i
+  pub call_planned : (i : Instr) → IsCallPlan (planned part i) → IsCallInstr i
   call_planned (Set d k) h = h
   call_planned (Mov d a) h = h
   call_planned (Movr d a) h = h
@@ -53,18 +53,18 @@ module _ (part : Private) where
   call_planned (Geti d o k) h =
       seen o (spot o) (reads_int part.frames.top d k) (λ c. shared (field_in (length c.ints) (int_of part.frames.top k)) (λ at. SetInt d (unwrap_or (slice_get c.ints at) (pos 0))) (λ at h. h)) h
   call_planned (Putr o k v) h =
-      shared (spot o) (λ s. or_shared (of_refs s k) (λ at. unless_frozen (cell s) (WriteReference s at (ref_of part.frames.top v))))
-      (λ s. shared (of_refs s k) (λ at. unless_frozen (cell s) (WriteReference s at (ref_of part.frames.top v))) (λ at. either (cell s).mutable (WriteReference s at (ref_of part.frames.top v)) (Pause Shared) (λ h. h) (λ h. h))) h
+      shared (spot o) (λ s. or_shared (of_refs s k) (λ at. plan_unless_frozen (cell s) (WriteReference s at (ref_of part.frames.top v))))
+      (λ s. shared (of_refs s k) (λ at. plan_unless_frozen (cell s) (WriteReference s at (ref_of part.frames.top v))) (λ at. either (cell s).mutable (WriteReference s at (ref_of part.frames.top v)) (Pause Shared) (λ h. h) (λ h. h))) h
   call_planned (Puti o k v) h =
-      shared (spot o) (λ s. or_shared (of_ints s k) (λ at. unless_frozen (cell s) (WriteInt s at (int_of part.frames.top v))))
-      (λ s. shared (of_ints s k) (λ at. unless_frozen (cell s) (WriteInt s at (int_of part.frames.top v))) (λ at. either (cell s).mutable (WriteInt s at (int_of part.frames.top v)) (Pause Shared) (λ h. h) (λ h. h))) h
+      shared (spot o) (λ s. or_shared (of_ints s k) (λ at. plan_unless_frozen (cell s) (WriteInt s at (int_of part.frames.top v))))
+      (λ s. shared (of_ints s k) (λ at. plan_unless_frozen (cell s) (WriteInt s at (int_of part.frames.top v))) (λ at. either (cell s).mutable (WriteInt s at (int_of part.frames.top v)) (Pause Shared) (λ h. h) (λ h. h))) h
   call_planned (Cntr d o) h = seen o (spot o) (counts_refs d) (λ c h. h) h
   call_planned (Cnti d o) h = seen o (spot o) (counts_ints d) (λ c h. h) h
   call_planned (FreezeOf o) h = shared (spot o) (λ s. Freeze s) (λ s h. h) h
   call_planned (Cas d o k e v) h =
       let swap : Spot → ℕ → Plan = λ s at. cond (same_reference (unwrap_or (slice_get (cell s).refs at) None) (ref_of part.frames.top e)) (Swap d s at (ref_of part.frames.top v)) (SetInt d (pos 0)) in
-      shared (spot o) (λ s. or_shared (of_refs s k) (λ at. unless_frozen (cell s) (swap s at)))
-      (λ s. shared (of_refs s k) (λ at. unless_frozen (cell s) (swap s at)) (λ at.
+      shared (spot o) (λ s. or_shared (of_refs s k) (λ at. plan_unless_frozen (cell s) (swap s at)))
+      (λ s. shared (of_refs s k) (λ at. plan_unless_frozen (cell s) (swap s at)) (λ at.
       either (cell s).mutable (swap s at) (Pause Shared)
       (either (same_reference (unwrap_or (slice_get (cell s).refs at) None) (ref_of part.frames.top e)) (Swap d s at (ref_of part.frames.top v)) (SetInt d (pos 0)) (λ h. h) (λ h. h)) (λ h. h))) h
   call_planned (CallOf g) h = tt

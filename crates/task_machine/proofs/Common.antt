@@ -38,9 +38,9 @@ pub use Rattle.leaf_heap.proofs.Settled.{put_apart}
 pub use Rattle.leaf_heap.specs.LeafHeapValue.{HaveDistinctNumbers, LeafHeapValue, IsCurrent, IsReserved, place_for, placed_at, IsFresh, added, with_places, saturating_words, large_place, room_at, small_place, units, with_object_placed}
 pub use Rattle.object_layout.proofs.ChunkLaws.{chunk_of_object, object_is, same_addr, addr_cases, cell_of-push_other, cell_of-put_other, cell_of-put_same, length-put, mark_put, place_in-put}
 pub use Rattle.object_layout.proofs.PlaceLemmas.{words_in-push, map-put_cell}
-pub use Rattle.object_layout.specs.Cell.{Born, Cell, Mark, size_of, IsObject, IsPlace, Hole, Moved, frozen}
+pub use Rattle.object_layout.specs.Cell.{Born, Cell, Mark, size_of, IsObject, BeginsInFirstUnit, Hole, Moved, frozen}
 pub use Rattle.object_layout.specs.ChunkValue.{ChunkValue}
-pub use Rattle.object_layout.specs.Chunks.{chunk_at, place_in, place_of, cell_of, next_address, object_of, no_chunk, push_object, put_object}
+pub use Rattle.object_layout.specs.Chunks.{chunk_at, place_in, chunk_position, cell_of, next_address, object_of, no_chunk, push_object, put_object}
 pub use Rattle.object_layout.specs.Place.{words_in, cell_at, put_cell}
 pub use Rattle.object_layout.specs.References.{same_reference}
 pub use Rattle.object_layout.specs.declared.word.Addr.{Addr}
@@ -70,15 +70,15 @@ pub use Rattle.std.specs.Option.{option_flatten}
 pub use Rattle.std.specs.Prelude.{nat_le, nat_lt, pos, ◌==◌, not, ◌&&◌, ◌||◌, ◌≢◌, if◌then◌else◌}
 pub use Rattle.task_frames.specs.FramesValue.{ref_of, with_reference, int_of, FramesValue, pushed, IsPopped, with_next}
 pub use Rattle.task_frames.specs.declared.frames.CallFrame.{CallFrame}
-pub use Rattle.task_machine.specs.Accounts.{AreReserved, HeapMatchesAccount, IsLastLarge, IsLastSmall, KeepsAccounts, account_after, account_by, large_names, named_by, names_in, small_lists, FollowsSteps}
+pub use Rattle.task_machine.specs.Accounts.{HasReservedUnits, HeapMatchesAccount, IsLastLarge, IsLastSmall, KeepsAccounts, account_after, account_by, large_names, named_by, names_in, small_lists, FollowsSteps}
 pub use Rattle.task_machine.specs.Begin.{FitsAsWell, FitsFromThere}
-pub use Rattle.task_machine.specs.Calculations.{is_calculation, Leads, CalculatesInFrame, next_with_result, calculation}
-pub use Rattle.task_machine.specs.Fits.{IsShaped, FitsNow, IsRun, after_fresh, unended, Fits, HeapStands, ShowsAbove, StackStands, IsOwn, IsShownBy}
+pub use Rattle.task_machine.specs.Calculations.{is_calculation, FrameLeads, CalculatesInFrame, next_with_result, calculation}
+pub use Rattle.task_machine.specs.Fits.{HeapIsShaped, FitsNow, IsReachedByRun, after_fresh, unended, Fits, HeapStands, ShowsAbove, StackStands, IsOwnObject, IsShownBy}
 pub use Rattle.task_machine.specs.Outline.{blank, outline_after, outline_by, outline_of, outline_of_cell, outline_of_chunk, steps, outline_step}
 pub use Rattle.task_machine.specs.Place.{Places, NamesAddress, birth_of, ObjectStands, name_of, FrameStands, FramesStand, AreAt}
 pub use Rattle.task_machine.specs.Plan.{planned, allocating, made_at, new_object, or_shared, packed_object, planned_other, taken, with_top, counts_ints, counts_refs, own_or_shown, reads_int, reads_ref, shown_of, own_in, moved, with_result_of, popped_to, spot_at, with_own, private_written, popped, with_seen}
-pub use Rattle.task_machine.specs.Ready.{FitsSome, IsSafe, IsWide, IsReady}
-pub use Rattle.task_machine.specs.Run.{Runs, RunsPrivately, StillFits, IsStepPlan, KeepsRest, next_plan, planned_line, IsCall, IsCallLine, IsCallPlan, StandsAtCall, PausesBy, Ran, Pauses, is_due_after, is_in_need_after, ComesOf}
+pub use Rattle.task_machine.specs.Ready.{FitsSome, IsSafe, HasCopiedRegisters, PlanIsReady}
+pub use Rattle.task_machine.specs.Run.{RunsSteps, RunsPrivately, StillFits, IsStepPlan, KeepsRest, next_plan, planned_line, IsCallInstr, IsCallLine, IsCallPlan, StandsAtCall, PausesBy, Ran, Pauses, is_due_after, is_in_need_after, ComesOf}
 pub use Rattle.task_machine.specs.Steps.{lacks_place, Agrees, TakesStep, Stops, is_part_due, is_part_in_need}
 pub use Rattle.task_machine.specs.declared.part.Begun.{Begun}
 pub use Rattle.task_machine.specs.declared.part.Paused.{Paused}

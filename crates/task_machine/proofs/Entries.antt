@@ -1,5 +1,5 @@
 -- Parts that entries have changed still fit.
-use Rattle.task_machine.proofs.Common.{◌≡◌, ℕ, Option, ap, sym, subst, ◌∙◌, arith, LeafHeapValue, ProgramText, MachineState, is_running, owner_of, still, Begun, Private, Places, FitsAsWell, FitsFromThere, Fits, FitsNow, HeapStands, IsShaped, after_fresh}
+use Rattle.task_machine.proofs.Common.{◌≡◌, ℕ, Option, ap, sym, subst, ◌∙◌, arith, LeafHeapValue, ProgramText, MachineState, is_running, owner_of, still, Begun, Private, Places, FitsAsWell, FitsFromThere, Fits, FitsNow, HeapStands, HeapIsShaped, after_fresh}
 
 -- a part that differs in its heap, its fresh steps and its collection
 abbrev pub changed : Private → LeafHeapValue → ℕ → Option Begun → Private
@@ -7,7 +7,7 @@ changed old h fresh begun = record old { heap = h; fresh = fresh; begun = begun 
 
 -- it fits as it is now, if its heap stands for the same
 pub now_changed : (p : ProgramText) (old : Private) (m : MachineState) (above : Places) (F : FitsNow p old m above) (h : LeafHeapValue) (fresh : ℕ) (begun : Option Begun)
-    → HeapStands F.place (owner_of m.tasks) old.task m.store h.chunks above → IsShaped h → FitsNow p (changed old h fresh begun) m above
+    → HeapStands F.place (owner_of m.tasks) old.task m.store h.chunks above → HeapIsShaped h → FitsNow p (changed old h fresh begun) m above
 now_changed p old m above F h fresh begun H S = record {
   reached = F.reached;
   going = F.going;
@@ -25,13 +25,13 @@ now_changed p old m above F h fresh begun H S = record {
 
 -- and after its fresh steps, if they are as many
 pub behind_changed : (p : ProgramText) (old : Private) (m : MachineState) (above : Places) (F : Fits p old m above) (h : LeafHeapValue) (begun : Option Begun)
-    → HeapStands F.now.place (owner_of (after_fresh p old m).tasks) old.task (after_fresh p old m).store h.chunks above → IsShaped h → Fits p (changed old h old.fresh begun) m above
+    → HeapStands F.now.place (owner_of (after_fresh p old m).tasks) old.task (after_fresh p old m).store h.chunks above → HeapIsShaped h → Fits p (changed old h old.fresh begun) m above
 behind_changed p old m above F h begun H S = record { running = F.running; private = F.private; now = now_changed p old (after_fresh p old m) above F.now h old.fresh begun H S }
 
 abbrev with_since : LeafHeapValue → ℕ → LeafHeapValue
 with_since h n = record h { since = n }
 
-since_shape : (h : LeafHeapValue) (n : ℕ) → IsShaped h → IsShaped (with_since h n)
+since_shape : (h : LeafHeapValue) (n : ℕ) → HeapIsShaped h → HeapIsShaped (with_since h n)
 since_shape h n S = record { apart = S.apart; current = S.current; reserved = S.reserved }
 
 pub since_fits : (old : Private) (n : ℕ) → FitsAsWell old (record old { heap = with_since old.heap n })

@@ -1,5 +1,5 @@
 -- A run in progress: the steps left of its budget.
-use Rattle.task_machine.proofs.Common.{◌≡◌, ℕ, ◌+◌, ◌-◌, ◌<◌, ◌≤◌, ◌^◌, Option, Some, None, refl, ap, sym, subst, ◌∙◌, arith, inl, inr, cases_lt, Line, IsProgram, ProgramText, line_at, Private, Plan, Leads, planned, taken, with_top, FitsSome, IsReady, IsSafe, IsWide, IsCallPlan, IsStepPlan, KeepsRest, Runs, StandsAtCall, planned_line, RunsPrivately}
+use Rattle.task_machine.proofs.Common.{◌≡◌, ℕ, ◌+◌, ◌-◌, ◌<◌, ◌≤◌, ◌^◌, Option, Some, None, refl, ap, sym, subst, ◌∙◌, arith, inl, inr, cases_lt, Line, IsProgram, ProgramText, line_at, Private, Plan, FrameLeads, planned, taken, with_top, FitsSome, PlanIsReady, IsSafe, HasCopiedRegisters, IsCallPlan, IsStepPlan, KeepsRest, RunsSteps, StandsAtCall, planned_line, RunsPrivately}
 use Rattle.task_machine.proofs.Agreement.{line_agrees, some_line, some_next, some_safe}
 use Rattle.task_machine.proofs.Calculated.{calculated, rest_calculated}
 use Rattle.task_machine.proofs.CallPlans.{call_stands}
@@ -9,27 +9,27 @@ use Rattle.task_machine.proofs.Ends.{AgreesAll, few_made, fresh_is, is_step, lim
 pub record IsOnItsWay (p : ProgramText) (old : Private) (budget left : ℕ) (now : Private) : Type 0 where
   pub within : left ≤ budget
   pub fits : FitsSome p old
-  pub runs : Runs p old (budget - left) now
+  pub runs : RunsSteps p old (budget - left) now
   pub rest : KeepsRest old now
 
 pub at_first : (p : ProgramText) (part : Private) (budget : ℕ) → FitsSome p part → IsOnItsWay p part budget budget part
 at_first p part budget S = record {
   within = omega arith;
   fits = S;
-  runs = let none : 0 ≡ budget - budget = omega arith in subst (λ n. Runs p part n part) none (runs_none p part);
+  runs = let none : 0 ≡ budget - budget = omega arith in subst (λ n. RunsSteps p part n part) none (runs_none p part);
   rest = refl;
 }
 
 module _ (p : ProgramText) (old : Private) (budget left : ℕ) (now : Private) (O : IsOnItsWay p old budget left now) where
   -- after n more calculations
-  pub after_calculations : (done : ℕ) (new : Private) → done ≤ left → Leads p now.frames.top done new.frames.top → new ≡ record (with_top now new.frames.top) { fresh = now.fresh + done } → IsOnItsWay p old budget (left - done) new
+  pub after_calculations : (done : ℕ) (new : Private) → done ≤ left → FrameLeads p now.frames.top done new.frames.top → new ≡ record (with_top now new.frames.top) { fresh = now.fresh + done } → IsOnItsWay p old budget (left - done) new
   after_calculations done new most L is =
       let within : left ≤ budget = O.within in
       let count : (budget - left) + done ≡ budget - (left - done) = omega (arith, within, most) in
       record {
         within = omega (arith, within);
         fits = O.fits;
-        runs = subst (λ n. Runs p old n new) count (calculated p old (budget - left) now O.fits O.runs done new L is);
+        runs = subst (λ n. RunsSteps p old n new) count (calculated p old (budget - left) now O.fits O.runs done new L is);
         rest = rest_calculated old now new done O.rest is;
       }
 
@@ -61,7 +61,7 @@ module _ (p : ProgramText) (old : Private) (budget left : ℕ) (now : Private) (
       is_some : (l : Line) → None ≡ Some l → ⊥
       is_some l e = cc
 
-  module _ (line : Line) (next : line_at p now.frames.top.function now.frames.top.next ≡ Some line) (wide : IsWide now line.instr) where
+  module _ (line : Line) (next : line_at p now.frames.top.function now.frames.top.next ≡ Some line) (wide : HasCopiedRegisters now line.instr) where
     pub agrees_there : AgreesAll p now (planned now line.instr)
     agrees_there m above F = line_agrees p now m above F line next wide
 
@@ -69,7 +69,7 @@ module _ (p : ProgramText) (old : Private) (budget left : ℕ) (now : Private) (
     stands_at_call h = call_stands p now (subst IsCallPlan (ap (planned_line now) (sym next)) h)
 
     -- after one more step
-    pub after_step : 0 < left → IsStepPlan (planned now line.instr) → IsReady now (planned now line.instr) → (new : Private) → new ≡ taken now (planned now line.instr) → IsOnItsWay p old budget (left - 1) new
+    pub after_step : 0 < left → IsStepPlan (planned now line.instr) → PlanIsReady now (planned now line.instr) → (new : Private) → new ≡ taken now (planned now line.instr) → IsOnItsWay p old budget (left - 1) new
     after_step some step ready new is =
         let plan : Plan = planned now line.instr in
         let within : left ≤ budget = O.within in
@@ -77,7 +77,7 @@ module _ (p : ProgramText) (old : Private) (budget left : ℕ) (now : Private) (
         record {
           within = omega (arith, within);
           fits = O.fits;
-          runs = subst (λ n. Runs p old n new) count (runs_more p old (budget - left) now O.fits O.runs plan (is_step plan step) agrees_there ready new is);
+          runs = subst (λ n. RunsSteps p old n new) count (runs_more p old (budget - left) now O.fits O.runs plan (is_step plan step) agrees_there ready new is);
           rest = rest_more old now new O.rest plan is;
         }
 

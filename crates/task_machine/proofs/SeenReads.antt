@@ -1,5 +1,5 @@
 -- Steps that read an object: the task's own, or an immutable one that the view shows.
-use Rattle.task_machine.proofs.Common.{◌≡◌, ℕ, ℤ, ◌≤◌, Bool, true, false, Option, Some, None, List, ◌∷◌, length, slice_get, unwrap_or, refl, ap, sym, subst, ◌∙◌, arith, inl, is_some, option_flatten, pos, ◌==◌, ◌&&◌, ◌||◌, not, eq-eqb, eqb-false, and-false, contains_from_in, In, Addr, Cell, object_of, place_in as chunk_in, seen_at, Instr, Getr, Geti, Cntr, Cnti, Line, ProgramText, Name, Object, Task, Range, MachineState, Goes, Traps, int_in, object_at, or_trap, read_effect, ref_in, onward as framed_onward, with_int as framed_int, task_names, Holds, ReadsFreely, fetched, owner_of, parents, path_in, run, setting, start, IsStored, AreLow, at_in, run_disentangled, frozen_reads_go, run_upward, run_is_fork_join_state, start_is_fork_join_state, path_le, in_registers, names_run, runs_is, run_stored, is_frozen, is_frozen_above, is_open, is_read, owns, touched, works_alone, int_of, ref_of, Private, Plan, Places, NamesAddress, ObjectStands, FitsNow, IsOwn, IsRun, IsShownBy, counts_ints, counts_refs, own_or_shown, planned, reads_int, reads_ref, or_shared, spot_at, with_seen, Agrees}
+use Rattle.task_machine.proofs.Common.{◌≡◌, ℕ, ℤ, ◌≤◌, Bool, true, false, Option, Some, None, List, ◌∷◌, length, slice_get, unwrap_or, refl, ap, sym, subst, ◌∙◌, arith, inl, is_some, option_flatten, pos, ◌==◌, ◌&&◌, ◌||◌, not, eq-eqb, eqb-false, and-false, contains_from_in, In, Addr, Cell, object_of, place_in as chunk_in, seen_at, Instr, Getr, Geti, Cntr, Cnti, Line, ProgramText, Name, Object, Task, Range, MachineState, Goes, Traps, int_in, object_at, or_trap, read_effect, ref_in, onward as framed_onward, with_int as framed_int, task_names, Holds, ReadsFreely, fetched, owner_of, parents, path_in, run, setting, start, IsStored, AreLow, at_in, run_disentangled, frozen_reads_go, run_upward, run_is_fork_join_state, start_is_fork_join_state, path_le, in_registers, names_run, runs_is, run_stored, is_frozen, is_frozen_above, is_open, is_read, owns, touched, works_alone, int_of, ref_of, Private, Plan, Places, NamesAddress, ObjectStands, FitsNow, IsOwnObject, IsReachedByRun, IsShownBy, counts_ints, counts_refs, own_or_shown, planned, reads_int, reads_ref, or_shared, spot_at, with_seen, Agrees}
 use Rattle.hh_model.specs.declared.data.Trap.TheVariants.{Nil}
 use Rattle.hh_model.specs.Effect.{place_in}
 use Rattle.task_machine.proofs.Stands.{at_get, at_length}
@@ -15,7 +15,7 @@ pub record IsHeld (m : MachineState) (t : ℕ) (n : Name) : Type 0 where
   pub stored : IsStored m n
   pub path : path_in (parents m.tasks) (owner_of m.tasks n.task) t ≡ true
 
-held : (p : ProgramText) (m : MachineState) → IsRun p m → (t : ℕ) (y : Task) (n : Name) → slice_get m.tasks t ≡ Some y → In (task_names y) n → IsHeld m t n
+held : (p : ProgramText) (m : MachineState) → IsReachedByRun p m → (t : ℕ) (y : Task) (n : Name) → slice_get m.tasks t ≡ Some y → In (task_names y) n → IsHeld m t n
 held p m r t y n =
     let L : MachineState → Type 0 = λ w. slice_get w.tasks t ≡ Some y → In (task_names y) n → IsHeld w t n in
     subst L (sym r.2) (λ is h. record { stored = (run_stored p r.0 r.1).of_task t y n is h; path = ((run_disentangled p r.0 r.1).of_task t y n is h).1 })
@@ -24,7 +24,7 @@ held p m r t y n =
 pub record RefersUp (m : MachineState) (t : ℕ) (n : Name) (o : Object) : Type 0 where
   pub others : (k : Name) → In o.refs (Some k) → owner_of m.tasks k.task ≡ t → ⊥
 
-refers_up : (p : ProgramText) (m : MachineState) → IsRun p m → (t : ℕ) (n : Name) (o : Object) → object_at m.store n ≡ Some o → o.mutable ≡ false
+refers_up : (p : ProgramText) (m : MachineState) → IsReachedByRun p m → (t : ℕ) (n : Name) (o : Object) → object_at m.store n ≡ Some o → o.mutable ≡ false
     → path_in (parents m.tasks) (owner_of m.tasks n.task) t ≡ true → (owner_of m.tasks n.task ≡ t → ⊥) → RefersUp m t n o
 refers_up p m r t n o =
     let L : MachineState → Type 0 = λ w. object_at w.store n ≡ Some o → o.mutable ≡ false → path_in (parents w.tasks) (owner_of w.tasks n.task) t ≡ true → (owner_of w.tasks n.task ≡ t → ⊥) → RefersUp w t n o in
@@ -57,7 +57,7 @@ module _ (p : ProgramText) (part : Private) (m : MachineState) (above : Places) 
   in_names : (o : ℕ) (n : Name) → ref_in F.task.top o ≡ Some n → In (task_names F.task) n
   in_names o n en = names_run F.task n (runs_is F.task.status F.running) (in_registers (F.task.top ∷ F.task.below) F.task.top n (inl refl) (at_in F.task.top.refs o n en))
 
-  own_read : (o : ℕ) (n : Name) (a : Addr) (c : Cell) → ref_in F.task.top o ≡ Some n → IsOwn F.place (owner_of m.tasks) part.task m.store n a c → Can n c
+  own_read : (o : ℕ) (n : Name) (a : Addr) (c : Cell) → ref_in F.task.top o ≡ Some n → IsOwnObject F.place (owner_of m.tasks) part.task m.store n a c → Can n c
   own_read o n a c en O = record {
     object = O.object;
     is = O.is;

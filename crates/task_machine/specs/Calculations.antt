@@ -51,10 +51,10 @@ abbrev pub CalculatesInFrame : Instr → CallFrame → CallFrame → Type 0
 CalculatesInFrame i f g = (is_calculation f i ≡ true) × (g ≡ calculation i f)
 
 -- the next calculation of a frame turns it into this one
-abbrev pub LeadsTo : ProgramText → CallFrame → CallFrame → Type 0
-LeadsTo p f g = IsSomeAnd (line_at p f.function f.next) (λ line. CalculatesInFrame line.instr f g)
+abbrev pub FrameLeadsTo : ProgramText → CallFrame → CallFrame → Type 0
+FrameLeadsTo p f g = IsSomeAnd (line_at p f.function f.next) (λ line. CalculatesInFrame line.instr f g)
 
 -- n calculations in sequence turn the first frame into this one
-abbrev pub Leads : ProgramText → CallFrame → ℕ → CallFrame → Type 0
-Leads p f zero g = f ≡ g
-Leads p f (suc k) g = (h : CallFrame) × (Leads p f k h) × (LeadsTo p h g)
+abbrev pub FrameLeads : ProgramText → CallFrame → ℕ → CallFrame → Type 0
+FrameLeads p f zero g = f ≡ g
+FrameLeads p f (suc k) g = (h : CallFrame) × (FrameLeads p f k h) × (FrameLeadsTo p h g)

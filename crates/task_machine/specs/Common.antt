@@ -12,7 +12,7 @@ pub use Rattle.hh_model.specs.declared.data.Name.{Name}
 pub use Rattle.hh_model.specs.declared.data.Object.{Object}
 pub use Rattle.hh_model.specs.declared.data.Task.{Task}
 pub use Rattle.leaf_heap.specs.LeafHeapValue.{LeafHeapValue, saturating_words, room_of, HaveDistinctNumbers, IsCurrent, IsReserved, place_for, placed_at, with_object_placed}
-pub use Rattle.object_layout.specs.Cell.{Born, Cell, Hole, Mark, Moved, chunk_words, frozen, new_cell, size_of, with_int, with_ref, IsObject, IsPlace}
+pub use Rattle.object_layout.specs.Cell.{Born, Cell, Hole, Mark, Moved, chunk_words, frozen, new_cell, size_of, cell_with_int, with_ref, IsObject, BeginsInFirstUnit}
 pub use Rattle.object_layout.specs.ChunkValue.{ChunkValue}
 pub use Rattle.object_layout.specs.Chunks.{chunk_at, cell_of, place_in, next_address, object_of, put_object}
 pub use Rattle.object_layout.specs.References.{same_reference}

@@ -2,7 +2,7 @@
 
 ghost use Rattle.std.specs.Prelude.{◌≡◌, ◌≤◌, ◌<◌, ◌+◌, ◌^◌, false, None, option_copied};
 ghost use Rattle.hh_lang.specs.Form.{line_at};
-ghost use Rattle.task_machine.specs.Calculations.{calculates_next, calculation, is_calculation, next_with_int, next_with_ref, Leads};
+ghost use Rattle.task_machine.specs.Calculations.{calculates_next, calculation, is_calculation, next_with_int, next_with_ref, FrameLeads};
 ghost use Rattle.task_machine.specs.Plan.{taken, with_top};
 
 use crate::part::Private;
@@ -126,7 +126,7 @@ fn calculate_on<'a>(
     most: u32,
 ) -> (u32, Option<&'a Line>)
     ensures most { result.0 ≤ most }
-    ensures leads { Leads program.now frame.old result.0 frame.new }
+    ensures leads { FrameLeads program.now frame.old result.0 frame.new }
     ensures line { result.0 < most → option_copied result.1 ≡ line_at program.now frame.new.function frame.new.next }
     ensures all { result.0 < most → calculates_next program.now frame.new ≡ false }
     ensures spent { result.0 ≡ most → result.1 ≡ None }
@@ -166,7 +166,7 @@ impl Private {
     ) -> (u32, Option<&'a Line>)
         requires { self.old.fresh + most < 2 ^ 32 }
         ensures most { result.0 ≤ most }
-        ensures leads { Leads program.now self.old.frames.top result.0 self.new.frames.top }
+        ensures leads { FrameLeads program.now self.old.frames.top result.0 self.new.frames.top }
         ensures rest { self.new ≡ record (with_top self.old self.new.frames.top) { fresh = self.old.fresh + result.0 } }
         ensures line { result.0 < most → option_copied result.1 ≡ line_at program.now self.new.frames.top.function self.new.frames.top.next }
         ensures all { result.0 < most → calculates_next program.now self.new.frames.top ≡ false }

@@ -2,7 +2,7 @@
 
 ghost use Rattle.std.specs.Prelude.{◌≡◌, ◌<◌, ◌+◌, ◌^◌};
 ghost use Rattle.task_machine.specs.Plan.{planned};
-ghost use Rattle.task_machine.specs.Ready.{IsReady, IsSafe, IsWide};
+ghost use Rattle.task_machine.specs.Ready.{PlanIsReady, IsSafe, HasCopiedRegisters};
 ghost use Rattle.task_machine.specs.Run.{ComesOf};
 
 use crate::part::Private;
@@ -16,7 +16,7 @@ impl Private {
         requires fresh { self.old.fresh + 1 < 2 ^ 32 }
         requires few { self.old.allocations + 1 < 2 ^ 32 }
         requires safe { IsSafe self.old }
-        requires ready { IsReady self.old plan }
+        requires ready { PlanIsReady self.old plan }
         ensures { ComesOf self.old plan self.new result }
     {
         match plan {
@@ -40,7 +40,7 @@ impl Private {
     fn take_call(&mut self, function: u32) -> StepResult
         requires next { self.old.frames.top.next + 1 < 2 ^ 32 }
         requires fresh { self.old.fresh + 1 < 2 ^ 32 }
-        requires ready { IsReady self.old (Plan.Call function) }
+        requires ready { PlanIsReady self.old (Plan.Call function) }
         ensures { ComesOf self.old (Plan.Call function) self.new result }
     {
         match self.call(function) {
@@ -57,30 +57,48 @@ impl Private {
         requires few { self.old.allocations + 1 < 2 ^ 32 }
         requires safe { IsSafe self.old }
         requires limit { self.old.field_limit < 2 ^ 20 }
-        ensures wide { IsWide self.old instr.now }
-        ensures ready { IsReady self.old (planned self.old instr.now) }
+        ensures wide { HasCopiedRegisters self.old instr.now }
+        ensures ready { PlanIsReady self.old (planned self.old instr.now) }
         ensures comes { ComesOf self.old (planned self.old instr.now) self.new result }
     {
         let plan = self.decide(*instr);
         self.take(plan)
     }
 
-    // Executes the plan of an instruction: those that `go` mostly has at once. It is inlined for each instruction, where
-    // only the arms of that instruction's plans are left.
+    // Executes the plan of a read. It is inlined for each instruction that reads, as the next function is for those that
+    // write or allocate, so that no register is shared with arms that the instruction never takes.
     #[inline(always)]
-    fn take_quickly(&mut self, plan: Plan, instr: &Instr) -> StepResult
+    fn read_quickly(&mut self, plan: Plan, instr: &Instr) -> StepResult
         requires next { self.old.frames.top.next + 1 < 2 ^ 32 }
         requires fresh { self.old.fresh + 1 < 2 ^ 32 }
         requires few { self.old.allocations + 1 < 2 ^ 32 }
         requires safe { IsSafe self.old }
         requires limit { self.old.field_limit < 2 ^ 20 }
         requires same { plan ≡ planned self.old instr.now }
-        requires ready { IsReady self.old plan }
+        requires ready { PlanIsReady self.old plan }
         ensures { ComesOf self.old plan self.new result }
     {
         match plan {
             Plan::SetInt(target, value) => self.set_int(target, value),
             Plan::SetReference(target, value) => self.set_reference(target, value),
+            _ => return self.go_slowly(instr),
+        }
+        StepResult::Taken
+    }
+
+    // Executes the plan of a write or an allocation.
+    #[inline(always)]
+    fn write_quickly(&mut self, plan: Plan, instr: &Instr) -> StepResult
+        requires next { self.old.frames.top.next + 1 < 2 ^ 32 }
+        requires fresh { self.old.fresh + 1 < 2 ^ 32 }
+        requires few { self.old.allocations + 1 < 2 ^ 32 }
+        requires safe { IsSafe self.old }
+        requires limit { self.old.field_limit < 2 ^ 20 }
+        requires same { plan ≡ planned self.old instr.now }
+        requires ready { PlanIsReady self.old plan }
+        ensures { ComesOf self.old plan self.new result }
+    {
+        match plan {
             Plan::WriteInt(own, at, value) => self.write_int(own, at, value),
             Plan::WriteReference(own, at, value) => self.write_reference(own, at, value),
             Plan::New(target, refs, ints) => self.make_new(target, refs, ints),
@@ -98,30 +116,30 @@ impl Private {
         requires few { self.old.allocations + 1 < 2 ^ 32 }
         requires safe { IsSafe self.old }
         requires limit { self.old.field_limit < 2 ^ 20 }
-        ensures wide { IsWide self.old instr.now }
-        ensures ready { IsReady self.old (planned self.old instr.now) }
+        ensures wide { HasCopiedRegisters self.old instr.now }
+        ensures ready { PlanIsReady self.old (planned self.old instr.now) }
         ensures comes { ComesOf self.old (planned self.old instr.now) self.new result }
     {
         match instr {
             Instr::Newm(target, refs, ints) => {
                 let plan = self.decide_newm(*target, *refs, *ints);
-                self.take_quickly(plan, instr)
+                self.write_quickly(plan, instr)
             }
             Instr::Getr(target, object, index) => {
                 let plan = self.decide_getr(*target, *object, *index);
-                self.take_quickly(plan, instr)
+                self.read_quickly(plan, instr)
             }
             Instr::Geti(target, object, index) => {
                 let plan = self.decide_geti(*target, *object, *index);
-                self.take_quickly(plan, instr)
+                self.read_quickly(plan, instr)
             }
             Instr::Putr(object, index, value) => {
                 let plan = self.decide_putr(*object, *index, *value);
-                self.take_quickly(plan, instr)
+                self.write_quickly(plan, instr)
             }
             Instr::Puti(object, index, value) => {
                 let plan = self.decide_puti(*object, *index, *value);
-                self.take_quickly(plan, instr)
+                self.write_quickly(plan, instr)
             }
             _ => self.go_slowly(instr),
         }

@@ -5,7 +5,7 @@ ghost use Rattle.object_layout.specs.Chunks.{cell_of};
 ghost use Rattle.object_layout.specs.Place.{cell_at};
 ghost use Rattle.task_machine.specs.Plan.{own_in, planned};
 ghost use Rattle.task_frames.specs.FramesValue.{ref_of};
-ghost use Rattle.task_machine.specs.Ready.{IsReady, IsSafe, IsThere};
+ghost use Rattle.task_machine.specs.Ready.{PlanIsReady, IsSafe, IsThere};
 
 use crate::arithmetic::field_index;
 use crate::decide::SHARED;
@@ -72,7 +72,7 @@ impl Private {
     pub(crate) fn decide_putr(&self, object: RefReg, index: IntReg, value: RefReg) -> Plan
         requires { IsSafe self.now }
         ensures plan { result ≡ planned self.now (Instr.Putr object index value) }
-        ensures ready { IsReady self.now result }
+        ensures ready { PlanIsReady self.now result }
     {
         let Some(own) = self.own(object) else {
             return SHARED;
@@ -92,7 +92,7 @@ impl Private {
     pub(crate) fn decide_puti(&self, object: RefReg, index: IntReg, value: IntReg) -> Plan
         requires { IsSafe self.now }
         ensures plan { result ≡ planned self.now (Instr.Puti object index value) }
-        ensures ready { IsReady self.now result }
+        ensures ready { PlanIsReady self.now result }
     {
         let Some(own) = self.own(object) else {
             return SHARED;
@@ -133,7 +133,7 @@ impl Private {
     pub(crate) fn decide_freeze(&self, object: RefReg) -> Plan
         requires { IsSafe self.now }
         ensures plan { result ≡ planned self.now (Instr.Freeze object) }
-        ensures ready { IsReady self.now result }
+        ensures ready { PlanIsReady self.now result }
     {
         match self.own(object) {
             Some(own) => Plan::Freeze(own),
@@ -151,7 +151,7 @@ impl Private {
     ) -> Plan
         requires { IsSafe self.now }
         ensures plan { result ≡ planned self.now (Instr.Cas target object index expected value) }
-        ensures ready { IsReady self.now result }
+        ensures ready { PlanIsReady self.now result }
     {
         let Some(own) = self.own(object) else {
             return SHARED;

@@ -2,7 +2,7 @@
 pub use Rattle.leaf_heap.specs.FieldLaws.{with_ref_of}
 pub use Rattle.leaf_heap.specs.LeafHeapValue.{LeafHeapValue}
 pub use Rattle.mark_sweep_gc.specs.MarkingValue.{MarkingValue}
-pub use Rattle.object_layout.specs.Cell.{with_int}
+pub use Rattle.object_layout.specs.Cell.{cell_with_int}
 pub use Rattle.object_layout.specs.Chunks.{cell_of, put_object}
 pub use Rattle.object_layout.specs.declared.word.Addr.{Addr}
 pub use Rattle.plain_vec.proofs.Members.{got_other, got_same}
@@ -22,6 +22,6 @@ pub use Rattle.task_slots.specs.TaskSlotsValue.{keeping, TaskSlotsValue, has_blo
 pub use Rattle.task_slots.specs.declared.heaps.Heaps.{Heaps}
 pub use Rattle.task_slots.specs.declared.slots.TaskSlot.{TaskSlot}
 pub use Rattle.task_slots.specs.declared.task_at_rest.ParkedTask.{ParkedTask}
-pub use Rattle.write_barrier.specs.Forms.{bare}
+pub use Rattle.write_barrier.specs.Forms.{bare_noted}
 pub use Rattle.write_barrier.specs.Stored.{Content, content_of, with_kept, with_source, IsRoomy, content_at}
 pub use Rattle.write_barrier.specs.declared.sets.SetOf.{SetOf}

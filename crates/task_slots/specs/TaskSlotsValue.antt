@@ -6,7 +6,7 @@ use Rattle.object_layout.specs.Chunks.{object_of}
 use Rattle.leaf_heap.specs.LeafHeapValue.{with_places}
 use Rattle.remembered_set.specs.declared.remembered.RefField.{RefField}
 use Rattle.write_barrier.specs.declared.sets.SetOf.{SetOf}
-use Rattle.write_barrier.specs.Forms.{bare}
+use Rattle.write_barrier.specs.Forms.{bare_noted}
 use Rattle.write_barrier.specs.Stored.{Content}
 use Rattle.mark_sweep_gc.specs.MarkingValue.{MarkingValue}
 use Rattle.task_slots.specs.declared.slots.TaskSlot.{TaskSlot}
@@ -31,7 +31,7 @@ rest_in None = None
 rest_in (Some h) = h.rest
 
 abbrev pub set_in : Option TaskSlot → SetOf
-set_in None = bare false
+set_in None = bare_noted false
 set_in (Some h) = h.set
 
 abbrev pub marking_in : Option TaskSlot → Option MarkingValue

@@ -2,7 +2,7 @@
 
 ghost use Rattle.std.specs.Prelude.{◌≡◌, ◌<◌, IfOk, fold, length, slice_get};
 ghost use Rattle.chunk_pool.specs.PoolValue.{owner_of};
-ghost use Rattle.remembered_set.specs.Moved.{redirected, targets_of, AreFields, AreInOrder, ArePlaces};
+ghost use Rattle.remembered_set.specs.Moved.{redirected, targets_of, AreFields, AreAscending, ArePlaces};
 ghost use Rattle.remembered_set.specs.Sources.{StandOnce};
 ghost use Rattle.task_slots.specs.TaskSlotsValue.{sources_of};
 ghost use Rattle.task_slots.specs.RestingHeaps.{resting_references, resting, with_ref_in, with_resting};
@@ -60,7 +60,7 @@ impl Heaps {
     pub fn rewrite(&mut self, task: u32, moved: &[(Addr, Addr)])
         requires made { task < length self.old.task_slots.rests }
         requires fields { AreFields resting_references (resting self.old) (sources_of (slice_get self.old.task_slots.sets task)) }
-        requires order { AreInOrder moved.now }
+        requires order { AreAscending moved.now }
         requires places { ArePlaces moved.now }
         ensures led { self.new ≡ with_resting self.old (fold (redirected resting_references with_ref_in moved.now) (resting self.old) (sources_of (slice_get self.old.task_slots.sets task))) }
         ensures once { StandOnce (sources_of (slice_get self.old.task_slots.sets task)) }

@@ -1,11 +1,11 @@
 // The slots of all tasks, by number: one for each task, boxed, freed at the join.
 
 ghost use Rattle.std.specs.Prelude.{◌≡◌, ◌≢◌, ◌<◌, ◌≤◌, ◌+◌, ◌-◌, ◌++◌, ◌∷◌, [], ℕ, IfOk, IfSome, IsSome, OnErr, OnOk, None, Some, false, true, length, option_copied, option_map, slice_get, slice_set};
-ghost use Rattle.object_layout.specs.Cell.{with_int, IsPlace};
+ghost use Rattle.object_layout.specs.Cell.{cell_with_int, BeginsInFirstUnit};
 ghost use Rattle.object_layout.specs.Chunks.{cell_of, object_of, put_object};
 ghost use Rattle.leaf_heap.specs.FieldLaws.{with_ref_of};
 ghost use Rattle.remembered_set.specs.Sources.{StandOnce};
-ghost use Rattle.write_barrier.specs.Forms.{bare};
+ghost use Rattle.write_barrier.specs.Forms.{bare_noted};
 ghost use Rattle.write_barrier.specs.Stored.{content_at, with_source, IsRoomy};
 ghost use Rattle.task_slots.specs.declared.task_at_rest.ParkedTask.{ParkedTask as RestOf};
 ghost use Rattle.task_slots.specs.TaskSlotsValue.{kept_of, keeping, keeps_of, marking_in, marks_at, refs_of_rest, rest_at, rest_in, set_in, sources_of, IsSameRest};
@@ -33,7 +33,7 @@ pub struct TaskSlot {
 
 // An empty slot.
 fn nothing(alloc: Global) -> TaskSlot
-    ensures { result ≡ record { rest = None; set = bare false; marking = None } }
+    ensures { result ≡ record { rest = None; set = bare_noted false; marking = None } }
 {
     TaskSlot {
         rest: None,
@@ -44,7 +44,7 @@ fn nothing(alloc: Global) -> TaskSlot
 
 /// A block for the slot of a task that is to be made.
 pub fn slot_block(alloc: Global) -> Result<BoxedSlot<TaskSlot>, AllocError>
-    ensures { IfOk result (λ slot. slot ≡ record { rest = None; set = bare false; marking = None }) }
+    ensures { IfOk result (λ slot. slot ≡ record { rest = None; set = bare_noted false; marking = None }) }
 {
     Ok(BoxedSlot::new(alloc, nothing(alloc))?)
 }
@@ -72,11 +72,11 @@ impl Model for TaskSlots {
 
 impl TaskSlots {
     ghost use Rattle.std.specs.Prelude.{◌≡◌, ◌≢◌, ◌<◌, ◌≤◌, ◌+◌, ◌-◌, ◌++◌, ◌∷◌, [], ℕ, IfOk, IfSome, IsSome, OnErr, OnOk, None, Some, false, true, length, option_copied, option_map, slice_get, slice_set};
-    ghost use Rattle.object_layout.specs.Cell.{with_int, IsPlace};
+    ghost use Rattle.object_layout.specs.Cell.{cell_with_int, BeginsInFirstUnit};
     ghost use Rattle.object_layout.specs.Chunks.{cell_of, object_of, put_object};
     ghost use Rattle.leaf_heap.specs.FieldLaws.{with_ref_of};
     ghost use Rattle.remembered_set.specs.Sources.{StandOnce};
-    ghost use Rattle.write_barrier.specs.Forms.{bare};
+    ghost use Rattle.write_barrier.specs.Forms.{bare_noted};
     ghost use Rattle.write_barrier.specs.Stored.{content_at, with_source, IsRoomy};
     ghost use Rattle.task_slots.specs.declared.task_at_rest.ParkedTask.{ParkedTask as RestOf};
     ghost use Rattle.task_slots.specs.TaskSlotsValue.{kept_of, keeping, keeps_of, marking_in, marks_at, refs_of_rest, rest_at, rest_in, set_in, sources_of, IsSameRest};
@@ -84,7 +84,7 @@ impl TaskSlots {
     /// The slot of the root, which no worker holds yet.
     pub fn new(alloc: Global, root: ParkedTask) -> Result<TaskSlots, AllocError>
         ensures rests { IfOk result (λ h. h.rests ≡ Some root ∷ []) }
-        ensures sets { IfOk result (λ h. h.sets ≡ bare false ∷ []) }
+        ensures sets { IfOk result (λ h. h.sets ≡ bare_noted false ∷ []) }
         ensures marks { IfOk result (λ h. h.marks ≡ None ∷ []) }
     {
         let mut slot = nothing(alloc);
@@ -230,7 +230,7 @@ impl TaskSlots {
     pub fn push(&mut self, rest: ParkedTask, block: BoxedSlot<TaskSlot>)
         requires room { 0 < self.old.room }
         ensures rests { self.new.rests ≡ self.old.rests ++ Some rest ∷ [] }
-        ensures sets { self.new.sets ≡ self.old.sets ++ bare false ∷ [] }
+        ensures sets { self.new.sets ≡ self.old.sets ++ bare_noted false ∷ [] }
         ensures marks { self.new.marks ≡ self.old.marks ++ None ∷ [] }
         ensures blocks { self.new.blocks ≡ self.old.blocks ++ true ∷ [] }
         ensures places { self.new.room ≡ self.old.room - 1 }
@@ -245,7 +245,7 @@ impl TaskSlots {
         requires made { t < length self.old.rests }
         ensures rest { result.rest ≡ rest_at self.old.rests t }
         ensures set { slice_get self.old.sets t ≡ Some result.set }
-        ensures task_slots { self.new ≡ record self.old { rests = slice_set self.old.rests t None; sets = slice_set self.old.sets t (bare false); marks = slice_set self.old.marks t None; blocks = slice_set self.old.blocks t false } }
+        ensures task_slots { self.new ≡ record self.old { rests = slice_set self.old.rests t None; sets = slice_set self.old.sets t (bare_noted false); marks = slice_set self.old.marks t None; blocks = slice_set self.old.blocks t false } }
     {
         match mem::replace(&mut self.list[t as usize], None) {
             Some(slot) => slot.into_inner(),
@@ -257,7 +257,7 @@ impl TaskSlots {
     pub fn take_set(&mut self, t: u32) -> SetOf
         requires block { slice_get self.old.blocks t ≡ Some true }
         ensures set { slice_get self.old.sets t ≡ Some result }
-        ensures task_slots { self.new ≡ record self.old { sets = slice_set self.old.sets t (bare false) } }
+        ensures task_slots { self.new ≡ record self.old { sets = slice_set self.old.sets t (bare_noted false) } }
     {
         let empty = SetOf::new(self.allocator());
         match &mut self.list[t as usize] {
@@ -281,7 +281,7 @@ impl TaskSlots {
     pub fn has_block(&self, t: u32) -> bool
         requires made { t < length self.now.rests }
         ensures block { slice_get self.now.blocks t ≡ Some result }
-        ensures none { result ≡ false → slice_get self.now.sets t ≡ Some (bare false) }
+        ensures none { result ≡ false → slice_get self.now.sets t ≡ Some (bare_noted false) }
     {
         self.list[t as usize].is_some()
     }
@@ -360,7 +360,7 @@ impl TaskSlots {
     pub(crate) fn reference(&self, t: u32, object: Addr, field: u32) -> Option<Addr>
         requires field { field < length (refs_of_rest (rest_at self.now.rests t) object) }
         ensures value { slice_get (refs_of_rest (rest_at self.now.rests t) object) field ≡ Some result }
-        ensures place { IsPlace result }
+        ensures place { BeginsInFirstUnit result }
     {
         match self.rest(t) {
             Some(rest) => rest.heap.own_ref(object, field),
@@ -371,7 +371,7 @@ impl TaskSlots {
     // Writes a reference of an object in the heap of a task at rest.
     pub(crate) fn set_reference(&mut self, t: u32, object: Addr, field: u32, value: Option<Addr>)
         requires field { field < length (refs_of_rest (rest_at self.old.rests t) object) }
-        requires place { IsPlace value }
+        requires place { BeginsInFirstUnit value }
         ensures { (r : RestOf) → rest_at self.old.rests t ≡ Some r → self.new ≡ record self.old { rests = slice_set self.old.rests t (Some (record r { heap = with_ref_of r.heap object field value })) } }
     {
         match &mut self.list[t as usize] {
@@ -387,7 +387,7 @@ impl TaskSlots {
     pub fn set_number(&mut self, t: u32, object: Addr, field: u32, value: i64)
         requires there { IsSome (rest_at self.old.rests t) }
         requires field { IfSome (rest_at self.old.rests t) (λ r. field < length (object_of r.heap.chunks object).ints) }
-        ensures { (r : RestOf) → rest_at self.old.rests t ≡ Some r → self.new ≡ record self.old { rests = slice_set self.old.rests t (Some (record r { heap = record r.heap { chunks = put_object r.heap.chunks object (with_int (cell_of r.heap.chunks object) field value) } })) } }
+        ensures { (r : RestOf) → rest_at self.old.rests t ≡ Some r → self.new ≡ record self.old { rests = slice_set self.old.rests t (Some (record r { heap = record r.heap { chunks = put_object r.heap.chunks object (cell_with_int (cell_of r.heap.chunks object) field value) } })) } }
     {
         match &mut self.list[t as usize] {
             Some(slot) => match &mut slot.get_mut().rest {

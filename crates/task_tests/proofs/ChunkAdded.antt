@@ -1,5 +1,5 @@
 -- A part that gets an empty chunk still fits.
-use Rattle.task_tests.proofs.Common.{◌≡◌, ◌≢◌, ℕ, ◌≤◌, cond, Some, List, [], ◌∷◌, ◌++◌, length, refl, ap, sym, subst, ◌∙◌, eqb, inl, inr, cases_Bool, ne_eqb, Addr, Cell, cell_of, place_in, ChunkValue, cell_at, LeafHeapValue, IsFresh, added, with_places, place_in-push, ProgramText, Name, Object, MachineState, owner_of, Private, Places, name_of, FitsNow, HeapStands, IsOwn, chunks_added, shape_added, now_changed}
+use Rattle.task_tests.proofs.Common.{◌≡◌, ◌≢◌, ℕ, ◌≤◌, cond, Some, List, [], ◌∷◌, ◌++◌, length, refl, ap, sym, subst, ◌∙◌, eqb, inl, inr, cases_Bool, ne_eqb, Addr, Cell, cell_of, place_in, ChunkValue, cell_at, LeafHeapValue, IsFresh, added, with_places, place_in-push, ProgramText, Name, Object, MachineState, owner_of, Private, Places, name_of, FitsNow, HeapStands, IsOwnObject, chunks_added, shape_added, now_changed}
 
 -- no name has an address in the chunk of this number
 abbrev pub IsOutside : Places → ℕ → Type 0
@@ -21,7 +21,7 @@ module _ (h : LeafHeapValue) (k : ChunkValue) (empty : k.cells ≡ []) (fresh : 
   heap_added place owner t store above out H = record {
     objects = λ a b e.
         let same = cell_of-added h.chunks k a empty in
-        let P : Cell → Type 0 = λ z. IsOwn place owner t store (name_of b) a z in
+        let P : Cell → Type 0 = λ z. IsOwnObject place owner t store (name_of b) a z in
         subst P (sym same) (H.objects a b (ap (λ (z : Cell). z.mark) (sym same) ∙ e));
     own = λ n a o e. ap (λ (z : Cell). z.mark) (cell_of-added h.chunks k a empty) ∙ H.own n a o e;
     others = H.others;

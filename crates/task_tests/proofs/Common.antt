@@ -20,7 +20,7 @@ pub use Rattle.task_frames.specs.FramesValue.{FramesValue}
 pub use Rattle.task_machine.proofs.Added.{chunks_added, shape_added}
 pub use Rattle.task_machine.proofs.Entries.{now_changed, begun_fits}
 pub use Rattle.task_machine.proofs.Stands.{at_nils}
-pub use Rattle.task_machine.specs.Fits.{FitsNow, HeapStands, IsOwn, IsShaped}
+pub use Rattle.task_machine.specs.Fits.{FitsNow, HeapStands, IsOwnObject, HeapIsShaped}
 pub use Rattle.task_machine.specs.Place.{Places, name_of}
 pub use Rattle.task_machine.specs.declared.part.Private.{Private}
 pub use Rattle.task_tests.specs.Root.{nowhere, first_frames}

@@ -1,5 +1,5 @@
 -- The root before its first step fits the machine before its first.
-use Rattle.task_tests.proofs.Common.{◌≡◌, ℕ, None, List, [], replicate, refl, sym, subst, pos, none-some, Birth, Born, Hole, ChunkValue, HaveDistinctNumbers, LeafHeapValue, IsCurrent, IsReserved, ProgramText, owner_of, root, start, Private, FitsNow, HeapStands, IsShaped, at_nils, nowhere}
+use Rattle.task_tests.proofs.Common.{◌≡◌, ℕ, None, List, [], replicate, refl, sym, subst, pos, none-some, Birth, Born, Hole, ChunkValue, HaveDistinctNumbers, LeafHeapValue, IsCurrent, IsReserved, ProgramText, owner_of, root, start, Private, FitsNow, HeapStands, HeapIsShaped, at_nils, nowhere}
 
 -- its part
 abbrev pub first_part : ProgramText → LeafHeapValue → ℕ → ℕ → Private
@@ -28,7 +28,7 @@ empty_stands p limit = record {
   within = λ n a e. absurd (none-some a e);
 }
 
-empty_shape : (h : LeafHeapValue) → h.chunks ≡ [] → h.current ≡ None → h.reserved ≡ None → IsShaped h
+empty_shape : (h : LeafHeapValue) → h.chunks ≡ [] → h.current ≡ None → h.reserved ≡ None → HeapIsShaped h
 empty_shape h k c r = record {
   apart = subst HaveDistinctNumbers (sym k) tt;
   current = subst (IsCurrent h.chunks) (sym c) tt;

@@ -1,7 +1,7 @@
 // What writes of references into an object of a root with two children record in the sets of the three heaps.
 
 ghost use Rattle.std.specs.Prelude.{IsTrue, length};
-ghost use Rattle.write_barrier.specs.Stored.{IsOwned};
+ghost use Rattle.write_barrier.specs.Stored.{PointsIntoOwned};
 
 use chunk_pool::Pool;
 use heap_tree::Tree;
@@ -12,7 +12,7 @@ use write_barrier::note_write;
 
 // Whether a reference, if it isn't nil, leads into a chunk of a task of the tree.
 fn is_owned(tree: &Tree, pool: &Pool, reference: Option<Addr>) -> bool
-    ensures { IsTrue result → IsOwned (length tree.now) pool.now reference }
+    ensures { IsTrue result → PointsIntoOwned (length tree.now) pool.now reference }
 {
     let Some(to) = reference else {
         return true;

@@ -12,7 +12,7 @@ pub use Rattle.entry_calls.specs.Owed.{owed_by, Pays}
 pub use Rattle.entry_calls.specs.Ran.{LeavesBy, LeavesPart, LentTo, RanTo}
 pub use Rattle.entry_calls.specs.below.chunk_pool.{units_in_use}
 pub use Rattle.entry_calls.specs.below.copying_gc.{Moved, ToChunks}
-pub use Rattle.entry_calls.specs.below.core_invariant.{first_cause, IsSharedValue, SharedValue, accounts, NotEntered, NoMemory, Refuses, need_cause, or_else, due_cause, IsCaused, refused, Fits, part_asks, FitsFirst, Enters, AllFit, OthersFit, HasBegun, refusal_of_result}
+pub use Rattle.entry_calls.specs.below.core_invariant.{first_cause, IsSharedValue, SharedValue, accounts, NotEntered, NoMemory, Refuses, need_cause, or_else, due_cause, IsCaused, refused, WorkerPartFits, part_asks, FitsFirst, Enters, EachPartStillFits, OthersFit, CopyingHasBegun, refusal_of_result}
 pub use Rattle.entry_calls.specs.below.fork_join_commit.{running_parent, HoldsNone, IsUnchanged, SameButPlaces, EndsChild, ForksOn}
 pub use Rattle.entry_calls.specs.below.heap_marking.{marking_cause}
 pub use Rattle.entry_calls.specs.below.hh_lang.{ProgramText}
@@ -22,7 +22,7 @@ pub use Rattle.entry_calls.specs.below.leaf_heap.{place_for, room_of, LeafHeapVa
 pub use Rattle.entry_calls.specs.below.run_ledger.{Refused, is_pool_enough, Collecting, NoWorker, NotDue, NotNeeded, NotSpent, Over, PoolEnough, PoolShort, RunEnd, CanBeGiven, kind_refusal, refused_if, refused_unless, heap_of, sweep_number, on_asked, Nothing, Left, left_in, marked_in, gives, Ledger, tasks_of}
 pub use Rattle.entry_calls.specs.below.run_trace.{Kind, Begin, Fuel, PutOff, Ran, Chunk, Mark, More, Sweep, SettingsValue, field_limit, private_limit, EntryValue, Took, End}
 pub use Rattle.entry_calls.specs.below.step_commit.{machine_after, IsShared, GoesAlone, HaltsAlone, alone_entry, FinishesAlone}
-pub use Rattle.entry_calls.specs.below.task_machine.{Private, Paused, Due, NeedChunk, is_part_due, lacks_place, Shared, Spent, KeepsAccounts, unended, steps, FitsSome, KeepsRest, PausesBy, Runs}
+pub use Rattle.entry_calls.specs.below.task_machine.{Private, Paused, Due, NeedChunk, is_part_due, lacks_place, Shared, Spent, KeepsAccounts, unended, steps, FitsSome, KeepsRest, PausesBy, RunsSteps}
 pub use Rattle.std.proofs.Common.{◌≡◌, ℕ, ◌<◌, ◌==◌, ◌||◌, Bool, true, false, Option, Some, None, is_some, ap, sym, subst, ◌∙◌, if◌then◌else◌, nat_le, eq-eqb, ne_eqb, arith, ◌&&◌, is_none, nat_lt, refl, zero, suc, ◌+◌, ◌≤◌, length, slice_get, ◌++◌, ◌∷◌, [], List, inl, inr, rules}
 pub use Rattle.std.proofs.lemmas.Bool.{false≢true, or_right}
 pub use Rattle.turn_entries.specs.Acts.{Acts, ActsFor, after_end, EndsHalted, ComesNext, Goes, WhyNone}

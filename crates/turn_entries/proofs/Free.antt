@@ -1,5 +1,5 @@
 -- Entries that aren't refused, if the worker may make one.
-use Rattle.turn_entries.proofs.Common.{◌≡◌, ℕ, ◌<◌, ◌&&◌, true, false, Bool, Option, Some, None, is_none, is_some, nat_le, nat_lt, refl, ap, sym, subst, ◌∙◌, arith, false≢true, asked, Ran, Chunk, Begin, PutOff, Fuel, Mark, More, Sweep, SettingsValue, Refused, Collecting, NoWorker, NotDue, NotNeeded, NotSpent, Over, PoolEnough, PoolShort, RunEnd, CanBeGiven, is_pool_enough, kind_refusal, refused_if, refused_unless, heap_of, sweep_number, on_asked, owed_can_be_given, not_refused, units_in_use, place_for, room_of, Private, Due, NeedChunk, is_part_due, lacks_place, NotEntered, NoMemory, Refuses, first_cause, need_cause, or_else, due_cause, IsCaused, refused, Fits, part_asks, IsSharedValue, SharedValue, accounts, asked_same, end_now, steps_now, refused_is, ran_answer, machine_after, begin_answer, chunk_answer, put_off_answer, without_fresh, owed_by, IsPaused}
+use Rattle.turn_entries.proofs.Common.{◌≡◌, ℕ, ◌<◌, ◌&&◌, true, false, Bool, Option, Some, None, is_none, is_some, nat_le, nat_lt, refl, ap, sym, subst, ◌∙◌, arith, false≢true, asked, Ran, Chunk, Begin, PutOff, Fuel, Mark, More, Sweep, SettingsValue, Refused, Collecting, NoWorker, NotDue, NotNeeded, NotSpent, Over, PoolEnough, PoolShort, RunEnd, CanBeGiven, is_pool_enough, kind_refusal, refused_if, refused_unless, heap_of, sweep_number, on_asked, owed_can_be_given, not_refused, units_in_use, place_for, room_of, Private, Due, NeedChunk, is_part_due, lacks_place, NotEntered, NoMemory, Refuses, first_cause, need_cause, or_else, due_cause, IsCaused, refused, WorkerPartFits, part_asks, IsSharedValue, SharedValue, accounts, asked_same, end_now, steps_now, refused_is, ran_answer, machine_after, begin_answer, chunk_answer, put_off_answer, without_fresh, owed_by, IsPaused}
 use Rattle.entry_calls.specs.below.run_ledger.{Mark as OwesMark, More as OwesMore, Sweep as OwesSweep, Due as DueCause, Spent}
 use Rattle.turn_entries.proofs.Stepping.{first}
 
@@ -12,7 +12,7 @@ only_memory NoMemory why none h = refl
 
 -- ---- PARTS
 
-module _ (w : SharedValue) (k : ℕ) (part : Private) (I : IsSharedValue w) (free : first_cause w.end w.steps w.settings k false ≡ None) (F : Fits w k part) where
+module _ (w : SharedValue) (k : ℕ) (part : Private) (I : IsSharedValue w) (free : first_cause w.end w.steps w.settings k false ≡ None) (F : WorkerPartFits w k part) where
   none_first : is_some (first_cause w.end w.steps w.settings k false) ≡ false
   none_first = ap is_some free
 

@@ -1,5 +1,5 @@
 -- A part after private steps, whatever value it fits.
-use Rattle.turn_entries.proofs.Common.{◌≡◌, ℕ, zero, suc, ◌+◌, ◌<◌, ◌≤◌, None, length, slice_get, refl, ap, sym, subst, ◌∙◌, arith, ProgramText, MachineState, Counted, row_of, IsForkJoinState, steps_count, run_is_fork_join_state, start_is_fork_join_state, step_is_fork_join_state, field_limit, private_limit, Ledger, tasks_of, steps_are_bounded, machine_is_run, journals_are_counted, Private, Paused, Spent, KeepsAccounts, unended, steps, FitsSome, KeepsRest, PausesBy, Runs, Fits, FitsFirst, IsSharedValue, SharedValue, accounts, second_gives_first, beyond_machine, machine_after, fits_on, next_on, ran, AtSome, HasGrown, IsPaused, MayRun}
+use Rattle.turn_entries.proofs.Common.{◌≡◌, ℕ, zero, suc, ◌+◌, ◌<◌, ◌≤◌, None, length, slice_get, refl, ap, sym, subst, ◌∙◌, arith, ProgramText, MachineState, Counted, row_of, IsForkJoinState, steps_count, run_is_fork_join_state, start_is_fork_join_state, step_is_fork_join_state, field_limit, private_limit, Ledger, tasks_of, steps_are_bounded, machine_is_run, journals_are_counted, Private, Paused, Spent, KeepsAccounts, unended, steps, FitsSome, KeepsRest, PausesBy, RunsSteps, WorkerPartFits, FitsFirst, IsSharedValue, SharedValue, accounts, second_gives_first, beyond_machine, machine_after, fits_on, next_on, ran, AtSome, HasGrown, IsPaused, MayRun}
 
 -- ---- ITS OBJECTS are counted
 
@@ -13,7 +13,7 @@ counted_then p m t j (suc n) k e K C =
 fork_join_now : (w : SharedValue) → IsForkJoinState (accounts w).machine
 fork_join_now w = subst IsForkJoinState (sym (machine_is_run w.program w.settings w.journal.items)) (run_is_fork_join_state w.program _ (tasks_of w.journal.items) (start_is_fork_join_state w.program (field_limit w.settings.version)))
 
-module _ (w : SharedValue) (k : ℕ) (part : Private) (I : IsSharedValue w) (on : (accounts w).end ≡ None) (F : Fits w k part) where
+module _ (w : SharedValue) (k : ℕ) (part : Private) (I : IsSharedValue w) (on : (accounts w).end ≡ None) (F : WorkerPartFits w k part) where
   pub first : FitsFirst w part
   first = second_gives_first w k part I F on
 
@@ -32,8 +32,8 @@ module _ (w : SharedValue) (k : ℕ) (part : Private) (I : IsSharedValue w) (on 
 
 -- ---- AFTER A RUN OF STEPS
 
-module _ (w : SharedValue) (text : ProgramText) (same : w.program ≡ text) (k : ℕ) (I : IsSharedValue w) (old new : Private) (fits : Fits w k old) (on : (accounts w).end ≡ None) (idle : old.begun ≡ None) (n : ℕ)
-    (runs : Runs text old n new) (accounts_kept : KeepsAccounts text old n new) (rest : KeepsRest old new) (few : old.fresh + n ≤ private_limit) where
+module _ (w : SharedValue) (text : ProgramText) (same : w.program ≡ text) (k : ℕ) (I : IsSharedValue w) (old new : Private) (fits : WorkerPartFits w k old) (on : (accounts w).end ≡ None) (idle : old.begun ≡ None) (n : ℕ)
+    (runs : RunsSteps text old n new) (accounts_kept : KeepsAccounts text old n new) (rest : KeepsRest old new) (few : old.fresh + n ≤ private_limit) where
   F : FitsFirst w old
   F = first w k old I on fits
 
@@ -62,5 +62,5 @@ module _ (p : ProgramText) (k : ℕ) (part : Private) (A : AtSome p (λ w. MayRu
   pub few_then : (n : ℕ) → n ≤ private_limit → part.allocations + n < 4294967296
   few_then n most = few_allocations A.0 k part A.1.shared A.1.goes A.2.fits n A.2.few most
 
-  pub grows : (new : Private) (n : ℕ) → Runs p part n new → KeepsAccounts p part n new → KeepsRest part new → part.fresh + n ≤ private_limit → (why : Paused) → PausesBy p part n new why → (why ≡ Spent → new.fresh ≡ private_limit) → HasGrown p k part new why
+  pub grows : (new : Private) (n : ℕ) → RunsSteps p part n new → KeepsAccounts p part n new → KeepsRest part new → part.fresh + n ≤ private_limit → (why : Paused) → PausesBy p part n new why → (why ≡ Spent → new.fresh ≡ private_limit) → HasGrown p k part new why
   grows new n runs kept rest few why by spent = λ w G f. paused_then w p G.program k G.shared part new f G.goes A.2.idle n runs kept rest few why by spent

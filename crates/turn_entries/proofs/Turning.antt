@@ -1,20 +1,20 @@
 -- Values before and after a turn.
-use Rattle.turn_entries.proofs.Common.{◌≡◌, ℕ, ◌+◌, ◌++◌, ◌∷◌, [], ◌||◌, Bool, true, false, List, Option, Some, None, is_some, length, refl, ap, sym, subst, ◌∙◌, inl, inr, false≢true, or_right, EntryValue, Kind, Ran, Took, RunEnd, Shared, Private, Enters, refused, AllFit, Fits, OthersFit, NotEntered, NoMemory, Refuses, IsSharedValue, SharedValue, accounts, running_parent, HoldsNone, IsUnchanged, SameButPlaces, none_of, TurnOutcome, Entered, Same, Next, Running, Forked, Resumed, Idle, Waits, Stop, Ready, Run, Copied as IsCopied, Found, OutOfMemory, ActsFor, after_end, EndsHalted, ComesNext, Goes, WhyNone, going_kind, is_out_of_memory, BringsTo, next_after, EntersOne, NoEntryMade, is_over}
+use Rattle.turn_entries.proofs.Common.{◌≡◌, ℕ, ◌+◌, ◌++◌, ◌∷◌, [], ◌||◌, Bool, true, false, List, Option, Some, None, is_some, length, refl, ap, sym, subst, ◌∙◌, inl, inr, false≢true, or_right, EntryValue, Kind, Ran, Took, RunEnd, Shared, Private, Enters, refused, EachPartStillFits, WorkerPartFits, OthersFit, NotEntered, NoMemory, Refuses, IsSharedValue, SharedValue, accounts, running_parent, HoldsNone, IsUnchanged, SameButPlaces, none_of, TurnOutcome, Entered, Same, Next, Running, Forked, Resumed, Idle, Waits, Stop, Ready, Run, Copied as IsCopied, Found, OutOfMemory, ActsFor, after_end, EndsHalted, ComesNext, Goes, WhyNone, going_kind, is_out_of_memory, BringsTo, next_after, EntersOne, NoEntryMade, is_over}
 use Rattle.turn_entries.specs.declared.between_turns.Next.TheVariants.{Collecting as Collects, Copied as HasCopied, Found as GoesFor}
 use Rattle.turn_entries.specs.declared.between_turns.Ready.TheVariants.{Paused as HasPaused}
 
 -- ---- NO ENTRY
 
 pub unchanged : (w after : SharedValue) → after ≡ w → NoEntryMade w after
-unchanged w after e = record { journal = ap (λ (z : SharedValue). z.journal.items) e; program = ap (λ (z : SharedValue). z.program) e; settings = ap (λ (z : SharedValue). z.settings) e; all = λ k p f. subst (λ (z : SharedValue). Fits z k p) (sym e) f }
+unchanged w after e = record { journal = ap (λ (z : SharedValue). z.journal.items) e; program = ap (λ (z : SharedValue). z.program) e; settings = ap (λ (z : SharedValue). z.settings) e; all = λ k p f. subst (λ (z : SharedValue). WorkerPartFits z k p) (sym e) f }
 
-pub roomier : (w after : SharedValue) → after ≡ record w { journal = record { items = w.journal.items; room = after.journal.room } } → ((k : ℕ) (p : Private) → Fits w k p → Fits after k p) → NoEntryMade w after
+pub roomier : (w after : SharedValue) → after ≡ record w { journal = record { items = w.journal.items; room = after.journal.room } } → ((k : ℕ) (p : Private) → WorkerPartFits w k p → WorkerPartFits after k p) → NoEntryMade w after
 roomier w after e all = record { journal = ap (λ (z : SharedValue). z.journal.items) e; program = ap (λ (z : SharedValue). z.program) e; settings = ap (λ (z : SharedValue). z.settings) e; all = all }
 
-pub placed : (w after : SharedValue) → SameButPlaces w after → AllFit w after → NoEntryMade w after
+pub placed : (w after : SharedValue) → SameButPlaces w after → EachPartStillFits w after → NoEntryMade w after
 placed w after S all = record { journal = ap (λ (z : SharedValue). z.journal.items) S.rest; program = ap (λ (z : SharedValue). z.program) S.rest; settings = ap (λ (z : SharedValue). z.settings) S.rest; all = all }
 
-pub unentered : (w after : SharedValue) (cause : NotEntered) → IsUnchanged cause w after → AllFit w after → NoEntryMade w after
+pub unentered : (w after : SharedValue) (cause : NotEntered) → IsUnchanged cause w after → EachPartStillFits w after → NoEntryMade w after
 unentered w after (Refuses cause) same all = unchanged w after same
 unentered w after NoMemory same all = placed w after same all
 
@@ -37,17 +37,17 @@ module _ (w after : SharedValue) (S : NoEntryMade w after) where
 
 -- ---- ONE ENTRY
 
-pub all_others : (w after : SharedValue) (k : ℕ) → AllFit w after → OthersFit w after k
+pub all_others : (w after : SharedValue) (k : ℕ) → EachPartStillFits w after → OthersFit w after k
 all_others w after k all = λ j p ne f. all j p f
 
 pub one : (w after : SharedValue) (k : ℕ) (kind : Kind) → Enters w after (record { worker = k; kind = kind }) → OthersFit w after k → EntersOne w after k kind
 one w after k kind enters others = record { enters = enters; others = others }
 
-pub one_of_all : (w after : SharedValue) (k : ℕ) (kind : Kind) → Enters w after (record { worker = k; kind = kind }) → AllFit w after → EntersOne w after k kind
+pub one_of_all : (w after : SharedValue) (k : ℕ) (kind : Kind) → Enters w after (record { worker = k; kind = kind }) → EachPartStillFits w after → EntersOne w after k kind
 one_of_all w after k kind enters all = one w after k kind enters (all_others w after k all)
 
 -- after an entry by which every part still fits, the worker goes on with what it brought
-pub follows_paid : (w after : SharedValue) (k : ℕ) (ready : Ready) → IsSharedValue w → (accounts w).end ≡ None → is_out_of_memory ready ≡ false → BringsTo w k ready → AllFit w after → after.program ≡ w.program → (accounts after).end ≡ None → ComesNext w after k ready (next_after ready)
+pub follows_paid : (w after : SharedValue) (k : ℕ) (ready : Ready) → IsSharedValue w → (accounts w).end ≡ None → is_out_of_memory ready ≡ false → BringsTo w k ready → EachPartStillFits w after → after.program ≡ w.program → (accounts after).end ≡ None → ComesNext w after k ready (next_after ready)
 follows_paid w after k (HasPaused part why) I on met B all same goes =
     let P = (B.2 w (record { shared = I; program = refl; goes = on }) B.1).may in
     (goes, record { fits = all k part P.fits; few = P.few; idle = P.idle })
@@ -88,7 +88,7 @@ module _ {P : Type 0} (value : P → SharedValue) where
     follows = follows (sym told ∙ none_of end (sym is ∙ going));
   }
 
-  pub halts_with : (after : SharedValue) (run : Run P) → value run.paced ≡ record after { halted = true } → AllFit after (value run.paced) → EndsHalted value after (Same run Stop)
+  pub halts_with : (after : SharedValue) (run : Run P) → value run.paced ≡ record after { halted = true } → EachPartStillFits after (value run.paced) → EndsHalted value after (Same run Stop)
   halts_with after run is all = λ w k ready kind same on.
       let halts : NoEntryMade after (value run.paced) = record { journal = ap (λ (z : SharedValue). z.journal.items) is; program = ap (λ (z : SharedValue). z.program) is; settings = ap (λ (z : SharedValue). z.settings) is; all = all } in
       (then_same w after same (value run.paced) halts, (ap is_over is, λ over. absurd (false≢true (sym on ∙ over))))
@@ -102,7 +102,7 @@ module _ {P : Type 0} (value : P → SharedValue) where
 
 -- ---- THE SAME FROM THE VALUE BEFORE CAPACITY WAS RESERVED FOR AN ENTRY
 
-module _ (w : SharedValue) (after : SharedValue) (e : after ≡ record w { journal = record { items = w.journal.items; room = after.journal.room } }) (all : AllFit w after) (on : is_over w ≡ false) (k : ℕ) (ready : Ready) where
+module _ (w : SharedValue) (after : SharedValue) (e : after ≡ record w { journal = record { items = w.journal.items; room = after.journal.room } }) (all : EachPartStillFits w after) (on : is_over w ≡ false) (k : ℕ) (ready : Ready) where
   same_kind : going_kind w k ready ≡ going_kind after k ready
   same_kind = sym (ap (λ (z : SharedValue). going_kind z k ready) e)
 

@@ -1,6 +1,6 @@
 -- What a worker does in its turn.
 use Rattle.std.specs.Prelude.{◌≡◌, ◌⊎◌, ℕ, ◌+◌, true, false, Option, Some, None, is_some, length}
-use Rattle.turn_entries.specs.Common.{Kind, Took, Private, Shared, refused, AllFit, Fits, IsSharedValue, SharedValue, accounts, running_parent, HoldsNone}
+use Rattle.turn_entries.specs.Common.{Kind, Took, Private, Shared, refused, EachPartStillFits, WorkerPartFits, IsSharedValue, SharedValue, accounts, running_parent, HoldsNone}
 use Rattle.turn_entries.specs.declared.act.TurnOutcome.{TurnOutcome}
 use Rattle.turn_entries.specs.declared.act.TurnOutcome.TheVariants.{Entered, Same}
 use Rattle.turn_entries.specs.declared.between_turns.Next.{Next}
@@ -28,7 +28,7 @@ pub record GaveTaskUp (after : SharedValue) (k : ℕ) (ready : Ready) : Type 0 w
 abbrev pub ComesNext : SharedValue → SharedValue → ℕ → Ready → Next → Type 0
 ComesNext w after k ready (Running part) = Goes after × MayRun after k part
 ComesNext w after k ready (Collects c) = Goes after × MayCopy after k c
-ComesNext w after k ready (HasCopied c) = Goes after × (ready ≡ IsCopied c) × Fits after k c.begun.value × WasCopied after.program k c
+ComesNext w after k ready (HasCopied c) = Goes after × (ready ≡ IsCopied c) × WorkerPartFits after k c.begun.value × WasCopied after.program k c
 ComesNext w after k ready (GoesFor t) = Goes after × (ready ≡ Found (Some t))
 ComesNext w after k ready (Forked left right) = Goes after × GaveTaskUp after k ready × (left ≡ length (accounts w).machine.tasks) × (right ≡ left + 1)
 ComesNext w after k ready (Resumed t) = Goes after × (p : GaveTaskUp after k ready) × (running_parent (accounts after).machine.tasks p.part.task ≡ Some t)
@@ -83,7 +83,7 @@ module _ {P : Type 0} (value : P → SharedValue) where
 
   -- an entry was made by which each part still fits, and the worker goes on with what it brought
   abbrev pub EndsPaid : SharedValue → Ready → TurnOutcome P → Type 0
-  EndsPaid after ready acted = (w : SharedValue) (k : ℕ) (kind : Kind) → IsSharedValue w → Goes w → is_out_of_memory ready ≡ false → BringsTo w k ready → EntersOne w after k kind → AllFit w after → w.halted ≡ false
+  EndsPaid after ready acted = (w : SharedValue) (k : ℕ) (kind : Kind) → IsSharedValue w → Goes w → is_out_of_memory ready ≡ false → BringsTo w k ready → EntersOne w after k kind → EachPartStillFits w after → w.halted ≡ false
       → ActsFor w k ready (Some kind) acted
 
   -- the worker makes this entry, whatever it brought

@@ -1,6 +1,6 @@
 -- The names of lower crates that these specifications use. Declares nothing.
 pub use Rattle.entry_calls.specs.Owed.{owed_by}
-pub use Rattle.entry_calls.specs.below.core_invariant.{refused, AllFit, Fits, IsSharedValue, SharedValue, accounts, HasBegun, first_cause, Enters, OthersFit}
+pub use Rattle.entry_calls.specs.below.core_invariant.{refused, EachPartStillFits, WorkerPartFits, IsSharedValue, SharedValue, accounts, CopyingHasBegun, first_cause, Enters, OthersFit}
 pub use Rattle.entry_calls.specs.below.fork_join_commit.{running_parent, HoldsNone}
 pub use Rattle.entry_calls.specs.below.hh_lang.{ProgramText}
 pub use Rattle.entry_calls.specs.below.leaf_collections.{FitsCopied}

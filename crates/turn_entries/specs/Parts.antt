@@ -1,7 +1,7 @@
 -- What a worker holds between its turns, and how it goes on.
 use Rattle.std.specs.Prelude.{◌≡◌, ℕ, ◌≤◌, Option, Some, None}
 use Rattle.std.specs.declared.snapshot.Snapshot.{Snapshot}
-use Rattle.turn_entries.specs.Common.{ProgramText, EntryValue, private_limit, Private, Paused, Spent, Pauses, Fits, HasBegun, IsSharedValue, SharedValue, accounts, machine_after, FitsCopied, SeatView}
+use Rattle.turn_entries.specs.Common.{ProgramText, EntryValue, private_limit, Private, Paused, Spent, Pauses, WorkerPartFits, CopyingHasBegun, IsSharedValue, SharedValue, accounts, machine_after, FitsCopied, SeatView}
 use Rattle.turn_entries.specs.declared.between_turns.Collecting.{Collecting}
 use Rattle.turn_entries.specs.declared.between_turns.Copied.{Copied}
 use Rattle.turn_entries.specs.declared.between_turns.Next.{Next}
@@ -25,7 +25,7 @@ pub record RunGoesOn (p : ProgramText) (w : SharedValue) : Type 0 where
 
 -- the part may take steps
 pub record MayRun (w : SharedValue) (k : ℕ) (part : Private) : Type 0 where
-  pub fits : Fits w k part
+  pub fits : WorkerPartFits w k part
   pub few : part.fresh ≤ private_limit
   pub idle : part.begun ≡ None
 
@@ -37,20 +37,20 @@ pub record IsPaused (w : SharedValue) (k : ℕ) (part : Private) (why : Paused) 
 
 -- the part's leaf collection has begun, and its heap may be copied
 pub record MayCopy (w : SharedValue) (k : ℕ) (c : Collecting) : Type 0 where
-  pub fits : Fits w k c.part
+  pub fits : WorkerPartFits w k c.part
   pub fresh : c.part.fresh ≡ 0
   pub before : Private
-  pub begun : HasBegun before c.part c.roots.items c.to_chunks
+  pub begun : CopyingHasBegun before c.part c.roots.items c.to_chunks
 
 -- ---- WHATEVER THE VALUE IS
 
 -- this part has come from the recorded one by steps of its own
 abbrev pub HasGrown : ProgramText → ℕ → Private → Private → Paused → Type 0
-HasGrown p k kept part why = (w : SharedValue) → RunGoesOn p w → Fits w k kept → IsPaused w k part why
+HasGrown p k kept part why = (w : SharedValue) → RunGoesOn p w → WorkerPartFits w k kept → IsPaused w k part why
 
 -- the part fits for the end of its collection
 abbrev pub WasCopied : ProgramText → ℕ → Copied → Type 0
-WasCopied p k c = (w : SharedValue) → RunGoesOn p w → Fits w k c.begun.value → FitsCopied w k c.part c.moved
+WasCopied p k c = (w : SharedValue) → RunGoesOn p w → WorkerPartFits w k c.begun.value → FitsCopied w k c.part c.moved
 
 -- ---- BETWEEN TURNS: p is the program, and k the worker
 
@@ -79,15 +79,15 @@ ComesWith p k kept _ = Unit {0}
 
 -- the same if the worker has the value w
 abbrev pub BringsTo : SharedValue → ℕ → Ready → Type 0
-BringsTo w k (HasPaused part why) = (kept : Private) × Fits w k kept × HasGrown w.program k kept part why
-BringsTo w k (IsCopied c) = Fits w k c.begun.value × WasCopied w.program k c
+BringsTo w k (HasPaused part why) = (kept : Private) × WorkerPartFits w k kept × HasGrown w.program k kept part why
+BringsTo w k (IsCopied c) = WorkerPartFits w k c.begun.value × WasCopied w.program k c
 BringsTo w k _ = Unit {0}
 
 -- what it may go on with if it gives this value back
 abbrev pub TakesFrom : SharedValue → ℕ → Next → Type 0
 TakesFrom w k (Running part) = ((accounts w).end ≡ None) × MayRun w k part
 TakesFrom w k (Collects c) = ((accounts w).end ≡ None) × MayCopy w k c
-TakesFrom w k (HasCopied c) = Fits w k c.begun.value × WasCopied w.program k c
+TakesFrom w k (HasCopied c) = WorkerPartFits w k c.begun.value × WasCopied w.program k c
 TakesFrom w k _ = Unit {0}
 
 -- how a worker goes on after it has paid what it owed

@@ -1,7 +1,7 @@
 -- The shared value in turns, as the turn sees it.
 use Rattle.std.specs.Prelude.{◌≡◌, ◌<◌, ℕ, ◌||◌, Bool, false, None, List, is_some}
 use Rattle.std.specs.declared.snapshot.Snapshot.{Snapshot}
-use Rattle.turn_entries.specs.Common.{EntryValue, Kind, Owed, Private, first_cause, Enters, AllFit, Fits, OthersFit, SharedValue, accounts, owed_by}
+use Rattle.turn_entries.specs.Common.{EntryValue, Kind, Owed, Private, first_cause, Enters, EachPartStillFits, WorkerPartFits, OthersFit, SharedValue, accounts, owed_by}
 use Rattle.turn_entries.specs.declared.run.Run.{Run}
 use Rattle.turn_entries.specs.declared.run.Setup.{Setup}
 
@@ -22,7 +22,7 @@ module _ {P : Type 0} (value : P → SharedValue) where
 
   -- a worker keeps a part that fits
   abbrev pub FitsSnapshot : Run P → ℕ → Snapshot Private → Type 0
-  FitsSnapshot r k kept = Fits (value r.paced) k kept.value
+  FitsSnapshot r k kept = WorkerPartFits (value r.paced) k kept.value
 
 -- worker k may make an entry, for which there is capacity, and owes this
 pub record MayEnter (w : SharedValue) (k : ℕ) (owes : Owed) : Type 0 where
@@ -37,7 +37,7 @@ pub record NoEntryMade (w after : SharedValue) : Type 0 where
   pub journal : after.journal.items ≡ w.journal.items
   pub program : after.program ≡ w.program
   pub settings : after.settings ≡ w.settings
-  pub all : AllFit w after
+  pub all : EachPartStillFits w after
 
 -- worker k made this entry
 pub record EntersOne (w after : SharedValue) (k : ℕ) (kind : Kind) : Type 0 where

@@ -9,8 +9,8 @@ abbrev pub option : Text → Rule
 option name = record (new_rule name) { long = Some name }
 
 -- before its first argument: without help or version words
-abbrev pub bare : App
-bare = record {
+abbrev pub bare_view : App
+bare_view = record {
   top = record (new_shape (codes "heaps")) {
     no_binary_name = true;
     disable_help_flag = true;
@@ -21,4 +21,4 @@ bare = record {
 }
 
 abbrev pub heaps_app : App
-heaps_app = record bare { top = record bare.top { rules = file ∷ option (codes "path") ∷ option (codes "limit") ∷ [] } }
+heaps_app = record bare_view { top = record bare_view.top { rules = file ∷ option (codes "path") ∷ option (codes "limit") ∷ [] } }

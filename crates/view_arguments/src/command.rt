@@ -3,7 +3,7 @@
 ghost use Rattle.std.specs.Prelude.{◌≡◌, IfOk, false};
 ghost use Rattle.clap.specs.Words.{app_of, rule_of};
 ghost use Rattle.command_line.specs.App.{file};
-ghost use Rattle.view_arguments.specs.App.{option, bare, heaps_app};
+ghost use Rattle.view_arguments.specs.App.{option, bare_view, heaps_app};
 
 use clap::{Arg, Command};
 use command_line::with_argument;
@@ -26,8 +26,8 @@ fn option<'w>(alloc: Global, name: &'w str) -> Arg<'w>
 }
 
 // The command without its arguments.
-fn bare<'w>(alloc: Global) -> Command<'w>
-    ensures { app_of result ≡ bare }
+fn bare_view<'w>(alloc: Global) -> Command<'w>
+    ensures { app_of result ≡ bare_view }
 {
     Command::new(alloc, "heaps")
         .no_binary_name(true)
@@ -40,7 +40,7 @@ fn bare<'w>(alloc: Global) -> Command<'w>
 pub(crate) fn heaps_command<'w>(alloc: Global) -> Result<Command<'w>, AllocError>
     ensures { IfOk result (λ c. app_of c ≡ heaps_app) }
 {
-    let whole = with_argument(Ok(bare(alloc)), file(alloc));
+    let whole = with_argument(Ok(bare_view(alloc)), file(alloc));
     let whole = with_argument(whole, option(alloc, "path"));
     with_argument(whole, option(alloc, "limit"))
 }

@@ -1,7 +1,7 @@
 -- A run as a page.
 use Rattle.std.specs.Prelude.{ℕ, Bool, true, false, Option, Some, None, List, ◌++◌, codes, length, nat_lt}
 use Rattle.std.specs.Fmt.{decimal}
-use Rattle.view_core.specs.Common.{ProgramText, EntryValue, SettingsValue, refused_as_run, InputFault, TraceInput, input_fault, settings_for, IsInput, refusal_of, Refuses, page, Done, Trace, Reply, Says}
+use Rattle.view_core.specs.Common.{ProgramText, EntryValue, SettingsValue, refused_as_run, InputFault, TraceInput, input_fault, settings_for, IsInput, refusal_of, RepliesRefusal, page, Done, Trace, Reply, Says}
 use Rattle.view_core.specs.Shown.{ShowsWhole}
 
 -- the title that is given, or the file's name
@@ -35,7 +35,7 @@ ShowsPageOf title s input t =
 -- of a program with a trace, or its first fault
 abbrev pub ShowsPageIn : List ℕ → SettingsValue → List ℕ → Option InputFault → Reply → Type 0
 ShowsPageIn title s input None w = (t : TraceInput) × IsInput input t × ShowsPageOf title s input t w
-ShowsPageIn title s input (Some f) w = Refuses (refusal_of f) w
+ShowsPageIn title s input (Some f) w = RepliesRefusal (refusal_of f) w
 
 abbrev pub ShowsPage : List ℕ → SettingsValue → List ℕ → Reply → Type 0
 ShowsPage title s input = ShowsPageIn title s input (input_fault input)

@@ -1,6 +1,6 @@
 -- Each call: what it reads, and what it shows of that.
 use Rattle.std.specs.Prelude.{ℕ, List, Option, Some, None, codes}
-use Rattle.view_core.specs.Common.{most_bytes, Words, Refuses, Picture, Heaps, Run, Page, Faults, ViewCall, Usage, Of, Done, Reply, Reads, ReadsNothing, ReadsUpTo, Says}
+use Rattle.view_core.specs.Common.{most_bytes, Words, RepliesRefusal, Picture, Heaps, Run, Page, Faults, ViewCall, Usage, Of, Done, Reply, Reads, ReadsNothing, ReadsUpTo, Says}
 use Rattle.view_core.specs.Page.{ShowsPage, title_of}
 use Rattle.view_core.specs.Faults.{ShowsFaults}
 use Rattle.view_core.specs.Shown.{ShowsHeaps, ShowsRun}
@@ -24,4 +24,4 @@ ShowsPicture file (Faults json) input = ShowsFaults json input
 abbrev pub ShowsView : Option ViewCall → List ℕ → Reply → Type 0
 ShowsView (Some (Of file picture)) input = ShowsPicture file picture input
 ShowsView (Some Usage) input = Says Done usage
-ShowsView None input = Refuses Words
+ShowsView None input = RepliesRefusal Words

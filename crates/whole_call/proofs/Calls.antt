@@ -8,8 +8,8 @@ use Rattle.whole_call.specs.declared.status.CallStatus.{CallStatus}
 use Rattle.whole_call.specs.declared.status.CallStatus.TheVariants.{ReadFault, WriteFault, NoMemory}
 use Rattle.whole_call.specs.declared.reply.Reply.{Reply}
 use Rattle.whole_call.specs.Input.{Reads, ReadsNothing, ReadsUpTo, SourceState, IsInputOf, HasTaken, HasRead, bytes_for, most_of}
-use Rattle.whole_call.specs.Streams.{Streams, Ends, WritesReply}
-use Rattle.whole_call.specs.Call.{IsCall, IsCallWith}
+use Rattle.whole_call.specs.Streams.{Streams, EndsWithReply, WritesReply}
+use Rattle.whole_call.specs.Call.{IsWholeCall, IsCallWith}
 
 -- INPUTS
 
@@ -43,9 +43,9 @@ nothing_taken (ReadsUpTo limit file) before e = absurd (let f : ReadsUpTo limit 
 
 -- CALLS
 
-module _ {A : Type 0} (IsInput Ends : A → Type 0) (ReadsNone Taken WriteFails : Type 0) (before after : SourceState) where
+module _ {A : Type 0} (IsInput EndsWithReply : A → Type 0) (ReadsNone Taken WriteFails : Type 0) (before after : SourceState) where
   -- an allocation failed before the input was there; this is one
-  pub call_without_memory : (input : A) → IsInput input → Ends input → (ReadsNone → Taken) → IsCallWith IsInput Ends ReadsNone Taken WriteFails NoMemory before after
+  pub call_without_memory : (input : A) → IsInput input → EndsWithReply input → (ReadsNone → Taken) → IsCallWith IsInput EndsWithReply ReadsNone Taken WriteFails NoMemory before after
   call_without_memory input is ends untouched = record {
     answered = (input, is, ends);
     taken = λ read memory. absurd (memory refl);
@@ -55,7 +55,7 @@ module _ {A : Type 0} (IsInput Ends : A → Type 0) (ReadsNone Taken WriteFails 
   }
 
   -- reading failed; this is an input
-  pub call_without_input : (input : A) → IsInput input → Ends input → (¬ ReadsNone) → HasRisen before.faults after.faults → IsCallWith IsInput Ends ReadsNone Taken WriteFails ReadFault before after
+  pub call_without_input : (input : A) → IsInput input → EndsWithReply input → (¬ ReadsNone) → HasRisen before.faults after.faults → IsCallWith IsInput EndsWithReply ReadsNone Taken WriteFails ReadFault before after
   call_without_input input is ends some risen = record {
     answered = (input, is, ends);
     taken = λ read memory. absurd (read refl);
@@ -65,7 +65,7 @@ module _ {A : Type 0} (IsInput Ends : A → Type 0) (ReadsNone Taken WriteFails 
   }
 
   -- the input was read and answered
-  pub call_with_input : (status : CallStatus) (input : A) → IsInput input → Taken → Ends input → status ≢ ReadFault → (status ≡ WriteFault → WriteFails) → IsCallWith IsInput Ends ReadsNone Taken WriteFails status before after
+  pub call_with_input : (status : CallStatus) (input : A) → IsInput input → Taken → EndsWithReply input → status ≢ ReadFault → (status ≡ WriteFault → WriteFails) → IsCallWith IsInput EndsWithReply ReadsNone Taken WriteFails status before after
   call_with_input status input is taken ends none fails = record {
     answered = (input, is, ends);
     taken = λ r m. taken;
@@ -74,23 +74,23 @@ module _ {A : Type 0} (IsInput Ends : A → Type 0) (ReadsNone Taken WriteFails 
     write_fault = fails;
   }
 
-module _ (reads : Reads) (Ends : List ℕ → Type 0) (WriteFails : Type 0) (before after : SourceState) where
+module _ (reads : Reads) (EndsWithReply : List ℕ → Type 0) (WriteFails : Type 0) (before after : SourceState) where
   -- an allocation failed before the input was there
-  pub without_memory : ((input : List ℕ) → Ends input) → (reads ≡ ReadsNothing → HasTaken reads before after) → IsCall reads Ends WriteFails NoMemory before after
+  pub without_memory : ((input : List ℕ) → EndsWithReply input) → (reads ≡ ReadsNothing → HasTaken reads before after) → IsWholeCall reads EndsWithReply WriteFails NoMemory before after
   without_memory ends untouched =
       let at = some_input reads before in
-      call_without_memory (IsInputOf reads before) Ends (reads ≡ ReadsNothing) (HasTaken reads before after) WriteFails before after at.0 at.1 (ends at.0) untouched
+      call_without_memory (IsInputOf reads before) EndsWithReply (reads ≡ ReadsNothing) (HasTaken reads before after) WriteFails before after at.0 at.1 (ends at.0) untouched
 
   -- reading failed
-  pub without_input : ((input : List ℕ) → Ends input) → reads ≢ ReadsNothing → HasRisen before.faults after.faults → IsCall reads Ends WriteFails ReadFault before after
+  pub without_input : ((input : List ℕ) → EndsWithReply input) → reads ≢ ReadsNothing → HasRisen before.faults after.faults → IsWholeCall reads EndsWithReply WriteFails ReadFault before after
   without_input ends some risen =
       let at = some_input reads before in
-      call_without_input (IsInputOf reads before) Ends (reads ≡ ReadsNothing) (HasTaken reads before after) WriteFails before after at.0 at.1 (ends at.0) some risen
+      call_without_input (IsInputOf reads before) EndsWithReply (reads ≡ ReadsNothing) (HasTaken reads before after) WriteFails before after at.0 at.1 (ends at.0) some risen
 
   -- the input was read and answered
-  pub with_input : (status : CallStatus) (input : List ℕ) → HasRead reads before after input → Ends input → status ≢ ReadFault → (status ≡ WriteFault → WriteFails) → IsCall reads Ends WriteFails status before after
+  pub with_input : (status : CallStatus) (input : List ℕ) → HasRead reads before after input → EndsWithReply input → status ≢ ReadFault → (status ≡ WriteFault → WriteFails) → IsWholeCall reads EndsWithReply WriteFails status before after
   with_input status input read ends none fails =
-      call_with_input (IsInputOf reads before) Ends (reads ≡ ReadsNothing) (HasTaken reads before after) WriteFails before after status input read.is read.taken ends none fails
+      call_with_input (IsInputOf reads before) EndsWithReply (reads ≡ ReadsNothing) (HasTaken reads before after) WriteFails before after status input read.is read.taken ends none fails
 
 -- nothing is read
 pub nothing_read : (before : SourceState) → HasRead ReadsNothing before before []
@@ -102,12 +102,12 @@ nothing_read before = record {
 -- STREAMS
 
 -- with the reply that was made, or out of memory
-pub gives_ends : (P : Reply → Type 0) (found : Result Reply AllocError) (status : CallStatus) (before after : Streams) → IfOk found P → WritesReply found status before after → Ends P status before after
+pub gives_ends : (P : Reply → Type 0) (found : Result Reply AllocError) (status : CallStatus) (before after : Streams) → IfOk found P → WritesReply found status before after → EndsWithReply P status before after
 gives_ends P (Ok r) status before after is given = inr (r, is, given)
 gives_ends P (Err e) status before after is given = inl (record { cause = inr given.0; nothing = given.1 })
 
-pub silent_without_memory : (P : Reply → Type 0) (streams : Streams) → Ends P NoMemory streams streams
+pub silent_without_memory : (P : Reply → Type 0) (streams : Streams) → EndsWithReply P NoMemory streams streams
 silent_without_memory P streams = inl (record { cause = inr refl; nothing = refl })
 
-pub silent_without_input : (P : Reply → Type 0) (streams : Streams) → Ends P ReadFault streams streams
+pub silent_without_input : (P : Reply → Type 0) (streams : Streams) → EndsWithReply P ReadFault streams streams
 silent_without_input P streams = inl (record { cause = inl refl; nothing = refl })

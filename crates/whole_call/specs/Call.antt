@@ -18,6 +18,6 @@ pub record IsCallWith {A : Type 0} (IsInput Ends : A → Type 0) (ReadsNone Take
   pub write_fault : status ≡ WriteFault → WriteFails
 
 -- a call that reads this
-abbrev pub IsCall : Reads → (List ℕ → Type 0) → Type 0 → CallStatus → SourceState → SourceState → Type 0
-IsCall reads Ends WriteFails status before after =
+abbrev pub IsWholeCall : Reads → (List ℕ → Type 0) → Type 0 → CallStatus → SourceState → SourceState → Type 0
+IsWholeCall reads Ends WriteFails status before after =
     IsCallWith (IsInputOf reads before) Ends (reads ≡ ReadsNothing) (HasTaken reads before after) WriteFails status before after

@@ -13,8 +13,8 @@ pub record Says (status : AnswerStatus) (bytes : List ℕ) (r : Reply) : Type 0 
   pub bytes_are : r.bytes ≡ bytes
 
 -- a reply was written to a sink, all of it; or the sink failed after a prefix
-abbrev pub Wrote : Reply → CallStatus → Option (List ℕ) → Option (List ℕ) → Type 0
-Wrote r status before after = ((status ≡ Answered r.status) × (after ≡ with_more before r.bytes)) ⊎ ((status ≡ WriteFault) × WroteSome before after r.bytes)
+abbrev pub WroteReply : Reply → CallStatus → Option (List ℕ) → Option (List ℕ) → Type 0
+WroteReply r status before after = ((status ≡ Answered r.status) × (after ≡ with_more before r.bytes)) ⊎ ((status ≡ WriteFault) × WroteSome before after r.bytes)
 
 -- reading or an allocation failed, and what was written is unchanged
 pub record EndsSilent {A : Type 0} (status : CallStatus) (before after : A) : Type 0 where

@@ -2,7 +2,7 @@
 
 ghost use Rattle.std.specs.Prelude.{◌≡◌, string_bytes};
 ghost use Rattle.io_traits.specs.Fault.{HasRisen};
-ghost use Rattle.whole_call.specs.Output.{Says, Wrote};
+ghost use Rattle.whole_call.specs.Output.{Says, WroteReply};
 
 use crate::status::{AnswerStatus, CallStatus};
 use io_traits::{Failed, Sink};
@@ -36,7 +36,7 @@ impl Reply {
 
     /// Writes it to a sink, and returns how that ended.
     pub fn write<K: Sink>(&self, sink: &mut K) -> CallStatus
-        ensures wrote { Wrote self.now result (K.written sink.old) (K.written sink.new) }
+        ensures wrote { WroteReply self.now result (K.written sink.old) (K.written sink.new) }
         ensures fault { result ≡ CallStatus.WriteFault → HasRisen (K.faults sink.old) (K.faults sink.new) }
     {
         match write_all(sink, self.bytes.as_slice()) {

@@ -2,7 +2,7 @@
 
 ghost use Rattle.std.specs.Prelude.{◌≡◌, ◌≢◌, ◌⊎◌};
 ghost use Rattle.io_traits.specs.Fault.{HasRisen};
-ghost use Rattle.whole_call.specs.Streams.{Delivers, WritesReply, stream_of};
+ghost use Rattle.whole_call.specs.Streams.{DeliversReply, WritesReply, stream_of};
 
 use crate::reply::Reply;
 use crate::status::{AnswerStatus, CallStatus};
@@ -28,7 +28,7 @@ fn stream_of(status: AnswerStatus) -> Stream
 
 // Writes a report to standard output, and a refusal to standard error.
 fn deliver<K: Sink, E: Sink>(reply: &Reply, out: &mut K, error: &mut E) -> CallStatus
-    ensures delivered { Delivers reply.now result (record { out = K.written out.old; error = E.written error.old }) (record { out = K.written out.new; error = E.written error.new }) }
+    ensures delivered { DeliversReply reply.now result (record { out = K.written out.old; error = E.written error.old }) (record { out = K.written out.new; error = E.written error.new }) }
     ensures fault { result ≡ CallStatus.WriteFault → HasRisen (K.faults out.old) (K.faults out.new) ⊎ HasRisen (E.faults error.old) (E.faults error.new) }
 {
     match stream_of(reply.status) {

@@ -9,7 +9,7 @@ pub use Rattle.copied_part_laws.proofs.below.plain_vec.{got_map, map_got}
 pub use Rattle.copied_part_laws.specs.Copied.{CanCopy}
 pub use Rattle.copied_part_laws.specs.Handed.{IsCopying}
 pub use Rattle.copied_part_laws.specs.below.copying_gc.{Moved, ToChunks, CanTake, IsCollected, IsSoundReference, as_reference, outside}
-pub use Rattle.copied_part_laws.specs.below.core_invariant.{Fits, HasBegun, SharedValue, accounts, value_of, IsSharedValue}
+pub use Rattle.copied_part_laws.specs.below.core_invariant.{WorkerPartFits, CopyingHasBegun, SharedValue, accounts, value_of, IsSharedValue}
 pub use Rattle.copied_part_laws.specs.below.hh_lang.{ProgramText}
 pub use Rattle.copied_part_laws.specs.below.leaf_collections.{FitsCopied}
 pub use Rattle.copied_part_laws.specs.below.leaf_heap.{LeafHeapValue}
@@ -47,7 +47,7 @@ pub use Rattle.turn_entries.specs.declared.between_turns.Ready.{Ready}
 pub use Rattle.turn_entries.specs.declared.between_turns.Ready.TheVariants.{Paused, Copied, Found, OutOfMemory}
 pub use Rattle.turn_entries.specs.declared.run.Run.{Run}
 pub use Rattle.turn_entries.specs.declared.run.Setup.{Setup}
-pub use Rattle.worker_run.specs.Outcomes.{IsRun, WasGivenBack, finish_of}
+pub use Rattle.worker_run.specs.Outcomes.{IsRunOf, WasGivenBack, finish_of}
 pub use Rattle.worker_run.specs.Rounds.{GoesRound, MakesRound, AllGoRound}
 pub use Rattle.worker_run.specs.Tasks.{Finds, HaveRoot, Looks, Puts, PutsBoth, PutsFewer, Shares, SharesBoth, TriedBefore, after_it, Prepares}
 pub use Rattle.worker_run.specs.WorkerStates.{AreHands, HasEntry, IsWorkerState, DoesOnce, HasStopped, TakesTurn, AreAllWorkerStates, AreNewWorkerStates, AreOpened, HasOfEach, HaveSeen, HaveStopped, SameWorkerState, entries_of}

@@ -1,5 +1,5 @@
 -- The copy of a part whose collection has begun.
-use Rattle.worker_run.proofs.Common.{◌≡◌, ℕ, All, List, map, ap, sym, subst, ◌∙◌, ProgramText, ChunkValue, number_of, LeafHeapValue, FramesValue, Moved, ToChunks, CanTake, IsCollected, IsSoundReference, as_reference, aside, Begun, Private, Fits, HasBegun, SharedValue, accounts, value_of, status, FitsCopied, CanCopy, IsCopying, begun_is_copying, begun, copied_fits, begun_can_copy, Collecting, MayCopy, RunGoesOn, Vec}
+use Rattle.worker_run.proofs.Common.{◌≡◌, ℕ, All, List, map, ap, sym, subst, ◌∙◌, ProgramText, ChunkValue, number_of, LeafHeapValue, FramesValue, Moved, ToChunks, CanTake, IsCollected, IsSoundReference, as_reference, aside, Begun, Private, WorkerPartFits, CopyingHasBegun, SharedValue, accounts, value_of, status, FitsCopied, CanCopy, IsCopying, begun_is_copying, begun, copied_fits, begun_can_copy, Collecting, MayCopy, RunGoesOn, Vec}
 
 module _ (p : ProgramText) (w : SharedValue) (k : ℕ) (c : Collecting) (G : RunGoesOn p w) (M : MayCopy w k c) where
   abbrev news : List ChunkValue
@@ -24,16 +24,16 @@ module _ (p : ProgramText) (w : SharedValue) (k : ℕ) (c : Collecting) (G : Run
   copied h' frames' moved D = copied_fits w k c.part b news copying h' frames' moved D
 
 -- the same at another value
-pub may_copy_at : (w z : SharedValue) (k : ℕ) (c : Collecting) (part : Private) → MayCopy w k c → part ≡ c.part → Fits z k part → MayCopy z k c
-may_copy_at w z k c part M e f = record { fits = subst (Fits z k) e f; fresh = M.fresh; before = M.before; begun = M.begun }
+pub may_copy_at : (w z : SharedValue) (k : ℕ) (c : Collecting) (part : Private) → MayCopy w k c → part ≡ c.part → WorkerPartFits z k part → MayCopy z k c
+may_copy_at w z k c part M e f = record { fits = subst (WorkerPartFits z k) e f; fresh = M.fresh; before = M.before; begun = M.begun }
 
 -- the same out of the blocks
 pub may_copy_out : (w : SharedValue) (k : ℕ) (c : Collecting) (part : Private) (to : ToChunks) → part ≡ c.part → to ≡ c.to_chunks → MayCopy w k c → MayCopy w k (record { part = part; roots = c.roots; to_chunks = to; block = c.block })
 may_copy_out w k c part to e f M = record {
-  fits = subst (Fits w k) (sym e) M.fits;
+  fits = subst (WorkerPartFits w k) (sym e) M.fits;
   fresh = ap (λ (q : Private). q.fresh) e ∙ M.fresh;
   before = M.before;
-  begun = subst (λ (q : Private). HasBegun M.before q c.roots.items to) (sym e) (subst (λ (t : ToChunks). HasBegun M.before c.part c.roots.items t) (sym f) M.begun);
+  begun = subst (λ (q : Private). CopyingHasBegun M.before q c.roots.items to) (sym e) (subst (λ (t : ToChunks). CopyingHasBegun M.before c.part c.roots.items t) (sym f) M.begun);
 }
 
 -- equal vectors have equal items

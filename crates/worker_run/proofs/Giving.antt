@@ -1,5 +1,5 @@
 -- A worker's state before and after a turn.
-use Rattle.worker_run.proofs.Common.{◌≡◌, ℕ, suc, ◌^◌, ◌<◌, ◌≤◌, ◌==◌, Bool, true, false, cond, List, [], ◌∷◌, length, refl, sym, ap, ap₂, ◌∙◌, subst, arith, Option, Some, Snapshot, same_Some, TableId, ProgramText, EntryValue, SettingsValue, Kind, Private, Fits, IsSharedValue, SharedValue, entries_by, view, Extends, HasTurn, IsAlike, Knows, own_entries, with_taken, own_of_taken, Collecting, Next, Running, Forked, Resumed, Idle, Waits, Stop, Ready, Paused as HasPaused, Copied as IsCopied, Found, OutOfMemory, Run, Setup, ComesNext, BringsTo, ComesWith, GoesWith, KeepsPart, Sight, TakesFrom, WasCopied, EntersOne, FitsSnapshot, NoEntryMade, journal_of, setup_of, worker_of, WorkerState, HasEntry, IsWorkerState}
+use Rattle.worker_run.proofs.Common.{◌≡◌, ℕ, suc, ◌^◌, ◌<◌, ◌≤◌, ◌==◌, Bool, true, false, cond, List, [], ◌∷◌, length, refl, sym, ap, ap₂, ◌∙◌, subst, arith, Option, Some, Snapshot, same_Some, TableId, ProgramText, EntryValue, SettingsValue, Kind, Private, WorkerPartFits, IsSharedValue, SharedValue, entries_by, view, Extends, HasTurn, IsAlike, Knows, own_entries, with_taken, own_of_taken, Collecting, Next, Running, Forked, Resumed, Idle, Waits, Stop, Ready, Paused as HasPaused, Copied as IsCopied, Found, OutOfMemory, Run, Setup, ComesNext, BringsTo, ComesWith, GoesWith, KeepsPart, Sight, TakesFrom, WasCopied, EntersOne, FitsSnapshot, NoEntryMade, journal_of, setup_of, worker_of, WorkerState, HasEntry, IsWorkerState}
 use Rattle.turn_entries.specs.declared.between_turns.Copied.{Copied}
 use Rattle.turn_entries.specs.declared.between_turns.Next.TheVariants.{Collecting as Collects, Copied as HasCopied, Found as GoesFor}
 
@@ -28,8 +28,8 @@ module _ {P : Type 0} (value : P → SharedValue) where
     pub program_taken : (value run.paced).program ≡ p
     program_taken = ap (λ (s : Setup). s.program) setup_taken
 
-    kept_fits : (part : Private) → KeepsPart v.part part → Fits (value run.paced) d.worker part
-    kept_fits part k = subst (λ (n : ℕ). Fits (value run.paced) n part) number (subst (Fits (value run.paced) v.worker) k.2 (K.part k.0 k.1))
+    kept_fits : (part : Private) → KeepsPart v.part part → WorkerPartFits (value run.paced) d.worker part
+    kept_fits part k = subst (λ (n : ℕ). WorkerPartFits (value run.paced) n part) number (subst (WorkerPartFits (value run.paced) v.worker) k.2 (K.part k.0 k.1))
 
     pub brings : (ready : Ready) → ComesWith p d.worker v.part ready → BringsTo (value run.paced) d.worker ready
     brings (HasPaused part why) C = (C.0, kept_fits C.0 C.1, λ w G f. C.2 w (record { shared = G.shared; program = G.program ∙ program_taken; goes = G.goes }) f)

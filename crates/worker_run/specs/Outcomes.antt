@@ -13,7 +13,7 @@ finish_of None = NoMemory
 finish_of (Some end) = Ended end
 
 -- a run of this program with these settings: it stands for its journal, which is legal and paced
-pub record IsRun (p : ProgramText) (s : SettingsValue) (w : SharedValue) : Type 0 where
+pub record IsRunOf (p : ProgramText) (s : SettingsValue) (w : SharedValue) : Type 0 where
   pub program : w.program ≡ p
   pub settings : w.settings ≡ s
   pub legal : is_legal p s w.journal.items ≡ true

@@ -1,6 +1,6 @@
 //! One turn of a worker.
 ghost use Rattle.std.specs.Prelude.{◌≡◌, IfSome, option_map};
-ghost use Rattle.copied_part_laws.specs.below.core_invariant.{Fits};
+ghost use Rattle.copied_part_laws.specs.below.core_invariant.{WorkerPartFits};
 ghost use Rattle.turn_entries.specs.below.turn_lock.{view, identity};
 ghost use Rattle.turn_entries.specs.Parts.{ComesWith, GoesWith, TakesFrom};
 ghost use Rattle.worker_run.specs.WorkerStates.{GivesOne, HasEntry, HasGiven, IsWorkerState, KeepsPlace, SameWorkerState, TakesTurn};
@@ -19,7 +19,7 @@ fn give_entry<P: EntryCalls + Drop>(
     kept: Option<&Snapshot<Private>>,
 )
     requires entry { HasEntry P.value (identity turn.now) worker_state.old run }
-    requires kept { IfSome kept (λ s. Fits (P.value run.paced) worker_state.old.worker s.now.value) }
+    requires kept { IfSome kept (λ s. WorkerPartFits (P.value run.paced) worker_state.old.worker s.now.value) }
     ensures worker_state { IsWorkerState (identity turn.now) (P.value run.paced).program worker_state.new }
     ensures same { SameWorkerState worker_state.old worker_state.new }
     ensures place { KeepsPlace worker_state.old worker_state.new }

@@ -5,7 +5,7 @@ ghost use Rattle.copied_part_laws.specs.below.run_trace.{SettingsValue};
 ghost use Rattle.copied_part_laws.specs.below.run_ledger.{end_of};
 ghost use Rattle.turn_entries.specs.below.turn_lock.{identity};
 ghost use Rattle.worker_run.specs.WorkerStates.{AreAllWorkerStates, AreHands, AreNewWorkerStates, AreOpened, HasOfEach, HasStopped, HaveSeen, HaveStopped, IsWorkerState, SameWorkerState};
-ghost use Rattle.worker_run.specs.Outcomes.{finish_of, IsRun, WasGivenBack};
+ghost use Rattle.worker_run.specs.Outcomes.{finish_of, IsRunOf, WasGivenBack};
 ghost use Rattle.worker_run.specs.Rounds.{AllGoRound, GoesRound};
 ghost use Rattle.worker_run.specs.Tasks.{HaveRoot};
 
@@ -173,7 +173,7 @@ fn run_all<R: Threads + Wait + Sync, P: EntryCalls + Drop + Send, G: Gate>(
     requires all { (s : SettingsValue) × AreAllWorkerStates (identity turn) program.now s worker_states.items }
     requires none { seats.items ≡ [] }
     requires room { vec_len worker_states ≤ vec_capacity seats }
-    ensures run { (s : SettingsValue) → AreAllWorkerStates (identity turn) program.now s worker_states.items → IsRun program.now s (P.value result) }
+    ensures run { (s : SettingsValue) → AreAllWorkerStates (identity turn) program.now s worker_states.items → IsRunOf program.now s (P.value result) }
     ensures gave { (s : SettingsValue) → AreAllWorkerStates (identity turn) program.now s worker_states.items → AreOpened s worker_states.items → WasGivenBack P.value program.now s (P.value result).journal.items }
 {
     let parker = Parker::new();
@@ -199,7 +199,7 @@ pub fn run_on_workers<R: Threads + Wait + Sync, P: EntryCalls + Drop + Send, G: 
     settings: Settings,
     gate: &G,
 ) -> Outcome<P>
-    ensures run { IfSome result.shared (λ w. IsRun program.now settings (P.value w)) }
+    ensures run { IfSome result.shared (λ w. IsRunOf program.now settings (P.value w)) }
     ensures gave { IfSome result.shared (λ w. WasGivenBack P.value program.now settings (P.value w).journal.items) }
     ensures finish { IfSome result.shared (λ w. result.finish ≡ finish_of (end_of program.now settings (P.value w).journal.items)) }
     ensures none { IfNone result.shared (result.finish ≡ Finish.NoMemory) }

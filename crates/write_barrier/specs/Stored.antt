@@ -1,7 +1,7 @@
 -- How a write of a reference changes the sets of the heaps.
 use Rattle.std.specs.Prelude.{◌≡◌, ℕ, ◌<◌, Bool, true, false, List, ◌++◌, ◌==◌, ◌&&◌, if◌then◌else◌, not, Option, Some, None, IsSome, IfSome, option_map, option_to_list, slice_get}
 use Rattle.object_layout.specs.declared.word.Addr.{Addr}
-use Rattle.heap_tree.specs.TaskNode.{TaskNode, is_on_path}
+use Rattle.heap_tree.specs.TaskNode.{TaskNode, node_on_path}
 use Rattle.chunk_pool.specs.PoolValue.{PoolValue, slot_at, owner_of}
 use Rattle.remembered_set.specs.declared.remembered.RefField.{RefField}
 use Rattle.remembered_set.specs.Sources.{with_noted_source}
@@ -32,16 +32,16 @@ heap_of pool None = None
 heap_of pool (Some a) = owner_of pool a.chunk
 
 -- a reference, if it isn't nil, points into a chunk in use, whose owner exists
-abbrev pub IsOwned : ℕ → PoolValue → Option Addr → Type 0
-IsOwned made pool None = Unit {0}
-IsOwned made pool (Some a) = IsSome (slot_at pool a.chunk) × ((o : ℕ) → owner_of pool a.chunk ≡ Some o → o < made)
+abbrev pub PointsIntoOwned : ℕ → PoolValue → Option Addr → Type 0
+PointsIntoOwned made pool None = Unit {0}
+PointsIntoOwned made pool (Some a) = IsSome (slot_at pool a.chunk) × ((o : ℕ) → owner_of pool a.chunk ≡ Some o → o < made)
 
 -- whether a reference from an object of the one heap into the other points down: the one's task is a proper ancestor of
 -- the other's
 abbrev pub is_down : List TaskNode → Option ℕ → Option ℕ → Bool
 is_down nodes None into = false
 is_down nodes (Some from) None = false
-is_down nodes (Some from) (Some into) = is_on_path nodes from into && not (from == into)
+is_down nodes (Some from) (Some into) = node_on_path nodes from into && not (from == into)
 
 -- the heap in whose set a reference that is written into an object is noted
 abbrev pub noted_in : List TaskNode → PoolValue → Addr → Option Addr → Option ℕ

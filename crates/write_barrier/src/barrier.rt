@@ -2,7 +2,7 @@
 
 ghost use Rattle.std.specs.Prelude.{◌≡◌, ℕ, ◌<◌, ◌≤◌, IfSome, IsSome, OnErr, OnOk, Some, length, option_map};
 ghost use Rattle.chunk_pool.specs.PoolValue.{slot_at};
-ghost use Rattle.write_barrier.specs.Stored.{content_after, heap_of, noted_in, IsOwned};
+ghost use Rattle.write_barrier.specs.Stored.{content_after, heap_of, noted_in, PointsIntoOwned};
 
 use crate::holder::HoldsSets;
 use crate::noting::{keep, note, reserve_kept};
@@ -17,7 +17,7 @@ use std::alloc::AllocError;
 fn heap_of(pool: &Pool, reference: Option<Addr>) -> Option<u32>
     requires { IfSome reference (λ a. IsSome (slot_at pool.now a.chunk)) }
     ensures heap { result ≡ heap_of pool.now reference }
-    ensures made { (made : ℕ) → IsOwned made pool.now reference → IfSome result (λ h. h < made) }
+    ensures made { (made : ℕ) → PointsIntoOwned made pool.now reference → IfSome result (λ h. h < made) }
 {
     match reference {
         None => None,
@@ -29,8 +29,8 @@ fn heap_of(pool: &Pool, reference: Option<Addr>) -> Option<u32>
 // The heap in whose set a reference that is written into an object is noted: the one into which it points, if it points
 // down.
 fn noted_in(tree: &Tree, pool: &Pool, object: Addr, value: Option<Addr>) -> Option<u32>
-    requires object { IsOwned (length tree.now) pool.now (Some object) }
-    requires value { IsOwned (length tree.now) pool.now value }
+    requires object { PointsIntoOwned (length tree.now) pool.now (Some object) }
+    requires value { PointsIntoOwned (length tree.now) pool.now value }
     ensures heap { result ≡ noted_in tree.now pool.now object value }
     ensures made { IfSome result (λ h. h < length tree.now) }
 {
@@ -65,9 +65,9 @@ pub fn note_write<H: HoldsSets>(
     overwritten: Option<Addr>,
     value: Option<Addr>,
 ) -> Result<(), AllocError>
-    requires object { IsOwned (length tree.now) pool.now (Some source.object) }
-    requires value { IsOwned (length tree.now) pool.now value }
-    requires overwritten { IsOwned (length tree.now) pool.now overwritten }
+    requires object { PointsIntoOwned (length tree.now) pool.now (Some source.object) }
+    requires value { PointsIntoOwned (length tree.now) pool.now value }
+    requires overwritten { PointsIntoOwned (length tree.now) pool.now overwritten }
     requires sets { length tree.now ≤ H.task_count sets.old }
     ensures noted { OnOk result ((t : ℕ) → H.content sets.new t ≡ option_map (content_after tree.now pool.now source overwritten value t) (H.content sets.old t)) }
     ensures same { OnErr result ((t : ℕ) → H.content sets.new t ≡ H.content sets.old t) }

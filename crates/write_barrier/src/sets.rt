@@ -1,9 +1,9 @@
 // What is noted for the collections of one heap; it allocates nothing until there is something.
 
 ghost use Rattle.std.specs.Prelude.{◌≡◌, ◌<◌, ◌≤◌, ◌++◌, ◌∷◌, [], IfErr, IfNone, IfOk, None, OnErr, OnOk, false, fold};
-ghost use Rattle.remembered_set.specs.Moved.{redirected, targets_of, AreFields, AreInOrder, ArePlaces};
+ghost use Rattle.remembered_set.specs.Moved.{redirected, targets_of, AreFields, AreAscending, ArePlaces};
 ghost use Rattle.remembered_set.specs.Sources.{with_noted_source as noted_with, notes_in, StandOnce};
-ghost use Rattle.write_barrier.specs.Forms.{bare, in_full};
+ghost use Rattle.write_barrier.specs.Forms.{bare_noted, in_full};
 ghost use Rattle.write_barrier.specs.Stored.{content_of};
 
 use boxed::BoxedSlot;
@@ -108,7 +108,7 @@ fn opened(alloc: Global, form: Form) -> Result<BoxedSlot<Noted>, Form>
 impl SetOf {
     /// An empty set of a heap that keeps no references.
     pub fn new(alloc: Global) -> SetOf
-        ensures { result ≡ bare false }
+        ensures { result ≡ bare_noted false }
     {
         SetOf {
             alloc,
@@ -260,7 +260,7 @@ impl SetOf {
     /// relocation list is sorted by the old addresses.
     pub fn rewrite<W: Words>(&self, words: &mut W, moved: &[(Addr, Addr)])
         requires fields { AreFields W.refs_at words.old self.now.remembered.sources }
-        requires order { AreInOrder moved.now }
+        requires order { AreAscending moved.now }
         requires places { ArePlaces moved.now }
         ensures led { words.new ≡ fold (redirected W.refs_at W.with_ref_at moved.now) words.old self.now.remembered.sources }
         ensures once { StandOnce self.now.remembered.sources }
@@ -274,7 +274,7 @@ impl SetOf {
     /// Its remembered fields, and the block that held it. Without a block it has neither fields nor capacity.
     pub fn into_parts(self) -> (Remembered, Option<BoxedSlot<Noted>>)
         ensures remembered { result.0 ≡ self.remembered }
-        ensures bare { IfNone result.1 (result.0 ≡ notes_in None) }
+        ensures bare_noted { IfNone result.1 (result.0 ≡ notes_in None) }
     {
         let SetOf { alloc, form } = self;
         match form {

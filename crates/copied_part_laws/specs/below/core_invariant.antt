@@ -1,2 +1,2 @@
 -- Re-exports from `core_invariant` for the crates above.
-pub use Rattle.leaf_collections.specs.below.core_invariant.{Fits, HasBegun, IsSharedValue, SharedValue, accounts, value_of, without_journal}
+pub use Rattle.leaf_collections.specs.below.core_invariant.{WorkerPartFits, CopyingHasBegun, IsSharedValue, SharedValue, accounts, value_of, without_journal}

@@ -1,2 +1,2 @@
 -- Re-exports from `write_barrier` for the crates above.
-pub use Rattle.task_slots.specs.below.write_barrier.{Content, IsOwned, SetOf, bare, content_after, content_at, content_of, heap_of, is_down, noted_in, with_source}
+pub use Rattle.task_slots.specs.below.write_barrier.{Content, PointsIntoOwned, SetOf, bare_noted, content_after, content_at, content_of, heap_of, is_down, noted_in, with_source}

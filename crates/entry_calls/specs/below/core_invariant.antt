@@ -2,8 +2,8 @@
 pub use Rattle.core_invariant.specs.Causes.{first_cause, need_cause, or_else}
 pub use Rattle.core_invariant.specs.Due.{due_cause}
 pub use Rattle.core_invariant.specs.Entered.{Enters, IsCaused, refusal_of_result, refused}
-pub use Rattle.core_invariant.specs.Fits.{AllFit, Fits, OthersFit}
-pub use Rattle.core_invariant.specs.LeafBegin.{HasBegun}
+pub use Rattle.core_invariant.specs.WorkerPartFits.{EachPartStillFits, WorkerPartFits, OthersFit}
+pub use Rattle.core_invariant.specs.LeafBegin.{CopyingHasBegun}
 pub use Rattle.core_invariant.specs.Links.{FitsFirst}
 pub use Rattle.core_invariant.specs.Next.{part_asks}
 pub use Rattle.core_invariant.specs.SharedValue.{SharedValue, accounts}

@@ -1,2 +1,2 @@
 -- Re-exports from `step_commit` for the crates above.
-pub use Rattle.step_commit.specs.Alone.{FinishesAlone, GoesAlone, HaltsAlone, IsBeyond, IsShared, Tells, alone_entry, ended_rest, machine_after, then_accounts}
+pub use Rattle.step_commit.specs.Alone.{FinishesAlone, GoesAlone, HaltsAlone, IsBeyond, IsShared, EndingTells, alone_entry, ended_rest, machine_after, then_accounts}

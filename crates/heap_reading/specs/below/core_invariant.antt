@@ -2,8 +2,8 @@
 pub use Rattle.core_invariant.specs.Causes.{first_cause, need_cause, or_else, task_asked}
 pub use Rattle.core_invariant.specs.Due.{due_cause}
 pub use Rattle.core_invariant.specs.Entered.{EntersOrRefuses, Enters, IsCaused, IsSamePart, refusal_of_result, refused}
-pub use Rattle.core_invariant.specs.Fits.{AllFit, Fits, OthersFit, belongings_of_part, beyond, part_of}
-pub use Rattle.core_invariant.specs.LeafBegin.{HasBegun}
+pub use Rattle.core_invariant.specs.WorkerPartFits.{EachPartStillFits, WorkerPartFits, OthersFit, belongings_of_part, beyond, part_of}
+pub use Rattle.core_invariant.specs.LeafBegin.{CopyingHasBegun}
 pub use Rattle.core_invariant.specs.Links.{FitsFirst}
 pub use Rattle.core_invariant.specs.Measured.{IsFree}
 pub use Rattle.core_invariant.specs.Next.{next_line, part_asks}

@@ -1,2 +1,2 @@
 -- Re-exports from `ledger_step_laws` for the crates above.
-pub use Rattle.core_invariant.specs.below.ledger_step_laws.{ArePrivate, Knows, Rests, aside, own, rested}
+pub use Rattle.core_invariant.specs.below.ledger_step_laws.{ArePrivate, LedgerIsKnown, Rests, aside, own, rested}

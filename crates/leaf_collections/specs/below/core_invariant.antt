@@ -2,8 +2,8 @@
 pub use Rattle.core_invariant.specs.Causes.{chunk_cause, first_cause, is_state_ready, or_else, took_cause}
 pub use Rattle.core_invariant.specs.Due.{IsOutPart, due_cause, take_by}
 pub use Rattle.core_invariant.specs.Entered.{EntersOrRefuses, Enters, IsCaused, IsSamePart, RanAnswers, refusal_of_result, refused}
-pub use Rattle.core_invariant.specs.Fits.{AllFit, Fits, OthersFit, belongings_of_part, taken_part}
-pub use Rattle.core_invariant.specs.LeafBegin.{HasBegun}
+pub use Rattle.core_invariant.specs.WorkerPartFits.{EachPartStillFits, WorkerPartFits, OthersFit, belongings_of_part, taken_part}
+pub use Rattle.core_invariant.specs.LeafBegin.{CopyingHasBegun}
 pub use Rattle.core_invariant.specs.Links.{FitsFirst, above_of}
 pub use Rattle.core_invariant.specs.Measured.{AreMeasured, AreUnits, news_of}
 pub use Rattle.core_invariant.specs.Next.{is_beyond, is_beyond_by, is_beyond_line, is_joint, next_line, part_asks}

@@ -1,2 +1,2 @@
 -- Re-exports from `remembered_set` for the crates above.
-pub use Rattle.core_invariant.specs.below.remembered_set.{AreInOrder, ArePlaces, RememberedValue, StandOnce, redirected, same_address}
+pub use Rattle.core_invariant.specs.below.remembered_set.{AreAscending, ArePlaces, RememberedValue, StandOnce, redirected, same_address}

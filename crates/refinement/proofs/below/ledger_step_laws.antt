@@ -10,5 +10,5 @@ pub use Rattle.ledger_step_laws.proofs.Rested.{rest_heaps, rested_changes, reste
 pub use Rattle.ledger_step_laws.proofs.Root.{root_alone}
 pub use Rattle.ledger_step_laws.proofs.Split.{entry_runs, legal_alive, legal_idle, split_leaves, steps_go, steps_worker, worker_step}
 pub use Rattle.ledger_step_laws.proofs.Tree.{leaf_alone}
-pub use Rattle.ledger_step_laws.proofs.Wrote.{is_number, is_store, is_swap, waits_rest}
+pub use Rattle.ledger_step_laws.proofs.ChangesByWrite.{is_number, is_store, is_swap, waits_rest}
 pub use Rattle.ledger_step_laws.proofs.BeforeLast as BeforeLast

@@ -1,6 +1,6 @@
 -- The end of a leaf collection: the survivors of a running task are at new addresses, and each reference to one is
 -- updated.
-use Rattle.refinement.proofs.Common.{◌≡◌, ℕ, ◌+◌, arith, true, false, Option, Some, None, List, ◌∷◌, slice_get, ◌⊎◌, inl, inr, refl, ap, sym, subst, ◌∙◌, is_some, cases_eq, both_ways, same_Some, got_in, Addr, Located, Name, Object, Task, MachineState, object_at, names_from, task_names, is_waiting, is_joined, is_on_path, parents, path_itself, runs_idle, Heap, Ledger, heap_of, or_fresh, SoundLedger, Spares, survivors_at, collecting, RefField, own, Rests, ChangesHeap, own_live, leaf_alone, holder_live, Belongings, Memory, In, object_name, objects, objects_of_chunks, sources, Lies, copied_object, rewritten, rewritten_belongings, IsModelObject, FramesAreRead, HoldsRead, TaskIsRead, Place, BelongingsStand, IsSource, Stands, Moves, Collects}
+use Rattle.refinement.proofs.Common.{◌≡◌, ℕ, ◌+◌, arith, true, false, Option, Some, None, List, ◌∷◌, slice_get, ◌⊎◌, inl, inr, refl, ap, sym, subst, ◌∙◌, is_some, cases_eq, both_ways, same_Some, got_in, Addr, Located, Name, Object, Task, MachineState, object_at, names_from, task_names, is_waiting, is_joined, is_on_path, parents, path_itself, runs_idle, Heap, Ledger, heap_of, or_fresh, SoundLedger, Spares, survivors_at, collecting, RefField, own, Rests, ChangesHeap, own_live, leaf_alone, holder_live, Belongings, Memory, In, object_name, objects, objects_of_chunks, sources, Lies, copied_object, rewritten, rewritten_belongings, IsModelObject, FramesAreRead, HoldsRead, TaskIsRead, LiesWithOwner, BelongingsStand, IsSource, MemoryStands, Moves, Collects}
 use Rattle.refinement.proofs.changes.Same.{own_same, path_same, store_same, source_same, rests_before, worker_same}
 use Rattle.refinement.proofs.objects.Carry.{Led, task_kept, same_holding, all_led, frames_led, all_rewritten}
 use Rattle.refinement.proofs.objects.Members.{in_chunk}
@@ -19,7 +19,7 @@ collecting_is : (o : Option Heap) → is_some (or_fresh o).begun ≡ true → co
 collecting_is None e = e
 collecting_is (Some h) e = e
 
-module _ (v v' : Memory) (l l' : Ledger) (t : ℕ) (x : Task) (f : Addr → Addr) (S : SoundLedger l) (V : Stands v l) (B : Collects l t x)
+module _ (v v' : Memory) (l l' : Ledger) (t : ℕ) (x : Task) (f : Addr → Addr) (S : SoundLedger l) (V : MemoryStands v l) (B : Collects l t x)
     (L : ChangesHeap l l' t) (C : Moves v v' l l' t (heap_of l t).survivors f) where
   abbrev survivors : List Name
   survivors = (heap_of l t).survivors
@@ -31,7 +31,7 @@ module _ (v v' : Memory) (l l' : Ledger) (t : ℕ) (x : Task) (f : Addr → Addr
   idle = runs_idle x B.task B.runs
 
   -- a survivor of t is at its updated address
-  moved : (n : Name) (a : Addr) → own l n ≡ t → Live l t S survivors spares n → Place v l n a → Place v' l' n (f a)
+  moved : (n : Name) (a : Addr) → own l n ≡ t → Live l t S survivors spares n → LiesWithOwner v l n a → LiesWithOwner v' l' n (f a)
   moved n a e g p =
       let q : Lies (v.belongings t).chunks n a = subst (λ u. Lies (v.belongings u).chunks n a) e (p.here (subst (Rests l) (sym e) B.rests)) in
       let i : In (objects v' t) (copied_object f q.0) = C.copied q.0 q.1 (subst (In survivors) (sym q.2.name) (g e)) in
@@ -45,7 +45,7 @@ module _ (v v' : Memory) (l l' : Ledger) (t : ℕ) (x : Task) (f : Addr → Addr
       }
 
   -- all else is where it was, and its address isn't updated
-  still : (n : Name) (a : Addr) → (own l n ≡ t → ⊥) → Place v l n a → Place v' l' n a × (f a ≡ a)
+  still : (n : Name) (a : Addr) → (own l n ≡ t → ⊥) → LiesWithOwner v l n a → LiesWithOwner v' l' n a × (f a ≡ a)
   still n a ne p = (
     record {
       chunk = C.owners a.chunk (own l n) ne p.chunk ∙ ap Some (sym (own_same l l' L.machine n));
@@ -57,10 +57,10 @@ module _ (v v' : Memory) (l l' : Ledger) (t : ℕ) (x : Task) (f : Addr → Addr
     C.same a (own l n) ne p.chunk,
   )
 
-  led_place : (n : Name) (a : Addr) → Live l t S survivors spares n → Place v l n a → Place v' l' n (f a)
+  led_place : (n : Name) (a : Addr) → Live l t S survivors spares n → LiesWithOwner v l n a → LiesWithOwner v' l' n (f a)
   led_place n a g p = elim (cases_eq (own l n) t) [
     | inl e ↦ moved n a e g p
-    | inr ne ↦ let q = still n a ne p in subst (Place v' l' n) (sym q.1) q.0
+    | inr ne ↦ let q = still n a ne p in subst (LiesWithOwner v' l' n) (sym q.1) q.0
   ]
 
   belongings : (u : ℕ) → Rests l' u → BelongingsStand v' l' u
@@ -74,7 +74,7 @@ module _ (v v' : Memory) (l l' : Ledger) (t : ℕ) (x : Task) (f : Addr → Addr
   was u o ne i = from_mapped (rewritten f (sources v t)) (λ o. refl) (λ o. refl) (v.belongings u).chunks o (subst (λ (h : Belongings). In (objects_of_chunks h.chunks) o) (C.others u ne) i)
 
   -- a field of another's object: what it names is no object of t, or it is remembered
-  field : (u : ℕ) (o : Located) (y : Object) → (u ≡ t → ⊥) → Rests l u → In (objects v u) o → object_at l.machine.store (object_name o) ≡ Some y → (j : ℕ) (n : Name) → slice_get y.refs j ≡ Some (Some n) → Led (Place v l) (Place v' l') f (sources v t) o.at j n
+  field : (u : ℕ) (o : Located) (y : Object) → (u ≡ t → ⊥) → Rests l u → In (objects v u) o → object_at l.machine.store (object_name o) ≡ Some y → (j : ℕ) (n : Name) → slice_get y.refs j ≡ Some (Some n) → Led (LiesWithOwner v l) (LiesWithOwner v' l') f (sources v t) o.at j n
   field u o y ne r i is j n at =
       elim (cases_eq (own l n) t) [
         | inr other ↦ inr (λ a p. still n a other p)
@@ -90,55 +90,55 @@ module _ (v v' : Memory) (l l' : Ledger) (t : ℕ) (x : Task) (f : Addr → Addr
         )
       ]
 
-  content : (u : ℕ) (o : Located) → Rests l' u → In (objects v' u) o → (y : Object) × (object_at l'.machine.store (object_name o) ≡ Some y) × IsModelObject (Place v' l') o y
+  content : (u : ℕ) (o : Located) → Rests l' u → In (objects v' u) o → (y : Object) × (object_at l'.machine.store (object_name o) ≡ Some y) × IsModelObject (LiesWithOwner v' l') o y
   content u o r i = elim (cases_eq u t) [
     | inl e ↦
         let q = C.only o (subst (λ z. In (objects v' z) o) e i) in
         let c = V.contents t q.0 B.rests q.1 in
-        subst (λ (z : Located). (y : Object) × (object_at l'.machine.store (object_name z) ≡ Some y) × IsModelObject (Place v' l') z y) (sym q.3) (
+        subst (λ (z : Located). (y : Object) × (object_at l'.machine.store (object_name z) ≡ Some y) × IsModelObject (LiesWithOwner v' l') z y) (sym q.3) (
           c.0,
           store_same l l' L.machine (object_name q.0) ∙ c.1,
           record {
             mutable = c.2.mutable;
             ints = c.2.ints;
-            refs = all_led (Place v l) (Place v' l') f q.0.refs c.0.refs (λ n j a. led_place n a (live_ref l t S survivors spares (object_name q.0) n c.0 c.1 (is_kept v l t (V.belongings t B.rests) q.0 q.1) (λ e. q.2) j)) c.2.refs;
+            refs = all_led (LiesWithOwner v l) (LiesWithOwner v' l') f q.0.refs c.0.refs (λ n j a. led_place n a (live_ref l t S survivors spares (object_name q.0) n c.0 c.1 (is_kept v l t (V.belongings t B.rests) q.0 q.1) (λ e. q.2) j)) c.2.refs;
           },
         )
     | inr ne ↦
         let q = was u o ne i in
         let c = V.contents u q.0 (rests_before l l' t L u r) q.1 in
-        subst (λ (z : Located). (y : Object) × (object_at l'.machine.store (object_name z) ≡ Some y) × IsModelObject (Place v' l') z y) q.2 (
+        subst (λ (z : Located). (y : Object) × (object_at l'.machine.store (object_name z) ≡ Some y) × IsModelObject (LiesWithOwner v' l') z y) q.2 (
           c.0,
           store_same l l' L.machine (object_name q.0) ∙ c.1,
           record {
             mutable = c.2.mutable;
             ints = c.2.ints;
-            refs = all_rewritten (Place v l) (Place v' l') f (sources v t) q.0.at 0 q.0.refs c.0.refs (λ j n at. subst (λ z. Led (Place v l) (Place v' l') f (sources v t) q.0.at z n) (let z : j ≡ 0 + j = omega arith in z) (field u q.0 c.0 ne (rests_before l l' t L u r) q.1 c.1 j n at)) c.2.refs;
+            refs = all_rewritten (LiesWithOwner v l) (LiesWithOwner v' l') f (sources v t) q.0.at 0 q.0.refs c.0.refs (λ j n at. subst (λ z. Led (LiesWithOwner v l) (LiesWithOwner v' l') f (sources v t) q.0.at z n) (let z : j ≡ 0 + j = omega arith in z) (field u q.0 c.0 ne (rests_before l l' t L u r) q.1 c.1 j n at)) c.2.refs;
           },
         )
   ]
 
-  own_task : TaskIsRead (Place v l) (v.belongings t) x → ((n : Name) → In (task_names x) n → (a : Addr) → Place v l n a → Place v' l' n (f a)) → TaskIsRead (Place v' l') (v'.belongings t) x
+  own_task : TaskIsRead (LiesWithOwner v l) (v.belongings t) x → ((n : Name) → In (task_names x) n → (a : Addr) → LiesWithOwner v l n a → LiesWithOwner v' l' n (f a)) → TaskIsRead (LiesWithOwner v' l') (v'.belongings t) x
   own_task k g =
-      subst (HoldsRead (Place v' l') (v'.belongings t) x) (sym B.runs)
-      (subst (λ fs. FramesAreRead (Place v' l') fs (x.top ∷ x.below)) (sym C.frames)
-      (frames_led (Place v l) (Place v' l') f (v.belongings t).frames (x.top ∷ x.below)
+      subst (HoldsRead (LiesWithOwner v' l') (v'.belongings t) x) (sym B.runs)
+      (subst (λ fs. FramesAreRead (LiesWithOwner v' l') fs (x.top ∷ x.below)) (sym C.frames)
+      (frames_led (LiesWithOwner v l) (LiesWithOwner v' l') f (v.belongings t).frames (x.top ∷ x.below)
       (λ n i. g n (subst (λ s. In (names_from s (x.top ∷ x.below)) n) (sym B.runs) i))
-      (subst (HoldsRead (Place v l) (v.belongings t) x) B.runs k)))
+      (subst (HoldsRead (LiesWithOwner v l) (v.belongings t) x) B.runs k)))
 
-  task : (u : ℕ) (y : Task) → Rests l' u → slice_get l'.machine.tasks u ≡ Some y → TaskIsRead (Place v' l') (v'.belongings u) y
+  task : (u : ℕ) (y : Task) → Rests l' u → slice_get l'.machine.tasks u ≡ Some y → TaskIsRead (LiesWithOwner v' l') (v'.belongings u) y
   task u y r is =
       let is' : slice_get l.machine.tasks u ≡ Some y = sym (ap (λ (m : MachineState). slice_get m.tasks u) L.machine) ∙ is in
       elim (cases_eq u t) [
         | inl e ↦
             let same : x ≡ y = same_Some x y (sym B.task ∙ (ap (slice_get l.machine.tasks) (sym e) ∙ is')) in
-            subst (λ (z : Task). TaskIsRead (Place v' l') (v'.belongings u) z) same
-            (subst (λ z. TaskIsRead (Place v' l') (v'.belongings z) x) (sym e)
+            subst (λ (z : Task). TaskIsRead (LiesWithOwner v' l') (v'.belongings u) z) same
+            (subst (λ z. TaskIsRead (LiesWithOwner v' l') (v'.belongings z) x) (sym e)
             (own_task (V.tasks t x B.rests B.task) (λ n i a. led_place n a (live_task l t S survivors spares t x n B.task i))))
         | inr ne ↦
-            subst (λ (h : Belongings). TaskIsRead (Place v' l') h y) (sym (C.others u ne))
-            (same_holding (Place v' l') (v.belongings u) (rewritten_belongings f (sources v t) (v.belongings u)) y refl refl
-            (task_kept (Place v l) (Place v' l') (v.belongings u) y
+            subst (λ (h : Belongings). TaskIsRead (LiesWithOwner v' l') h y) (sym (C.others u ne))
+            (same_holding (LiesWithOwner v' l') (v.belongings u) (rewritten_belongings f (sources v t) (v.belongings u)) y refl refl
+            (task_kept (LiesWithOwner v l) (LiesWithOwner v' l') (v.belongings u) y
             (λ n i a p. (still n a (λ e. ne (sym (leaf_alone l S t u idle (holder_live l S u y n is' i) (ap (λ z. is_on_path l.machine.tasks z u) (sym e) ∙ (S.apart.of_task u y n is' i).1)))) p).0)
             (V.tasks u y (rests_before l l' t L u r) is')))
       ]
@@ -186,5 +186,5 @@ module _ (v v' : Memory) (l l' : Ledger) (t : ℕ) (x : Task) (f : Addr → Addr
   view_same : (z : ℕ) → (v'.belongings z).view ≡ (v.belongings z).view
   view_same z = elim (cases_eq z t) [ inl e ↦ ap (λ k. (v'.belongings k).view) e ∙ (C.view ∙ ap (λ k. (v.belongings k).view) (sym e)) | inr ne ↦ ap (λ (h : Belongings). h.view) (C.others z ne) ]
 
-  pub collected : Stands v' l'
+  pub collected : MemoryStands v' l'
   collected = record { made = λ k u e. ap (λ (m : MachineState). is_some (slice_get m.tasks u)) L.machine ∙ V.made k u (C.owned k u e); belongings = belongings; contents = content; tasks = task; remembered = remember; sources = source; gives = λ z u r j up ne w ru. gives_kept v v' u z (view_same z) (view_same u) (λ k o. C.owned k u o) (V.gives z u (rests_before l l' t L z r) (sym (ap (λ (m : MachineState). is_joined (slice_get m.tasks z)) L.machine) ∙ j) (sym (path_same l l' L.machine u z) ∙ up) ne (sym (ap (λ (m : MachineState). is_waiting (slice_get m.tasks u)) L.machine) ∙ w) (rests_before l l' t L u ru)); views = λ z r j. collection_shown v v' l l' t (heap_of l t).survivors f S V.views C idle (λ u o s i q k e. noted_mutable v l t u o s V i q k e) view_same (λ u y. path_same l l' L.machine u y) (rests_before l l' t L) z (rests_before l l' t L z r) (sym (ap (λ (m : MachineState). is_joined (slice_get m.tasks z)) L.machine) ∙ j) }

@@ -1,6 +1,6 @@
 -- A fork: the parent waits, its children have fresh belongings, and nothing moves.
-use Rattle.refinement.proofs.Common.{is_some, ◌≡◌, ℕ, ◌+◌, true, false, Some, List, [], ◌∷◌, map, length, slice_get, ◌⊎◌, inl, inr, refl, ap, sym, subst, ◌∙◌, cases_eq, both_ways, same_Some, Addr, Located, Name, Object, Frame as ModelFrame, Running, Waiting, Task, object_at, row_of, onward, is_waiting, is_joined, is_on_path, child, runs_idle, runs_live, Heap, Ledger, heap_of, fresh, SoundLedger, CallFrame, RefField, own, Rests, ForksTask, Belongings, Memory, In, object_name, objects, objects_of_chunks, sources, Lies, FramesAreRead, HoldsRead, TaskIsRead, AreLaidOut, Place, small_chunks, large_chunks, HasNames, BelongingsStand, IsSource, Stands, IsShown, ForksBelongings, advanced, entered_frames, child_belongings}
-use Rattle.refinement.specs.Stands.{names_of}
+use Rattle.refinement.proofs.Common.{is_some, ◌≡◌, ℕ, ◌+◌, true, false, Some, List, [], ◌∷◌, map, length, slice_get, ◌⊎◌, inl, inr, refl, ap, sym, subst, ◌∙◌, cases_eq, both_ways, same_Some, Addr, Located, Name, Object, Frame as ModelFrame, Running, Waiting, Task, object_at, row_of, onward, is_waiting, is_joined, is_on_path, child, runs_idle, runs_live, Heap, Ledger, heap_of, fresh, SoundLedger, CallFrame, RefField, own, Rests, ForksTask, Belongings, Memory, In, object_name, objects, objects_of_chunks, sources, Lies, FramesAreRead, HoldsRead, TaskIsRead, AreLaidOut, LiesWithOwner, small_chunks, large_chunks, ChunksHaveNames, BelongingsStand, IsSource, MemoryStands, AboveIsShown, ForksBelongings, advanced, entered_frames, child_belongings}
+use Rattle.refinement.specs.MemoryStands.{chunk_names}
 use Rattle.refinement.proofs.objects.Carry.{object_kept, task_kept, frames_kept}
 use Rattle.refinement.proofs.objects.LaidOut.{none_laid}
 use Rattle.refinement.proofs.changes.Alone.{belongings_kept}
@@ -17,7 +17,7 @@ entered_read : (at : Name → Addr → Type 0) (fs : List CallFrame) (t d g : �
 entered_read at [] t d g f xs h = absurd h
 entered_read at (y ∷ fs) t d g f xs h = (record { function = refl; next = refl; ints = h.0.ints; refs = h.0.refs }, tt)
 
-module _ (v v' : Memory) (l l' : Ledger) (t a b g h : ℕ) (x : Task) (S : SoundLedger l) (V : Stands v l) (runs : x.status ≡ Running) (rests : Rests l t) (F : ForksTask l l' t a b g h x) (C : ForksBelongings v v' t a b g h) where
+module _ (v v' : Memory) (l l' : Ledger) (t a b g h : ℕ) (x : Task) (S : SoundLedger l) (V : MemoryStands v l) (runs : x.status ≡ Running) (rests : Rests l t) (F : ForksTask l l' t a b g h x) (C : ForksBelongings v v' t a b g h) where
   abbrev IsOther : ℕ → Type 0
   IsOther z = (z ≡ t → ⊥) × (z ≡ a → ⊥) × (z ≡ b → ⊥)
 
@@ -48,7 +48,7 @@ module _ (v v' : Memory) (l l' : Ledger) (t a b g h : ℕ) (x : Task) (S : Sound
   ]
 
   -- the address of a name among such belongings is unchanged
-  place_in : (n : Name) (c : Addr) → (own l n ≡ a → ⊥) → (own l n ≡ b → ⊥) → Place v l n c → Place v' l' n c
+  place_in : (n : Name) (c : Addr) → (own l n ≡ a → ⊥) → (own l n ≡ b → ⊥) → LiesWithOwner v l n c → LiesWithOwner v' l' n c
   place_in n c na nb p = record {
     chunk = C.owner c.chunk ∙ (p.chunk ∙ ap Some (sym (F.owners n.task)));
     here = λ r.
@@ -76,7 +76,7 @@ module _ (v v' : Memory) (l l' : Ledger) (t a b g h : ℕ) (x : Task) (S : Sound
       ]
 
   module _ where
-    place : (n : Name) (c : Addr) → Place v l n c → Place v' l' n c
+    place : (n : Name) (c : Addr) → LiesWithOwner v l n c → LiesWithOwner v' l' n c
     place n c p = place_in n c (λ e. unowned c.chunk (own l n) (inl e) p.chunk) (λ e. unowned c.chunk (own l n) (inr e) p.chunk) p
 
     was : (z : ℕ) (o : Located) → Rests l' z → In (objects v' z) o → (z ≡ a → ⊥) × (z ≡ b → ⊥) × Rests l z × In (objects v z) o
@@ -93,7 +93,7 @@ module _ (v v' : Memory) (l l' : Ledger) (t a b g h : ℕ) (x : Task) (S : Sound
         let H = V.belongings t rests in
         record {
           names = record {
-            small = ap (λ ks. map names_of (small_chunks ks)) (ap (λ (i : Belongings). i.chunks) C.belongings) ∙ (H.names.small ∙ sym (ap (λ (i : Heap). i.chunks) F.heap));
+            small = ap (λ ks. map chunk_names (small_chunks ks)) (ap (λ (i : Belongings). i.chunks) C.belongings) ∙ (H.names.small ∙ sym (ap (λ (i : Heap). i.chunks) F.heap));
             large = ap (λ ks. map object_name (objects_of_chunks (large_chunks ks))) (ap (λ (i : Belongings). i.chunks) C.belongings) ∙ (H.names.large ∙ sym (ap (λ (i : Heap). i.large) F.heap));
           };
           room = ap (λ (i : Belongings). i.room) C.belongings ∙ (H.room ∙ sym (ap (λ (i : Heap). i.room) F.heap));
@@ -108,7 +108,7 @@ module _ (v v' : Memory) (l l' : Ledger) (t a b g h : ℕ) (x : Task) (S : Sound
 
     new_belongings : (z f : ℕ) → v'.belongings z ≡ child_belongings f (v.belongings t) → heap_of l' z ≡ fresh → length (row_of (slice_get l.machine.store z)) ≡ 0 → BelongingsStand v' l' z
     new_belongings z f eh el er = record {
-      names = subst (λ (i : Belongings). HasNames i.chunks (heap_of l' z)) (sym eh) (subst (HasNames []) (sym el) (record { small = refl; large = refl }));
+      names = subst (λ (i : Belongings). ChunksHaveNames i.chunks (heap_of l' z)) (sym eh) (subst (ChunksHaveNames []) (sym el) (record { small = refl; large = refl }));
       room = ap (λ (i : Belongings). i.room) eh ∙ sym (ap (λ (i : Heap). i.room) el);
       since = ap (λ (i : Belongings). i.since) eh ∙ sym (ap (λ (i : Heap). i.since) el);
       count = λ live. ap (λ (i : Belongings). i.count) eh ∙ sym (F.rows z ∙ er);
@@ -131,27 +131,27 @@ module _ (v v' : Memory) (l l' : Ledger) (t a b g h : ℕ) (x : Task) (S : Sound
       ]
     ]
 
-    frames_then : FramesAreRead (Place v' l') (v.belongings t).frames (x.top ∷ x.below)
-    frames_then = frames_kept (Place v l) (Place v' l') (v.belongings t).frames (x.top ∷ x.below) (λ n j. place n) (subst (HoldsRead (Place v l) (v.belongings t) x) runs (V.tasks t x rests F.task))
+    frames_then : FramesAreRead (LiesWithOwner v' l') (v.belongings t).frames (x.top ∷ x.below)
+    frames_then = frames_kept (LiesWithOwner v l) (LiesWithOwner v' l') (v.belongings t).frames (x.top ∷ x.below) (λ n j. place n) (subst (HoldsRead (LiesWithOwner v l) (v.belongings t) x) runs (V.tasks t x rests F.task))
 
-    new_task : (z f : ℕ) (y : Task) → v'.belongings z ≡ child_belongings f (v.belongings t) → slice_get l'.machine.tasks z ≡ Some (child t (x.depth + 1) f x.top) → slice_get l'.machine.tasks z ≡ Some y → TaskIsRead (Place v' l') (v'.belongings z) y
+    new_task : (z f : ℕ) (y : Task) → v'.belongings z ≡ child_belongings f (v.belongings t) → slice_get l'.machine.tasks z ≡ Some (child t (x.depth + 1) f x.top) → slice_get l'.machine.tasks z ≡ Some y → TaskIsRead (LiesWithOwner v' l') (v'.belongings z) y
     new_task z f y eh it is =
-        subst (λ (w : Task). TaskIsRead (Place v' l') (v'.belongings z) w) (same_Some (child t (x.depth + 1) f x.top) y (sym it ∙ is))
-        (subst (λ (i : Belongings). TaskIsRead (Place v' l') i (child t (x.depth + 1) f x.top)) (sym eh) (entered_read (Place v' l') (v.belongings t).frames t (x.depth + 1) f x.top x.below frames_then))
+        subst (λ (w : Task). TaskIsRead (LiesWithOwner v' l') (v'.belongings z) w) (same_Some (child t (x.depth + 1) f x.top) y (sym it ∙ is))
+        (subst (λ (i : Belongings). TaskIsRead (LiesWithOwner v' l') i (child t (x.depth + 1) f x.top)) (sym eh) (entered_read (LiesWithOwner v' l') (v.belongings t).frames t (x.depth + 1) f x.top x.below frames_then))
 
-    task : (z : ℕ) (y : Task) → Rests l' z → slice_get l'.machine.tasks z ≡ Some y → TaskIsRead (Place v' l') (v'.belongings z) y
+    task : (z : ℕ) (y : Task) → Rests l' z → slice_get l'.machine.tasks z ≡ Some y → TaskIsRead (LiesWithOwner v' l') (v'.belongings z) y
     task z y r is = elim (which z) [
       | inl e ↦
-          subst (λ u. TaskIsRead (Place v' l') (v'.belongings u) y) (sym e)
-          (subst (λ (w : Task). TaskIsRead (Place v' l') (v'.belongings t) w) (same_Some (record x { status = Waiting; top = onward x.top }) y (sym F.waits ∙ (ap (slice_get l'.machine.tasks) (sym e) ∙ is)))
-          (subst (λ (i : Belongings). TaskIsRead (Place v' l') i (record x { status = Waiting; top = onward x.top })) (sym C.belongings) (advanced_read (Place v' l') (v.belongings t).frames x.top x.below frames_then)))
+          subst (λ u. TaskIsRead (LiesWithOwner v' l') (v'.belongings u) y) (sym e)
+          (subst (λ (w : Task). TaskIsRead (LiesWithOwner v' l') (v'.belongings t) w) (same_Some (record x { status = Waiting; top = onward x.top }) y (sym F.waits ∙ (ap (slice_get l'.machine.tasks) (sym e) ∙ is)))
+          (subst (λ (i : Belongings). TaskIsRead (LiesWithOwner v' l') i (record x { status = Waiting; top = onward x.top })) (sym C.belongings) (advanced_read (LiesWithOwner v' l') (v.belongings t).frames x.top x.below frames_then)))
       | inr w ↦ elim w [
-        | inl e ↦ subst (λ u. TaskIsRead (Place v' l') (v'.belongings u) y) (sym e) (new_task a g y C.left F.left (ap (slice_get l'.machine.tasks) (sym e) ∙ is))
+        | inl e ↦ subst (λ u. TaskIsRead (LiesWithOwner v' l') (v'.belongings u) y) (sym e) (new_task a g y C.left F.left (ap (slice_get l'.machine.tasks) (sym e) ∙ is))
         | inr w' ↦ elim w' [
-          | inl e ↦ subst (λ u. TaskIsRead (Place v' l') (v'.belongings u) y) (sym e) (new_task b h y C.right F.right (ap (slice_get l'.machine.tasks) (sym e) ∙ is))
+          | inl e ↦ subst (λ u. TaskIsRead (LiesWithOwner v' l') (v'.belongings u) y) (sym e) (new_task b h y C.right F.right (ap (slice_get l'.machine.tasks) (sym e) ∙ is))
           | inr o ↦
-              subst (λ (i : Belongings). TaskIsRead (Place v' l') i y) (sym (C.others z o.0 o.1 o.2))
-              (task_kept (Place v l) (Place v' l') (v.belongings z) y (λ n j. place n) (V.tasks z y (rest z o.1 o.2 r) (sym (F.tasks z o.0 o.1 o.2) ∙ is)))
+              subst (λ (i : Belongings). TaskIsRead (LiesWithOwner v' l') i y) (sym (C.others z o.0 o.1 o.2))
+              (task_kept (LiesWithOwner v l) (LiesWithOwner v' l') (v.belongings z) y (λ n j. place n) (V.tasks z y (rest z o.1 o.2 r) (sym (F.tasks z o.0 o.1 o.2) ∙ is)))
         ]
       ]
     ]
@@ -203,23 +203,23 @@ module _ (v v' : Memory) (l l' : Ledger) (t a b g h : ℕ) (x : Task) (S : Sound
       | inr nt ↦ ap is_joined (sym (F.tasks z nt na nb)) ∙ k
     ]
 
-    view : (z : ℕ) → Rests l' z → is_joined (slice_get l'.machine.tasks z) ≡ false → IsShown v' l' z
+    view : (z : ℕ) → Rests l' z → is_joined (slice_get l'.machine.tasks z) ≡ false → AboveIsShown v' l' z
     view z r j = elim (cases_eq z a) [
-      | inl e ↦ subst (IsShown v' l') (sym e) (left_shown v v' l l' t a b g h x V V.views rests running F C view_same (ap (λ (i : Belongings). i.view) C.left))
+      | inl e ↦ subst (AboveIsShown v' l') (sym e) (left_shown v v' l l' t a b g h x V V.views rests running F C view_same (ap (λ (i : Belongings). i.view) C.left))
       | inr na ↦ elim (cases_eq z b) [
-        | inl e ↦ subst (IsShown v' l') (sym e) (right_shown v v' l l' t a b g h x V V.views rests running F C view_same (ap (λ (i : Belongings). i.view) C.right))
+        | inl e ↦ subst (AboveIsShown v' l') (sym e) (right_shown v v' l l' t a b g h x V V.views rests running F C view_same (ap (λ (i : Belongings). i.view) C.right))
         | inr nb ↦ rest_shown v v' l l' t a b g h x V V.views rests running F C view_same z na nb (rest z na nb r) (live_then z na nb j)
       ]
     ]
 
-    pub forked_stands : Stands v' l'
+    pub forked_stands : MemoryStands v' l'
     forked_stands = record {
       made = made;
       belongings = belongings;
       contents = λ z o r i.
           let w = was z o r i in
           let k = V.contents z o w.2 w.3 in
-          (k.0, F.store (object_name o) ∙ k.1, object_kept (Place v l) (Place v' l') o k.0 (λ n j. place n) k.2);
+          (k.0, F.store (object_name o) ∙ k.1, object_kept (LiesWithOwner v l) (LiesWithOwner v' l') o k.0 (λ n j. place n) k.2);
       tasks = task;
       remembered = remember;
       sources = source;

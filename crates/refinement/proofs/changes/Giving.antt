@@ -1,5 +1,5 @@
 -- The levels that tasks give to the views of their descendants, through each kind of change.
-use Rattle.refinement.proofs.Common.{◌≡◌, ℕ, zero, suc, ◌<◌, true, false, arith, Option, Some, None, List, ◌∷◌, slice_get, ◌⊎◌, inl, inr, refl, ap, sym, subst, ◌∙◌, drop, cases_eq, both_ways, false≢true, same_Some, map_in, TaskStatus, Running, Waiting, Ended, Joined, Task, is_joined, is_on_path, is_over, is_waiting, waits as waits_by, runs_idle, Heap, Ledger, SoundLedger, Rests, ForksTask, leaf_alone, Chunk, Belongings, Memory, frozen_chunk, frozen_chunks, ForksBelongings, GivesLevel, HasNumber, BelongingsStand, Stands}
+use Rattle.refinement.proofs.Common.{◌≡◌, ℕ, zero, suc, ◌<◌, true, false, arith, Option, Some, None, List, ◌∷◌, slice_get, ◌⊎◌, inl, inr, refl, ap, sym, subst, ◌∙◌, drop, cases_eq, both_ways, false≢true, same_Some, map_in, TaskStatus, Running, Waiting, Ended, Joined, Task, is_joined, is_on_path, is_over, is_waiting, waits as waits_by, runs_idle, Heap, Ledger, SoundLedger, Rests, ForksTask, leaf_alone, Chunk, Belongings, Memory, frozen_chunk, frozen_chunks, ForksBelongings, GivesLevel, LevelHasChunk, BelongingsStand, MemoryStands}
 
 abbrev pub EachGives : Memory → Ledger → Type 0
 EachGives v l = (t u : ℕ) → Rests l t → is_joined (slice_get l.machine.tasks t) ≡ false → is_on_path l.machine.tasks u t ≡ true → (u ≡ t → ⊥) → is_waiting (slice_get l.machine.tasks u) ≡ true → Rests l u → GivesLevel v u t
@@ -24,13 +24,13 @@ waits_live (Some y) e = waits_live_by_cases y.status e
     waits_live_by_cases Joined e = absurd (false≢true e)
 
 -- a heap's level has only chunks of its task
-level_is_own : (v : Memory) (l : Ledger) (t n : ℕ) → BelongingsStand v l t → HasNumber (frozen_chunks (v.belongings t).chunks) n → v.owner n ≡ Some t
+level_is_own : (v : Memory) (l : Ledger) (t n : ℕ) → BelongingsStand v l t → LevelHasChunk (frozen_chunks (v.belongings t).chunks) n → v.owner n ≡ Some t
 level_is_own v l t n H has =
     let k = map_in frozen_chunk (v.belongings t).chunks has.0 has.1 in
     ap v.owner (sym (ap (λ (c : Chunk). c.number) k.2 ∙ has.2)) ∙ H.owned k.0 k.1
 
 -- A FORK
-module _ (v v' : Memory) (l l' : Ledger) (t a b g h : ℕ) (x : Task) (S : SoundLedger l) (V : Stands v l) (T : EachGives v l) (rests : Rests l t) (runs : x.status ≡ Running)
+module _ (v v' : Memory) (l l' : Ledger) (t a b g h : ℕ) (x : Task) (S : SoundLedger l) (V : MemoryStands v l) (T : EachGives v l) (rests : Rests l t) (runs : x.status ≡ Running)
     (live : is_joined (slice_get l.machine.tasks t) ≡ false) (F : ForksTask l l' t a b g h x) (C : ForksBelongings v v' t a b g h)
     (same : (z : ℕ) → (z ≡ a → ⊥) → (z ≡ b → ⊥) → (v'.belongings z).view ≡ (v.belongings z).view) where
   not_left : (u : ℕ) → is_waiting (slice_get l'.machine.tasks u) ≡ true → u ≡ a → ⊥
@@ -61,10 +61,10 @@ module _ (v v' : Memory) (l l' : Ledger) (t a b g h : ℕ) (x : Task) (S : Sound
     apart = λ i n level lt at has o. gives_more_by_cases i n level lt (ap (λ ls. slice_get ls i) (sym new) ∙ at) has (sym (C.owner n) ∙ o);
   }
     where
-      gives_more_by_cases : (i n : ℕ) (level : List Chunk) → i < suc G.place → slice_get (frozen_chunks (v.belongings t).chunks ∷ (v.belongings t).view) i ≡ Some level → HasNumber level n → v.owner n ≡ Some u → ⊥
+      gives_more_by_cases : (i n : ℕ) (level : List Chunk) → i < suc G.place → slice_get (frozen_chunks (v.belongings t).chunks ∷ (v.belongings t).view) i ≡ Some level → LevelHasChunk level n → v.owner n ≡ Some u → ⊥
       gives_more_by_cases zero n level lt at has o =
           let is : frozen_chunks (v.belongings t).chunks ≡ level = same_Some (frozen_chunks (v.belongings t).chunks) level at in
-          nt (same_Some u t (sym o ∙ level_is_own v l t n (V.belongings t rests) (subst (λ ks. HasNumber ks n) (sym is) has)))
+          nt (same_Some u t (sym o ∙ level_is_own v l t n (V.belongings t rests) (subst (λ ks. LevelHasChunk ks n) (sym is) has)))
       gives_more_by_cases (suc i) n level lt at has o = G.apart i n level (omega (arith, lt)) at has o
 
   -- to a child

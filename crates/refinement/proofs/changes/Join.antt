@@ -1,6 +1,6 @@
 -- A join: the parent owns what its children owned, and nothing moves.
-use Rattle.refinement.proofs.Common.{◌≡◌, ℕ, ℤ, ◌+◌, ◌<◌, ◌||◌, arith, true, false, Option, Some, None, is_some, List, [], ◌∷◌, ◌++◌, map, length, slice_get, slice_set, ◌⊎◌, inl, inr, refl, ap, ap₂, sym, subst, ◌∙◌, ne_eqb, cases_eq, both_ways, false≢true, same_Some, in_append_left, in_append_right, in_append_cases, Addr, Located, Name, Object, Frame as ModelFrame, TaskStatus, Running, Waiting, Ended, Joined, Task, object_at, row_of, is_waiting, is_joined, is_over, is_on_path, parents, joined, resumed, path_itself, path_child, path_parent, path_through, live_up, waiting, joins_in, Heap, Ledger, heap_of, emptied, SoundLedger, CallFrame, RefField, own, Rests, JoinsTasks, TasksCanJoin, leaf_alone, Chunk, Belongings, no_belongings, Memory, In, object_name, objects, objects_of_chunks, sources, Lies, ReadsReference, IsModelObject, FrameIsRead, FramesAreRead, HoldsRead, TaskIsRead, AreLaidOut, Place, HasNames, small_chunks, large_chunks, GivesLevel, BelongingsStand, IsSource, Stands, IsShown, JoinsBelongings, with_results, top_with_results}
-use Rattle.refinement.specs.Stands.{names_of}
+use Rattle.refinement.proofs.Common.{◌≡◌, ℕ, ℤ, ◌+◌, ◌<◌, ◌||◌, arith, true, false, Option, Some, None, is_some, List, [], ◌∷◌, ◌++◌, map, length, slice_get, slice_set, ◌⊎◌, inl, inr, refl, ap, ap₂, sym, subst, ◌∙◌, ne_eqb, cases_eq, both_ways, false≢true, same_Some, in_append_left, in_append_right, in_append_cases, Addr, Located, Name, Object, Frame as ModelFrame, TaskStatus, Running, Waiting, Ended, Joined, Task, object_at, row_of, is_waiting, is_joined, is_over, is_on_path, parents, joined, resumed, path_itself, path_child, path_parent, path_through, live_up, waiting, joins_in, Heap, Ledger, heap_of, emptied, SoundLedger, CallFrame, RefField, own, Rests, JoinsTasks, TasksCanJoin, leaf_alone, Chunk, Belongings, no_belongings, Memory, In, object_name, objects, objects_of_chunks, sources, Lies, ReadsReference, IsModelObject, FrameIsRead, FramesAreRead, HoldsRead, TaskIsRead, AreLaidOut, LiesWithOwner, ChunksHaveNames, small_chunks, large_chunks, GivesLevel, BelongingsStand, IsSource, MemoryStands, AboveIsShown, JoinsBelongings, with_results, top_with_results}
+use Rattle.refinement.specs.MemoryStands.{chunk_names}
 use Rattle.refinement.proofs.objects.Carry.{object_kept, task_kept, frames_kept, read_kept, all_set}
 use Rattle.refinement.proofs.objects.Members.{in_chunk, in_objects, lies_in as owned_by, none_in}
 use Rattle.refinement.proofs.objects.LaidOut.{none_laid, laid_both}
@@ -19,9 +19,9 @@ joined_holds at h y e = joined_holds_by_cases y.status e
     joined_holds_by_cases (Ended k n) e = absurd (false≢true e)
     joined_holds_by_cases Joined e = tt
 
-module _ (v v' : Memory) (l l' : Ledger) (p c d : ℕ) (x : Task) (rl rr : ℤ × Option Name) (al ar : ℤ × Option Addr) (S : SoundLedger l) (V : Stands v l)
+module _ (v v' : Memory) (l l' : Ledger) (p c d : ℕ) (x : Task) (rl rr : ℤ × Option Name) (al ar : ℤ × Option Addr) (S : SoundLedger l) (V : MemoryStands v l)
     (J : JoinsTasks l l' p c d x rl rr) (T : TasksCanJoin l p c d x) (H : JoinsBelongings v v' p c d al ar)
-    (gl : (al.0 ≡ rl.0) × ReadsReference (Place v l) al.1 rl.1) (gr : (ar.0 ≡ rr.0) × ReadsReference (Place v l) ar.1 rr.1) where
+    (gl : (al.0 ≡ rl.0) × ReadsReference (LiesWithOwner v l) al.1 rl.1) (gr : (ar.0 ≡ rr.0) × ReadsReference (LiesWithOwner v l) ar.1 rr.1) where
   abbrev par : ℕ → Option ℕ
   par = parents l.machine.tasks
 
@@ -160,7 +160,7 @@ module _ (v v' : Memory) (l l' : Ledger) (p c d : ℕ) (x : Task) (rl rr : ℤ �
 
   -- POSITIONS
 
-  place : (n : Name) (a : Addr) → Place v l n a → Place v' l' n a
+  place : (n : Name) (a : Addr) → LiesWithOwner v l n a → LiesWithOwner v' l' n a
   place n a q = elim (J.owners n.task) [
     | inl m ↦ record {
       chunk = given m.1 (q.here (child_rests (own l n) m.1)) ∙ ap Some (sym m.0);
@@ -203,15 +203,15 @@ module _ (v v' : Memory) (l l' : Ledger) (p c d : ℕ) (x : Task) (rl rr : ℤ �
   abbrev both : Heap
   both = record (heap_of l p) { chunks = (heap_of l c).chunks ++ (heap_of l d).chunks; large = (heap_of l c).large ++ (heap_of l d).large }
 
-  both_names : HasNames (A ++ B) both
+  both_names : ChunksHaveNames (A ++ B) both
   both_names = record {
     small = small_both A B (heap_of l c) (heap_of l d) (V.belongings c T.left_rests).names (V.belongings d T.right_rests).names;
     large = large_both A B (heap_of l c) (heap_of l d) (V.belongings c T.left_rests).names (V.belongings d T.right_rests).names;
   }
 
-  merged_names : HasNames (v'.belongings p).chunks (heap_of l' p)
+  merged_names : ChunksHaveNames (v'.belongings p).chunks (heap_of l' p)
   merged_names = record {
-    small = ap (λ ks. map names_of (small_chunks ks)) H.chunks ∙ (small_both (A ++ B) C both (heap_of l p) both_names (V.belongings p T.rests).names ∙ sym (ap (λ (h : Heap). h.chunks) J.heap));
+    small = ap (λ ks. map chunk_names (small_chunks ks)) H.chunks ∙ (small_both (A ++ B) C both (heap_of l p) both_names (V.belongings p T.rests).names ∙ sym (ap (λ (h : Heap). h.chunks) J.heap));
     large = ap (λ ks. map object_name (objects_of_chunks (large_chunks ks))) H.chunks ∙ (large_both (A ++ B) C both (heap_of l p) both_names (V.belongings p T.rests).names ∙ sym (ap (λ (h : Heap). h.large) J.heap));
   }
 
@@ -261,7 +261,7 @@ module _ (v v' : Memory) (l l' : Ledger) (p c d : ℕ) (x : Task) (rl rr : ℤ �
 
   empty_belongings : (z : ℕ) → is_joined (slice_get l'.machine.tasks z) ≡ true → (heap_of l z).reserved ≡ 0 → v'.belongings z ≡ no_belongings → heap_of l' z ≡ emptied (heap_of l z) → BelongingsStand v' l' z
   empty_belongings z gone spare eh el = record {
-    names = subst (λ (h : Belongings). HasNames h.chunks (heap_of l' z)) (sym eh) (subst (HasNames []) (sym el) (record { small = refl; large = refl }));
+    names = subst (λ (h : Belongings). ChunksHaveNames h.chunks (heap_of l' z)) (sym eh) (subst (ChunksHaveNames []) (sym el) (record { small = refl; large = refl }));
     room = ap (λ (h : Belongings). h.room) eh ∙ sym (ap (λ (h : Heap). h.room) el);
     since = ap (λ (h : Belongings). h.since) eh ∙ sym (ap (λ (h : Heap). h.since) el);
     count = λ live. absurd (both_ways (is_joined (slice_get l'.machine.tasks z)) live gone);
@@ -307,45 +307,45 @@ module _ (v v' : Memory) (l l' : Ledger) (p c d : ℕ) (x : Task) (rl rr : ℤ �
     | inr e ↦ ap (λ z. is_some (slice_get l'.machine.tasks z)) e.0 ∙ ap is_some J.resumed
   ]
 
-  content : (z : ℕ) (o : Located) → Rests l' z → In (objects v' z) o → (y : Object) × (object_at l'.machine.store (object_name o) ≡ Some y) × IsModelObject (Place v' l') o y
+  content : (z : ℕ) (o : Located) → Rests l' z → In (objects v' z) o → (y : Object) × (object_at l'.machine.store (object_name o) ≡ Some y) × IsModelObject (LiesWithOwner v' l') o y
   content z o r i =
       let w = was z o r i in
       let k = V.contents w.task o w.rests w.there in
-      (k.0, store_same (object_name o) ∙ k.1, object_kept (Place v l) (Place v' l') o k.0 (λ n j. place n) k.2)
+      (k.0, store_same (object_name o) ∙ k.1, object_kept (LiesWithOwner v l) (LiesWithOwner v' l') o k.0 (λ n j. place n) k.2)
 
   -- FRAMES
 
-  resumed_frame : (f : CallFrame) (g : ModelFrame) → FrameIsRead (Place v' l') f g → FrameIsRead (Place v' l') (with_results al ar f) (resumed (record x { top = g }) rl rr).top
+  resumed_frame : (f : CallFrame) (g : ModelFrame) → FrameIsRead (LiesWithOwner v' l') f g → FrameIsRead (LiesWithOwner v' l') (with_results al ar f) (resumed (record x { top = g }) rl rr).top
   resumed_frame f g k = record {
     function = k.function;
     next = k.next;
     ints = ap (λ zs. slice_set (slice_set zs 0 al.0) 1 ar.0) k.ints ∙ ap₂ (λ i j. slice_set (slice_set g.ints 0 i) 1 j) gl.0 gr.0;
     refs =
-        all_set (Place v' l') _ _ 1 ar.1 rr.1
-        (all_set (Place v' l') f.refs g.refs 0 al.1 rl.1 k.refs (read_kept (Place v l) (Place v' l') al.1 rl.1 (λ n e. place n) gl.1))
-        (read_kept (Place v l) (Place v' l') ar.1 rr.1 (λ n e. place n) gr.1);
+        all_set (LiesWithOwner v' l') _ _ 1 ar.1 rr.1
+        (all_set (LiesWithOwner v' l') f.refs g.refs 0 al.1 rl.1 k.refs (read_kept (LiesWithOwner v l) (LiesWithOwner v' l') al.1 rl.1 (λ n e. place n) gl.1))
+        (read_kept (LiesWithOwner v l) (LiesWithOwner v' l') ar.1 rr.1 (λ n e. place n) gr.1);
   }
 
-  resumed_frames : (fs : List CallFrame) → FramesAreRead (Place v' l') fs (x.top ∷ x.below) → FramesAreRead (Place v' l') (top_with_results al ar fs) ((resumed x rl rr).top ∷ x.below)
+  resumed_frames : (fs : List CallFrame) → FramesAreRead (LiesWithOwner v' l') fs (x.top ∷ x.below) → FramesAreRead (LiesWithOwner v' l') (top_with_results al ar fs) ((resumed x rl rr).top ∷ x.below)
   resumed_frames [] k = absurd k
   resumed_frames (f ∷ fs) k = (resumed_frame f x.top k.0, k.1)
 
-  parent_task : TaskIsRead (Place v' l') (v'.belongings p) (resumed x rl rr)
+  parent_task : TaskIsRead (LiesWithOwner v' l') (v'.belongings p) (resumed x rl rr)
   parent_task =
-      let k : FramesAreRead (Place v l) (v.belongings p).frames (x.top ∷ x.below) = subst (HoldsRead (Place v l) (v.belongings p) x) T.waits (V.tasks p x T.rests J.parent) in
-      subst (λ fs. FramesAreRead (Place v' l') fs ((resumed x rl rr).top ∷ x.below)) (sym H.frames)
-      (resumed_frames (v.belongings p).frames (frames_kept (Place v l) (Place v' l') (v.belongings p).frames (x.top ∷ x.below) (λ n i. place n) k))
+      let k : FramesAreRead (LiesWithOwner v l) (v.belongings p).frames (x.top ∷ x.below) = subst (HoldsRead (LiesWithOwner v l) (v.belongings p) x) T.waits (V.tasks p x T.rests J.parent) in
+      subst (λ fs. FramesAreRead (LiesWithOwner v' l') fs ((resumed x rl rr).top ∷ x.below)) (sym H.frames)
+      (resumed_frames (v.belongings p).frames (frames_kept (LiesWithOwner v l) (LiesWithOwner v' l') (v.belongings p).frames (x.top ∷ x.below) (λ n i. place n) k))
 
-  task : (z : ℕ) (y : Task) → Rests l' z → slice_get l'.machine.tasks z ≡ Some y → TaskIsRead (Place v' l') (v'.belongings z) y
+  task : (z : ℕ) (y : Task) → Rests l' z → slice_get l'.machine.tasks z ≡ Some y → TaskIsRead (LiesWithOwner v' l') (v'.belongings z) y
   task z y r is = elim (which z) [
     | inl e ↦
         let same : resumed x rl rr ≡ y = same_Some (resumed x rl rr) y (sym J.resumed ∙ (ap (slice_get l'.machine.tasks) (sym e) ∙ is)) in
-        subst (λ (w : Task). TaskIsRead (Place v' l') (v'.belongings z) w) same (subst (λ u. TaskIsRead (Place v' l') (v'.belongings u) (resumed x rl rr)) (sym e) parent_task)
+        subst (λ (w : Task). TaskIsRead (LiesWithOwner v' l') (v'.belongings z) w) same (subst (λ u. TaskIsRead (LiesWithOwner v' l') (v'.belongings u) (resumed x rl rr)) (sym e) parent_task)
     | inr w ↦ elim w [
-      | inl ch ↦ joined_holds (Place v' l') (v'.belongings z) y (ap is_joined (sym is) ∙ elim ch [ inl e ↦ ap (λ k. is_joined (slice_get l'.machine.tasks k)) e ∙ J.left | inr e ↦ ap (λ k. is_joined (slice_get l'.machine.tasks k)) e ∙ J.right ])
+      | inl ch ↦ joined_holds (LiesWithOwner v' l') (v'.belongings z) y (ap is_joined (sym is) ∙ elim ch [ inl e ↦ ap (λ k. is_joined (slice_get l'.machine.tasks k)) e ∙ J.left | inr e ↦ ap (λ k. is_joined (slice_get l'.machine.tasks k)) e ∙ J.right ])
       | inr o ↦
-          subst (λ (h : Belongings). TaskIsRead (Place v' l') h y) (sym (H.others z o.0 o.1 o.2))
-          (task_kept (Place v l) (Place v' l') (v.belongings z) y (λ n j. place n) (V.tasks z y (rest z r) (sym (J.tasks z o.0 o.1 o.2) ∙ is)))
+          subst (λ (h : Belongings). TaskIsRead (LiesWithOwner v' l') h y) (sym (H.others z o.0 o.1 o.2))
+          (task_kept (LiesWithOwner v l) (LiesWithOwner v' l') (v.belongings z) y (λ n j. place n) (V.tasks z y (rest z r) (sym (J.tasks z o.0 o.1 o.2) ∙ is)))
     ]
   ]
 
@@ -449,12 +449,12 @@ module _ (v v' : Memory) (l l' : Ledger) (p c d : ℕ) (x : Task) (rl rr : ℤ �
     ]
   ]
 
-  view : (z : ℕ) → Rests l' z → is_joined (slice_get l'.machine.tasks z) ≡ false → IsShown v' l' z
+  view : (z : ℕ) → Rests l' z → is_joined (slice_get l'.machine.tasks z) ≡ false → AboveIsShown v' l' z
   view z r j =
       let gone : (k : ℕ) → is_joined (slice_get l'.machine.tasks k) ≡ true → z ≡ k → ⊥ = λ k g f. both_ways (is_joined (slice_get l'.machine.tasks z)) j (ap (λ y. is_joined (slice_get l'.machine.tasks y)) f ∙ g) in
       let nc : z ≡ c → ⊥ = gone c J.left in
       let nd : z ≡ d → ⊥ = gone d J.right in
-      let shown : Rests l z → is_joined (slice_get l.machine.tasks z) ≡ false → (v'.belongings z).view ≡ (v.belongings z).view → IsShown v' l' z = λ rz lz same. join_shown v v' l l' p c d x rl rr al ar only_children V.views J H T z same rz lz j in
+      let shown : Rests l z → is_joined (slice_get l.machine.tasks z) ≡ false → (v'.belongings z).view ≡ (v.belongings z).view → AboveIsShown v' l' z = λ rz lz same. join_shown v v' l l' p c d x rl rr al ar only_children V.views J H T z same rz lz j in
       elim (cases_eq z p) [
         | inl e ↦ shown (ap (λ k. (heap_of l k).worker) e ∙ T.rests) (ap (λ k. is_joined (slice_get l.machine.tasks k)) e ∙ parent_was_live) (ap (λ k. (v'.belongings k).view) e ∙ (H.view ∙ ap (λ k. (v.belongings k).view) (sym e)))
         | inr np ↦ shown (ap (λ (k : Heap). k.worker) (sym (J.heaps z np nc nd)) ∙ r) (ap is_joined (sym (J.tasks z np nc nd)) ∙ j) (ap (λ (k : Belongings). k.view) (H.others z np nc nd))
@@ -480,5 +480,5 @@ module _ (v v' : Memory) (l l' : Ledger) (p c d : ℕ) (x : Task) (rl rr : ℤ �
         | inr np ↦ kept (ap (λ (k : Belongings). k.view) (H.others z np nc nd)) (ap (λ (k : Heap). k.worker) (sym (J.heaps z np nc nd)) ∙ r) (ap is_joined (sym (J.tasks z np nc nd)) ∙ j)
       ]
 
-  pub joined_stands : Stands v' l'
+  pub joined_stands : MemoryStands v' l'
   joined_stands = record { made = made; belongings = belongings; contents = content; tasks = task; remembered = remember; sources = source; views = view; gives = give }

@@ -1,5 +1,5 @@
 -- A private step of a task whose belongings are in the memory: what is shown of its belongings is enough.
-use Rattle.refinement.proofs.Common.{◌≡◌, ℕ, true, false, Option, Some, None, slice_get, ◌⊎◌, inl, inr, refl, ap, sym, subst, ◌∙◌, cases_eq, both_ways, got_in, Addr, Located, Name, Object, Task, object_at, is_joined, is_waiting, is_on_path, parents, path_itself, Heap, Ledger, heap_of, SoundLedger, RefField, own, Rests, StepsAlone, own_live, leaf_alone, Belongings, Memory, In, object_name, objects, objects_of_chunks, sources, Lies, shown_at, IsModelObject, TaskIsRead, Place, GivesLevel, BelongingsStand, IsSource, Stands, IsShown, StepsInBelongings, BelongingsAreRead, Allocates}
+use Rattle.refinement.proofs.Common.{◌≡◌, ℕ, true, false, Option, Some, None, slice_get, ◌⊎◌, inl, inr, refl, ap, sym, subst, ◌∙◌, cases_eq, both_ways, got_in, Addr, Located, Name, Object, Task, object_at, is_joined, is_waiting, is_on_path, parents, path_itself, Heap, Ledger, heap_of, SoundLedger, RefField, own, Rests, StepsAlone, own_live, leaf_alone, Belongings, Memory, In, object_name, objects, objects_of_chunks, sources, Lies, shown_at, IsModelObject, TaskIsRead, LiesWithOwner, GivesLevel, BelongingsStand, IsSource, MemoryStands, AboveIsShown, StepsInBelongings, BelongingsAreRead, Allocates}
 use Rattle.refinement.proofs.objects.Carry.{object_kept, task_kept}
 use Rattle.refinement.proofs.objects.Members.{in_chunk}
 use Rattle.refinement.proofs.changes.Alone.{belongings_own, belongings_kept}
@@ -7,7 +7,7 @@ use Rattle.refinement.proofs.changes.Sweep.{refers}
 use Rattle.refinement.proofs.changes.Giving.{gives_kept}
 use Rattle.refinement.proofs.changes.Same.{source_alone}
 
-module _ (v v' : Memory) (l l' : Ledger) (t : ℕ) (S : SoundLedger l) (S' : SoundLedger l') (V : Stands v l) (A : StepsAlone l l' t) (rests : Rests l t) (rests' : Rests l' t)
+module _ (v v' : Memory) (l l' : Ledger) (t : ℕ) (S : SoundLedger l) (S' : SoundLedger l') (V : MemoryStands v l) (A : StepsAlone l l' t) (rests : Rests l t) (rests' : Rests l' t)
     (idle : is_waiting (slice_get l.machine.tasks t) ≡ false) (C : StepsInBelongings v v' t) where
   rest : (u : ℕ) → Rests l' u → Rests l u
   rest u r = elim (cases_eq u t) [
@@ -15,7 +15,7 @@ module _ (v v' : Memory) (l l' : Ledger) (t : ℕ) (S : SoundLedger l) (S' : Sou
     | inr ne ↦ ap (λ (h : Heap). h.worker) (sym (A.heaps u ne)) ∙ r
   ]
 
-  pub place_own : (n : Name) (a : Addr) → Place v l n a → Place v' l' n a
+  pub place_own : (n : Name) (a : Addr) → LiesWithOwner v l n a → LiesWithOwner v' l' n a
   place_own n a p =
       let e : own l' n ≡ own l n = A.tree.owners n.task in
       record {
@@ -35,18 +35,18 @@ module _ (v v' : Memory) (l l' : Ledger) (t : ℕ) (S : SoundLedger l) (S' : Sou
     store_same : (u : ℕ) (o : Located) → (u ≡ t → ⊥) → Rests l u → In (objects v u) o → object_at l'.machine.store (object_name o) ≡ object_at l.machine.store (object_name o)
     store_same u o ne r i = A.store (object_name o) (λ e. ne (sym (belongings_own v l S u (V.belongings u r) o i) ∙ e))
 
-    content : (u : ℕ) (o : Located) → Rests l' u → In (objects v' u) o → (x : Object) × (object_at l'.machine.store (object_name o) ≡ Some x) × IsModelObject (Place v' l') o x
+    content : (u : ℕ) (o : Located) → Rests l' u → In (objects v' u) o → (x : Object) × (object_at l'.machine.store (object_name o) ≡ Some x) × IsModelObject (LiesWithOwner v' l') o x
     content u o r i = elim (cases_eq u t) [
       | inl e ↦ H.contents o (subst (λ z. In (objects v' z) o) e i)
       | inr ne ↦
           let c = V.contents u o (rest u r) (was u o ne i) in
-          (c.0, store_same u o ne (rest u r) (was u o ne i) ∙ c.1, object_kept (Place v l) (Place v' l') o c.0 (λ n j. place_own n) c.2)
+          (c.0, store_same u o ne (rest u r) (was u o ne i) ∙ c.1, object_kept (LiesWithOwner v l) (LiesWithOwner v' l') o c.0 (λ n j. place_own n) c.2)
     ]
 
-    task : (u : ℕ) (x : Task) → Rests l' u → slice_get l'.machine.tasks u ≡ Some x → TaskIsRead (Place v' l') (v'.belongings u) x
+    task : (u : ℕ) (x : Task) → Rests l' u → slice_get l'.machine.tasks u ≡ Some x → TaskIsRead (LiesWithOwner v' l') (v'.belongings u) x
     task u x r is = elim (cases_eq u t) [
-      | inl e ↦ subst (λ z. TaskIsRead (Place v' l') (v'.belongings z) x) (sym e) (H.task x (ap (slice_get l'.machine.tasks) (sym e) ∙ is))
-      | inr ne ↦ subst (λ (h : Belongings). TaskIsRead (Place v' l') h x) (sym (C.others u ne)) (task_kept (Place v l) (Place v' l') (v.belongings u) x (λ n j. place_own n) (V.tasks u x (rest u r) (sym (A.tasks u ne) ∙ is)))
+      | inl e ↦ subst (λ z. TaskIsRead (LiesWithOwner v' l') (v'.belongings z) x) (sym e) (H.task x (ap (slice_get l'.machine.tasks) (sym e) ∙ is))
+      | inr ne ↦ subst (λ (h : Belongings). TaskIsRead (LiesWithOwner v' l') h x) (sym (C.others u ne)) (task_kept (LiesWithOwner v l) (LiesWithOwner v' l') (v.belongings u) x (λ n j. place_own n) (V.tasks u x (rest u r) (sym (A.tasks u ne) ∙ is)))
     ]
 
     idle' : is_waiting (slice_get l'.machine.tasks t) ≡ false
@@ -87,7 +87,7 @@ module _ (v v' : Memory) (l l' : Ledger) (t : ℕ) (S : SoundLedger l) (S' : Sou
       | inr nt ↦ ap (λ (h : Belongings). h.view) (C.others z nt)
     ]
 
-    view : (z : ℕ) → Rests l' z → is_joined (slice_get l'.machine.tasks z) ≡ false → IsShown v' l' z
+    view : (z : ℕ) → Rests l' z → is_joined (slice_get l'.machine.tasks z) ≡ false → AboveIsShown v' l' z
     view z r j w o up ne rw i =
         let up1 : is_on_path l.machine.tasks w z ≡ true = sym (A.tree.paths w z) ∙ up in
         let j1 : is_joined (slice_get l.machine.tasks z) ≡ false = sym (A.tree.joins z) ∙ j in
@@ -100,7 +100,7 @@ module _ (v v' : Memory) (l l' : Ledger) (t : ℕ) (S : SoundLedger l) (S' : Sou
         let wt : w ≡ t → ⊥ = λ f. both_ways (is_waiting (slice_get l.machine.tasks w)) (ap (λ y. is_waiting (slice_get l.machine.tasks y)) f ∙ idle) wait1 in
         gives_kept v v' w z (view_same z) (view_same w) (λ n o. sym (C.owner n) ∙ o) (V.gives z w (rest z r) (sym (A.tree.joins z) ∙ j) (sym (A.tree.paths w z) ∙ up) ne wait1 (rest w rw))
 
-    pub stepped : Stands v' l'
+    pub stepped : MemoryStands v' l'
     stepped = record {
       made = λ k u e. A.tree.made u ∙ V.made k u (sym (C.owner k) ∙ e);
       belongings = λ u r. elim (cases_eq u t) [
@@ -121,7 +121,7 @@ module _ (v v' : Memory) (l l' : Ledger) (t : ℕ) (S : SoundLedger l) (S' : Sou
     new_object_is_there : In (objects v' t) o
     new_object_is_there = (N.objects o).1 (inr refl)
 
-    place_new : Place v' l' (object_name o) o.at
+    place_new : LiesWithOwner v' l' (object_name o) o.at
     place_new =
         let e : own l' (object_name o) ≡ t = belongings_own v' l' S' t N.belongings o new_object_is_there in
         let k = in_chunk (v'.belongings t).chunks o new_object_is_there in
@@ -130,22 +130,22 @@ module _ (v v' : Memory) (l l' : Ledger) (t : ℕ) (S : SoundLedger l) (S' : Sou
           here = λ r. subst (λ u. Lies (v'.belongings u).chunks (object_name o) o.at) (sym e) (o, new_object_is_there, record { name = refl; at = refl });
         }
 
-    place_either : (n : Name) (a : Addr) → Place v l n a ⊎ ((object_name o ≡ n) × (o.at ≡ a)) → Place v' l' n a
+    place_either : (n : Name) (a : Addr) → LiesWithOwner v l n a ⊎ ((object_name o ≡ n) × (o.at ≡ a)) → LiesWithOwner v' l' n a
     place_either n a (inl p) = place_own n a p
-    place_either n a (inr p) = subst (λ m. Place v' l' m a) p.0 (subst (Place v' l' (object_name o)) p.1 place_new)
+    place_either n a (inr p) = subst (λ m. LiesWithOwner v' l' m a) p.0 (subst (LiesWithOwner v' l' (object_name o)) p.1 place_new)
 
-    old_or_new : (q : Located) → In (objects v t) q ⊎ (o ≡ q) → (y : Object) × (object_at l'.machine.store (object_name q) ≡ Some y) × IsModelObject (Place v' l') q y
+    old_or_new : (q : Located) → In (objects v t) q ⊎ (o ≡ q) → (y : Object) × (object_at l'.machine.store (object_name q) ≡ Some y) × IsModelObject (LiesWithOwner v' l') q y
     old_or_new q (inl i) =
         let c = V.contents t q rests i in
-        (c.0, N.others (object_name q) (λ e. none_some (sym N.new ∙ (ap (object_at l.machine.store) (sym e) ∙ c.1))) ∙ c.1, object_kept (Place v l) (Place v' l') q c.0 (λ n j. place_own n) c.2)
+        (c.0, N.others (object_name q) (λ e. none_some (sym N.new ∙ (ap (object_at l.machine.store) (sym e) ∙ c.1))) ∙ c.1, object_kept (LiesWithOwner v l) (LiesWithOwner v' l') q c.0 (λ n j. place_own n) c.2)
       where
         none_some : {y : Object} → ◌≡◌ {A = Option Object} None (Some y) → ⊥
         none_some e = absurd cc
-    old_or_new q (inr e) = subst (λ (z : Located). (y : Object) × (object_at l'.machine.store (object_name z) ≡ Some y) × IsModelObject (Place v' l') z y) e (x, N.is, object_kept (Place v l) (Place v' l') o x (λ n j. place_own n) N.reads)
+    old_or_new q (inr e) = subst (λ (z : Located). (y : Object) × (object_at l'.machine.store (object_name z) ≡ Some y) × IsModelObject (LiesWithOwner v' l') z y) e (x, N.is, object_kept (LiesWithOwner v l) (LiesWithOwner v' l') o x (λ n j. place_own n) N.reads)
 
-    pub allocated : Stands v' l'
+    pub allocated : MemoryStands v' l'
     allocated = stepped (record {
       belongings = N.belongings;
       contents = λ q i. old_or_new q ((N.objects q).0 i);
-      task = λ y is. task_kept (λ n a. Place v l n a ⊎ ((object_name o ≡ n) × (o.at ≡ a))) (Place v' l') (v'.belongings t) y (λ n j. place_either n) (N.task y is);
+      task = λ y is. task_kept (λ n a. LiesWithOwner v l n a ⊎ ((object_name o ≡ n) × (o.at ≡ a))) (LiesWithOwner v' l') (v'.belongings t) y (λ n j. place_either n) (N.task y is);
     })

@@ -1,9 +1,9 @@
 -- An entry that keeps the machine keeps owners, paths and objects, and each remembered field that stays where it is.
-use Rattle.refinement.proofs.Common.{◌≡◌, ℕ, true, false, slice_get, ◌⊎◌, inl, inr, ap, sym, subst, ◌∙◌, cases_eq, Name, MachineState, object_at, owner_of, is_on_path, is_waiting, is_joined, Heap, Ledger, heap_of, RefField, own, Rests, StepsAlone, ChangesHeap, Memory, In, sources, Place, IsSource}
+use Rattle.refinement.proofs.Common.{◌≡◌, ℕ, true, false, slice_get, ◌⊎◌, inl, inr, ap, sym, subst, ◌∙◌, cases_eq, Name, MachineState, object_at, owner_of, is_on_path, is_waiting, is_joined, Heap, Ledger, heap_of, RefField, own, Rests, StepsAlone, ChangesHeap, Memory, In, sources, LiesWithOwner, IsSource}
 
 -- a remembered field is one of z afterwards, if its object and the account of its owner are unchanged, and its address
 -- is as given
-pub source_kept : (v v' : Memory) (l l' : Ledger) (y z : ℕ) (s : RefField) (k : IsSource v l y s) → own l' k.name ≡ own l k.name → object_at l'.machine.store k.name ≡ object_at l.machine.store k.name → Place v' l' k.name s.object
+pub source_kept : (v v' : Memory) (l l' : Ledger) (y z : ℕ) (s : RefField) (k : IsSource v l y s) → own l' k.name ≡ own l k.name → object_at l'.machine.store k.name ≡ object_at l.machine.store k.name → LiesWithOwner v' l' k.name s.object
     → is_waiting (slice_get l'.machine.tasks (own l k.name)) ≡ is_waiting (slice_get l.machine.tasks (own l k.name)) → (heap_of l' (own l k.name)).worker ≡ (heap_of l (own l k.name)).worker → is_on_path l'.machine.tasks (own l k.name) z ≡ true → (own l k.name ≡ z → ⊥)
     → is_joined (slice_get l'.machine.tasks z) ≡ false → In (heap_of l' (own l k.name)).snapshot k.name → IsSource v' l' z s
 source_kept v v' l l' y z s k e store place waits worker above below live kept = record {
@@ -22,7 +22,7 @@ source_kept v v' l l' y z s k e store place waits worker above below live kept =
 }
 
 -- also after a task's own steps, if its object is another's
-pub source_alone : (v v' : Memory) (l l' : Ledger) (t u : ℕ) (s : RefField) (k : IsSource v l u s) → StepsAlone l l' t → (own l k.name ≡ t → ⊥) → Place v' l' k.name s.object → IsSource v' l' u s
+pub source_alone : (v v' : Memory) (l l' : Ledger) (t u : ℕ) (s : RefField) (k : IsSource v l u s) → StepsAlone l l' t → (own l k.name ≡ t → ⊥) → LiesWithOwner v' l' k.name s.object → IsSource v' l' u s
 source_alone v v' l l' t u s k A ne place =
     source_kept v v' l l' u u s k (A.tree.owners k.name.task) (A.store k.name ne) place (A.tree.waits (own l k.name)) (ap (λ (h : Heap). h.worker) (A.heaps (own l k.name) ne)) (A.tree.paths (own l k.name) u ∙ k.above) k.below (A.tree.joins u ∙ k.live)
     (subst (λ (h : Heap). In h.snapshot k.name) (sym (A.heaps (own l k.name) ne)) k.snapshot)
@@ -38,7 +38,7 @@ module _ (l l' : Ledger) (E : l'.machine ≡ l.machine) where
   store_same n = ap (λ (m : MachineState). object_at m.store n) E
 
   -- a remembered field, if its object's heap has the same worker and the same snapshot
-  pub source_same : (v v' : Memory) (u : ℕ) (s : RefField) (k : IsSource v l u s) → Place v' l' k.name s.object → (heap_of l' (own l k.name)).worker ≡ (heap_of l (own l k.name)).worker → In (heap_of l' (own l k.name)).snapshot k.name → IsSource v' l' u s
+  pub source_same : (v v' : Memory) (u : ℕ) (s : RefField) (k : IsSource v l u s) → LiesWithOwner v' l' k.name s.object → (heap_of l' (own l k.name)).worker ≡ (heap_of l (own l k.name)).worker → In (heap_of l' (own l k.name)).snapshot k.name → IsSource v' l' u s
   source_same v v' u s k place worker kept =
       source_kept v v' l l' u u s k (own_same k.name) (store_same k.name) place (ap (λ (m : MachineState). is_waiting (slice_get m.tasks (own l k.name))) E) worker (path_same (own l k.name) u ∙ k.above) k.below (ap (λ (m : MachineState). is_joined (slice_get m.tasks u)) E ∙ k.live) kept
 

@@ -1,11 +1,11 @@
 -- What the views of tasks show of their ancestors' heaps, through each kind of change.
-use Rattle.refinement.proofs.Common.{◌≡◌, ℕ, ℤ, ◌==◌, ◌&&◌, suc, Bool, true, false, not, cond, Option, Some, None, List, [], ◌∷◌, map, filter, slice_get, ◌⊎◌, inl, inr, refl, ap, ap₂, sym, subst, ◌∙◌, option_map, list_any, cases_eq, both_ways, and_parts, eq-eqb, eqb-true, cond-true, cond-false, false_from_ne_true, same_Some, in_from_any, each_in, in_map, Addr, Located, Task, is_joined, is_on_path, is_waiting, Name, Object, object_at, Heap, Ledger, heap_of, SoundLedger, RefField, own, Rests, ForksTask, JoinsTasks, TasksCanJoin, leaf_alone, same_address, is_same, same_is, Chunk, Belongings, Memory, In, object_name, objects, objects_of_chunks, sources, is_source, rewritten_refs, rewritten, put_at, frozen_chunk, frozen_chunks, chunk_among, seen_at, seen_in, shown_at, as_shown, BelongingsStand, IsShown, Stands, ForksBelongings, advanced, JoinsBelongings, KeepsJust, Moves, WritesAt}
+use Rattle.refinement.proofs.Common.{◌≡◌, ℕ, ℤ, ◌==◌, ◌&&◌, suc, Bool, true, false, not, cond, Option, Some, None, List, [], ◌∷◌, map, filter, slice_get, ◌⊎◌, inl, inr, refl, ap, ap₂, sym, subst, ◌∙◌, option_map, list_any, cases_eq, both_ways, and_parts, eq-eqb, eqb-true, cond-true, cond-false, false_from_ne_true, same_Some, in_from_any, each_in, in_map, Addr, Located, Task, is_joined, is_on_path, is_waiting, Name, Object, object_at, Heap, Ledger, heap_of, SoundLedger, RefField, own, Rests, ForksTask, JoinsTasks, TasksCanJoin, leaf_alone, same_address, is_same, same_is, Chunk, Belongings, Memory, In, object_name, objects, objects_of_chunks, sources, is_source, rewritten_refs, rewritten, put_at, frozen_chunk, frozen_chunks, chunk_among, seen_at, seen_in, shown_at, as_shown, BelongingsStand, AboveIsShown, MemoryStands, ForksBelongings, advanced, JoinsBelongings, KeepsJust, Moves, WritesAt}
 use Rattle.std.specs.List.{IsDistinct}
 use Rattle.refinement.proofs.objects.Members.{in_chunk, in_objects, none_in}
 use Rattle.refinement.proofs.objects.Mapped.{from_mapped}
 
 abbrev AreShown : Memory → Ledger → Type 0
-AreShown v l = (t : ℕ) → Rests l t → is_joined (slice_get l.machine.tasks t) ≡ false → IsShown v l t
+AreShown v l = (t : ℕ) → Rests l t → is_joined (slice_get l.machine.tasks t) ≡ false → AboveIsShown v l t
 
 -- THE LEVEL OF A TASK
 
@@ -85,7 +85,7 @@ level_passes v l t u o below H K ne i =
     ne (same_Some u t (sym (K.owned c.0 c.1) ∙ (ap v.owner (sym (K.inside c.0 o c.1 c.2) ∙ sym e) ∙ H.owned k j)))))
 
 -- A FORK
-module _ (v v' : Memory) (l l' : Ledger) (t a b g h : ℕ) (x : Task) (V : Stands v l) (T : AreShown v l) (rests : Rests l t)
+module _ (v v' : Memory) (l l' : Ledger) (t a b g h : ℕ) (x : Task) (V : MemoryStands v l) (T : AreShown v l) (rests : Rests l t)
     (live : is_joined (slice_get l.machine.tasks t) ≡ false) (F : ForksTask l l' t a b g h x) (C : ForksBelongings v v' t a b g h)
     (same : (z : ℕ) → (z ≡ a → ⊥) → (z ≡ b → ⊥) → (v'.belongings z).view ≡ (v.belongings z).view) where
   -- an object of any task was there before, and its task is none of the children
@@ -102,7 +102,7 @@ module _ (v v' : Memory) (l l' : Ledger) (t a b g h : ℕ) (x : Task) (V : Stand
   ]
 
   -- a child
-  child_shown : (z : ℕ) → ((u : ℕ) → is_on_path l'.machine.tasks u z ≡ true → (u ≡ z) ⊎ (is_on_path l.machine.tasks u t ≡ true)) → (v'.belongings z).view ≡ frozen_chunks (v.belongings t).chunks ∷ (v.belongings t).view → IsShown v' l' z
+  child_shown : (z : ℕ) → ((u : ℕ) → is_on_path l'.machine.tasks u z ≡ true → (u ≡ z) ⊎ (is_on_path l.machine.tasks u t ≡ true)) → (v'.belongings z).view ≡ frozen_chunks (v.belongings t).chunks ∷ (v.belongings t).view → AboveIsShown v' l' z
   child_shown z above new u o up ne r i =
       let w = was u o r i in
       ap (λ s. shown_at s o.at) new ∙ elim (above u up) [
@@ -113,14 +113,14 @@ module _ (v v' : Memory) (l l' : Ledger) (t a b g h : ℕ) (x : Task) (V : Stand
         ]
       ]
 
-  pub left_shown : (v'.belongings a).view ≡ frozen_chunks (v.belongings t).chunks ∷ (v.belongings t).view → IsShown v' l' a
+  pub left_shown : (v'.belongings a).view ≡ frozen_chunks (v.belongings t).chunks ∷ (v.belongings t).view → AboveIsShown v' l' a
   left_shown new = child_shown a F.above_left new
 
-  pub right_shown : (v'.belongings b).view ≡ frozen_chunks (v.belongings t).chunks ∷ (v.belongings t).view → IsShown v' l' b
+  pub right_shown : (v'.belongings b).view ≡ frozen_chunks (v.belongings t).chunks ∷ (v.belongings t).view → AboveIsShown v' l' b
   right_shown new = child_shown b F.above_right new
 
   -- any other
-  pub rest_shown : (z : ℕ) → (z ≡ a → ⊥) → (z ≡ b → ⊥) → Rests l z → is_joined (slice_get l.machine.tasks z) ≡ false → IsShown v' l' z
+  pub rest_shown : (z : ℕ) → (z ≡ a → ⊥) → (z ≡ b → ⊥) → Rests l z → is_joined (slice_get l.machine.tasks z) ≡ false → AboveIsShown v' l' z
   rest_shown z na nb rz lz u o up ne r i =
       let w = was u o r i in
       ap (λ s. shown_at s o.at) (same z na nb) ∙ T z rz lz u o (sym (F.paths u z na nb) ∙ up) ne w.0 w.1
@@ -128,7 +128,7 @@ module _ (v v' : Memory) (l l' : Ledger) (t a b g h : ℕ) (x : Task) (V : Stand
 -- A JOIN: the parent runs on, so it is an ancestor of no other live task
 module _ (v v' : Memory) (l l' : Ledger) (p c d : ℕ) (x : Task) (rl rr : ℤ × Option Name) (al ar : ℤ × Option Addr) (nobody : (z : ℕ) → is_joined (slice_get l.machine.tasks z) ≡ false → is_on_path l.machine.tasks p z ≡ true → (z ≡ p → ⊥) × (z ≡ c → ⊥) × (z ≡ d → ⊥) → ⊥) (T : AreShown v l) (J : JoinsTasks l l' p c d x rl rr) (C : JoinsBelongings v v' p c d al ar)
     (K : TasksCanJoin l p c d x) (z : ℕ) (same : (v'.belongings z).view ≡ (v.belongings z).view) where
-  pub join_shown : Rests l z → is_joined (slice_get l.machine.tasks z) ≡ false → is_joined (slice_get l'.machine.tasks z) ≡ false → IsShown v' l' z
+  pub join_shown : Rests l z → is_joined (slice_get l.machine.tasks z) ≡ false → is_joined (slice_get l'.machine.tasks z) ≡ false → AboveIsShown v' l' z
   join_shown rz lz lz' u o up ne r i = elim (cases_eq u p) [
     | inl e ↦
         let gone : (k : ℕ) → is_joined (slice_get l'.machine.tasks k) ≡ true → z ≡ k → ⊥ = λ k g f. both_ways (is_joined (slice_get l'.machine.tasks z)) lz' (ap (λ y. is_joined (slice_get l'.machine.tasks y)) f ∙ g) in
@@ -171,7 +171,7 @@ module _ (v v' : Memory) (l l' : Ledger) (t : ℕ) (a : Addr) (f : Located → L
           e ∙ (cond-true q.mutable None (Some q) m ∙ sym (ap as_shown (cond-true (same_address q.at a) (f q) q h) ∙ cond-true (f q).mutable None (Some (f q)) (kind q ∙ m)))
       one_shown_by_cases false h = e ∙ sym (ap as_shown (cond-false (same_address q.at a) (f q) q h))
 
-  pub write_shown : (z : ℕ) → Rests l z → is_joined (slice_get l.machine.tasks z) ≡ false → IsShown v' l' z
+  pub write_shown : (z : ℕ) → Rests l z → is_joined (slice_get l.machine.tasks z) ≡ false → AboveIsShown v' l' z
   write_shown z rz lz u o up ne r i =
       let w = from_mapped (put_at a f) one_name one_at (v.belongings u).chunks o (subst (λ ks. In (objects_of_chunks ks) o) (C.chunks u) i) in
       let at : o.at ≡ w.0.at = ap (λ (q : Located). q.at) (sym w.2) ∙ one_at w.0 in
@@ -181,7 +181,7 @@ module _ (v v' : Memory) (l l' : Ledger) (t : ℕ) (a : Addr) (f : Located → L
 -- A SWEEP: objects only go
 module _ (v v' : Memory) (l l' : Ledger) (t : ℕ) (names : List Name) (T : AreShown v l) (C : KeepsJust v v' l l' t names)
     (same : (z : ℕ) → (v'.belongings z).view ≡ (v.belongings z).view) (paths : (u z : ℕ) → is_on_path l'.machine.tasks u z ≡ is_on_path l.machine.tasks u z) (rests : (u : ℕ) → Rests l' u → Rests l u) where
-  pub sweep_shown : (z : ℕ) → Rests l z → is_joined (slice_get l.machine.tasks z) ≡ false → IsShown v' l' z
+  pub sweep_shown : (z : ℕ) → Rests l z → is_joined (slice_get l.machine.tasks z) ≡ false → AboveIsShown v' l' z
   sweep_shown z rz lz u o up ne r i = ap (λ s. shown_at s o.at) (same z) ∙ T z rz lz u o (sym (paths u z) ∙ up) ne (rests u r) (elim (cases_eq u t) [
     | inl e ↦ subst (λ k. In (objects v k) o) (sym e) (C.only o (subst (λ k. In (objects v' k) o) e i)).0
     | inr nt ↦ subst (λ (k : Belongings). In (objects_of_chunks k.chunks) o) (C.others u nt) i
@@ -202,7 +202,7 @@ module _ (f : Addr → Addr) (ss : List RefField) where
       ap₂ (λ x xs. x ∷ xs) (cond-false (list_any (is_source a i) ss) (option_map f r) r out) (refs_left a (suc i) rs none)
 
 -- what is remembered is mutable
-pub noted_mutable : (v : Memory) (l : Ledger) (t u : ℕ) (o : Located) (s : RefField) → Stands v l → In (objects v u) o → Rests l u → In (sources v t) s → s.object ≡ o.at → o.mutable ≡ true
+pub noted_mutable : (v : Memory) (l : Ledger) (t u : ℕ) (o : Located) (s : RefField) → MemoryStands v l → In (objects v u) o → Rests l u → In (sources v t) s → s.object ≡ o.at → o.mutable ≡ true
 noted_mutable v l t u o s V i r j e =
     let k = V.sources t s j in
     let q = k.place.here k.rests in
@@ -227,7 +227,7 @@ module _ (v v' : Memory) (l l' : Ledger) (t : ℕ) (names : List Name) (f : Addr
       one_led_by_cases true m = e ∙ (cond-true q.mutable None (Some q) m ∙ sym (cond-true q.mutable None (Some (rewritten f ss q)) m))
       one_led_by_cases false m = e ∙ ap (λ rs. as_shown (record q { refs = rs })) (sym (refs_left f ss q.at 0 q.refs (λ z j h. both_ways q.mutable m (noted u q z i r j h))))
 
-  pub collection_shown : (z : ℕ) → Rests l z → is_joined (slice_get l.machine.tasks z) ≡ false → IsShown v' l' z
+  pub collection_shown : (z : ℕ) → Rests l z → is_joined (slice_get l.machine.tasks z) ≡ false → AboveIsShown v' l' z
   collection_shown z rz lz u o up ne r i =
       let up' : is_on_path l.machine.tasks u z ≡ true = sym (paths u z) ∙ up in
       elim (cases_eq u t) [

@@ -1,5 +1,5 @@
 -- A store of a reference, into an object of the task or of an ancestor: the write barrier's work.
-use Rattle.refinement.proofs.Common.{◌≡◌, ℕ, ℤ, Bool, true, false, Option, Some, None, List, slice_get, slice_set, ◌⊎◌, inl, inr, refl, ap, sym, subst, ◌∙◌, both_ways, same_Some, got_cases, Addr, Name, Object, Task, ref_in, task_names, is_waiting, is_on_path, parents, on_one_path, path_itself, Ledger, heap_of, SoundLedger, InHeaps, CallFrame, RefField, own, Rests, StoresOne, ref_of, own_live, leaf_alone, Memory, In, sources, ReadsReference, TaskIsRead, Place, IsSource, Stands, StoresAt, with_field}
+use Rattle.refinement.proofs.Common.{◌≡◌, ℕ, ℤ, Bool, true, false, Option, Some, None, List, slice_get, slice_set, ◌⊎◌, inl, inr, refl, ap, sym, subst, ◌∙◌, both_ways, same_Some, got_cases, Addr, Name, Object, Task, ref_in, task_names, is_waiting, is_on_path, parents, on_one_path, path_itself, Ledger, heap_of, SoundLedger, InHeaps, CallFrame, RefField, own, Rests, StoresOne, ref_of, own_live, leaf_alone, Memory, In, sources, ReadsReference, TaskIsRead, LiesWithOwner, IsSource, MemoryStands, StoresAt, with_field}
 use Rattle.refinement.proofs.objects.Carry.{all_set}
 use Rattle.refinement.proofs.changes.Sweep.{snapshot_is}
 use Rattle.refinement.proofs.changes.Target as target
@@ -30,30 +30,30 @@ module _ (l : Ledger) (S : SoundLedger l) (t : ℕ) (x : Task) (is : slice_get l
       let o : own l n ≡ k.0.0 = (S.owners k.0.0 n k.0.1).1 in
       subst (λ ns. In ns n) (snapshot_is (slice_get l.heaps (own l n))) (k.1 (subst (λ u. InHeaps l.heaps u n) (sym o) k.0.1))
 
-module _ (v v' : Memory) (l l' : Ledger) (t : ℕ) (x : Task) (n : Name) (y : Object) (o w i : ℕ) (c : Option (ℕ × ℤ)) (f : CallFrame) (fs : List CallFrame) (a : Addr) (S : SoundLedger l) (V : Stands v l) (rests : Rests l t)
+module _ (v v' : Memory) (l l' : Ledger) (t : ℕ) (x : Task) (n : Name) (y : Object) (o w i : ℕ) (c : Option (ℕ × ℤ)) (f : CallFrame) (fs : List CallFrame) (a : Addr) (S : SoundLedger l) (V : MemoryStands v l) (rests : Rests l t)
     (L : StoresOne l l' t x n y o w i c) (C : StoresAt v v' l t f fs a w i c) (at_a : ref_of f o ≡ Some a) where
   pub holds : (j : ℕ) (m : Name) → ref_in x.top j ≡ Some m → In (task_names x) m
   holds = target.holds v l t x n o f fs a S V rests L.task L.runs L.object L.waits C.frames at_a
 
-  reads : (j : ℕ) → ReadsReference (Place v l) (ref_of f j) (ref_in x.top j)
+  reads : (j : ℕ) → ReadsReference (LiesWithOwner v l) (ref_of f j) (ref_in x.top j)
   reads = target.reads v l t x n o f fs a S V rests L.task L.runs L.object L.waits C.frames at_a
 
-  pub place : Place v l n a
+  pub place : LiesWithOwner v l n a
   place = target.place v l t x n o f fs a S V rests L.task L.runs L.object L.waits C.frames at_a
 
   -- what the register w holds
-  value : (r : Name) → ref_in x.top w ≡ Some r → (b : Addr) × (ref_of f w ≡ Some b) × Place v l r b
-  value r e = value_by_cases (ref_of f w) refl (subst (ReadsReference (Place v l) (ref_of f w)) e (reads w))
+  value : (r : Name) → ref_in x.top w ≡ Some r → (b : Addr) × (ref_of f w ≡ Some b) × LiesWithOwner v l r b
+  value r e = value_by_cases (ref_of f w) refl (subst (ReadsReference (LiesWithOwner v l) (ref_of f w)) e (reads w))
     where
-      value_by_cases : (z : Option Addr) → ref_of f w ≡ z → ReadsReference (Place v l) z (Some r) → (b : Addr) × (ref_of f w ≡ Some b) × Place v l r b
+      value_by_cases : (z : Option Addr) → ref_of f w ≡ z → ReadsReference (LiesWithOwner v l) z (Some r) → (b : Addr) × (ref_of f w ≡ Some b) × LiesWithOwner v l r b
       value_by_cases None h k = absurd k
       value_by_cases (Some b) h k = (b, h, k)
 
   -- and the name of the object at an address that it holds
-  named : (b : Addr) → ref_of f w ≡ Some b → (r : Name) × (ref_in x.top w ≡ Some r) × Place v l r b
-  named b e = named_by_cases (ref_in x.top w) refl (subst (λ z. ReadsReference (Place v l) z (ref_in x.top w)) e (reads w))
+  named : (b : Addr) → ref_of f w ≡ Some b → (r : Name) × (ref_in x.top w ≡ Some r) × LiesWithOwner v l r b
+  named b e = named_by_cases (ref_in x.top w) refl (subst (λ z. ReadsReference (LiesWithOwner v l) z (ref_in x.top w)) e (reads w))
     where
-      named_by_cases : (z : Option Name) → ref_in x.top w ≡ z → ReadsReference (Place v l) (Some b) z → (r : Name) × (ref_in x.top w ≡ Some r) × Place v l r b
+      named_by_cases : (z : Option Name) → ref_in x.top w ≡ z → ReadsReference (LiesWithOwner v l) (Some b) z → (r : Name) × (ref_in x.top w ≡ Some r) × LiesWithOwner v l r b
       named_by_cases None h k = absurd k
       named_by_cases (Some r) h k = (r, h, k)
 
@@ -69,7 +69,7 @@ module _ (v v' : Memory) (l l' : Ledger) (t : ℕ) (x : Task) (n : Name) (y : Ob
     | inr old ↦ elim (target.minded v l t x n o f fs a S V rests L.task L.runs L.object L.waits C.frames at_a y j r L.writes.was old) [ inl p ↦ inl p | inr s ↦ inr (C.writes.noted (own l r) (record { object = a; field = j }) s) ]
   ]
     where
-      minds_by_cases : (b : Bool) → is_on_path l.machine.tasks (own l r) (own l n) ≡ b → (c : Addr) × (ref_of f w ≡ Some c) × Place v l r c → j ≡ i → (is_on_path l.machine.tasks (own l r) (own l n) ≡ true) ⊎ In (sources v' (own l r)) (record { object = a; field = j })
+      minds_by_cases : (b : Bool) → is_on_path l.machine.tasks (own l r) (own l n) ≡ b → (c : Addr) × (ref_of f w ≡ Some c) × LiesWithOwner v l r c → j ≡ i → (is_on_path l.machine.tasks (own l r) (own l n) ≡ true) ⊎ In (sources v' (own l r)) (record { object = a; field = j })
       minds_by_cases true h q k = inl h
       minds_by_cases false h q k = inr (subst (λ z. In (sources v' (own l r)) (record { object = a; field = z })) (sym k) (C.down q.0 (own l n) (own l r) q.1 place.chunk q.2.chunk h))
 
@@ -102,16 +102,16 @@ module _ (v v' : Memory) (l l' : Ledger) (t : ℕ) (x : Task) (n : Name) (y : Ob
             snapshot = snapshot l S t x L.task n m.0 hn hr off';
           }))
 
-  task : (z : Task) → Rests l t → slice_get l'.machine.tasks t ≡ Some z → TaskIsRead (Place v l) (v'.belongings t) z
+  task : (z : Task) → Rests l t → slice_get l'.machine.tasks t ≡ Some z → TaskIsRead (LiesWithOwner v l) (v'.belongings t) z
   task z r e = target.task_on v l t x n o f fs a S V rests L.task L.runs L.object L.waits C.frames at_a v' l' c L.goes C.goes z e
 
-  pub stored : Stands v' l'
+  pub stored : MemoryStands v' l'
   stored = written v v' l l' t n a y y' (with_field i (ref_of f w)) S V L.writes C.writes (record {
     place = place;
     rests = rests_n;
     mutable = L.mutable;
     still = L.mutable;
-    reads = λ q k. record { mutable = k.mutable; ints = k.ints; refs = all_set (Place v l) q.refs y.refs i (ref_of f w) (ref_in x.top w) k.refs (reads w) };
+    reads = λ q k. record { mutable = k.mutable; ints = k.ints; refs = all_set (LiesWithOwner v l) q.refs y.refs i (ref_of f w) (ref_in x.top w) k.refs (reads w) };
     minds = minds;
     sources = source;
     task = task;

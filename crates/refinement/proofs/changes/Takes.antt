@@ -1,5 +1,5 @@
 -- A task is taken, and private steps are committed: the memory stands, and the part fits.
-use Rattle.refinement.proofs.Common.{◌≡◌, ℕ, arith, false, Some, None, length, slice_get, inl, inr, refl, ap, sym, ◌∙◌, cases_eq, ProgramText, SettingsValue, MachineState, row_of, is_joined, is_waiting, Heap, Ledger, heap_of, or_fresh, with_heap, let_go, task_steps, heap_machine, Rests, rested, heap_then, with_at, with_off, took_takes, Belongings, Memory, objects_of_chunks, Stands, Part, FitsAt, with_belongings, part_for}
+use Rattle.refinement.proofs.Common.{◌≡◌, ℕ, arith, false, Some, None, length, slice_get, inl, inr, refl, ap, sym, ◌∙◌, cases_eq, ProgramText, SettingsValue, MachineState, row_of, is_joined, is_waiting, Heap, Ledger, heap_of, or_fresh, with_heap, let_go, task_steps, heap_machine, Rests, rested, heap_then, with_at, with_off, took_takes, Belongings, Memory, objects_of_chunks, MemoryStands, Part, FitsAt, with_belongings, part_for}
 use Rattle.refinement.proofs.changes.Alone.{belongings_kept}
 use Rattle.refinement.proofs.changes.Release.{released}
 use Rattle.refinement.proofs.changes.Renew.{renewed}
@@ -7,7 +7,7 @@ use Rattle.refinement.proofs.changes.UpdateOneTask.{at_belongings, off_belonging
 
 -- TAKEN
 
-module _ (p : ProgramText) (s : SettingsValue) (v : Memory) (l : Ledger) (t w : ℕ) (h : Heap) (is : slice_get l.heaps t ≡ Some h) (V : Stands v l) (rests : Rests l t) (idle : is_waiting (slice_get l.machine.tasks t) ≡ false) where
+module _ (p : ProgramText) (s : SettingsValue) (v : Memory) (l : Ledger) (t w : ℕ) (h : Heap) (is : slice_get l.heaps t ≡ Some h) (V : MemoryStands v l) (rests : Rests l t) (idle : is_waiting (slice_get l.machine.tasks t) ≡ false) where
   abbrev l' : Ledger
   l' = with_heap l t (λ h. record h { worker = Some w })
 
@@ -73,7 +73,7 @@ module _ (p : ProgramText) (s : SettingsValue) (q : Part) (v : Memory) (l : Ledg
   ran_fits = record { worker = w; out = out; few = omega arith; private = tt; stands = F.stands }
 
   -- and the memory stands without it
-  pub ran_stands : is_waiting (slice_get then_.machine.tasks q.task) ≡ false → Stands v then_
+  pub ran_stands : is_waiting (slice_get then_.machine.tasks q.task) ≡ false → MemoryStands v then_
   ran_stands idle =
       released (with_belongings v q.task q.belongings) v (rested then_ q.task) then_ q.task w F.stands (ap (λ (m : MachineState). is_waiting (slice_get m.tasks q.task)) (heap_machine then_ q.task let_go) ∙ idle)
       (record { machine = sym (heap_machine then_ q.task let_go); worker = out; heaps = λ u ne. ap or_fresh (sym (with_off then_ q.task u let_go ne)) })

@@ -1,6 +1,6 @@
 -- A step writes a field, of an object of its task or of an ancestor: nothing moves, and a reference that points down is
 -- remembered.
-use Rattle.refinement.proofs.Common.{◌≡◌, ℕ, ◌<◌, Bool, true, false, cond, Some, length, slice_get, ◌⊎◌, inl, inr, refl, ap, sym, subst, ◌∙◌, cases_eq, both_ways, cond-true, cond-false, same_Some, Addr, Located, Name, Object, Task, object_at, is_waiting, is_on_path, Heap, Ledger, heap_of, SoundLedger, RefField, own, Rests, WritesOne, name_cases, same_address, is_same, same_is, Memory, In, object_name, objects, objects_of_chunks, sources, Lies, put_at, IsModelObject, TaskIsRead, words, Place, IsSource, Stands, WritesAt, WritesWell}
+use Rattle.refinement.proofs.Common.{◌≡◌, ℕ, ◌<◌, Bool, true, false, cond, Some, length, slice_get, ◌⊎◌, inl, inr, refl, ap, sym, subst, ◌∙◌, cases_eq, both_ways, cond-true, cond-false, same_Some, Addr, Located, Name, Object, Task, object_at, is_waiting, is_on_path, Heap, Ledger, heap_of, SoundLedger, RefField, own, Rests, WritesOne, name_cases, same_address, is_same, same_is, Memory, In, object_name, objects, objects_of_chunks, sources, Lies, put_at, IsModelObject, TaskIsRead, words, LiesWithOwner, IsSource, MemoryStands, WritesAt, WritesWell}
 use Rattle.refinement.proofs.objects.Carry.{object_kept, task_kept, same_holding}
 use Rattle.refinement.proofs.objects.Members.{in_chunk}
 use Rattle.refinement.proofs.objects.Mapped.{from_mapped, lies_mapped, belongings_mapped_by}
@@ -8,7 +8,7 @@ use Rattle.refinement.proofs.changes.Alone.{belongings_own}
 use Rattle.refinement.proofs.changes.Shown.{write_shown}
 use Rattle.refinement.proofs.changes.Giving.{gives_kept}
 
-module _ (v v' : Memory) (l l' : Ledger) (t : ℕ) (n : Name) (a : Addr) (x x' : Object) (f : Located → Located) (S : SoundLedger l) (V : Stands v l)
+module _ (v v' : Memory) (l l' : Ledger) (t : ℕ) (n : Name) (a : Addr) (x x' : Object) (f : Located → Located) (S : SoundLedger l) (V : MemoryStands v l)
     (L : WritesOne l l' t n x x') (C : WritesAt v v' t a f) (W : WritesWell v v' l l' t n a x x' f) where
   abbrev one : Located → Located
   one o = put_at a f o
@@ -40,7 +40,7 @@ module _ (v v' : Memory) (l l' : Ledger) (t : ℕ) (n : Name) (a : Addr) (x x' :
   rest : (u : ℕ) → Rests l' u → Rests l u
   rest u r = ap (λ (h : Heap). h.worker) (sym (L.heaps u)) ∙ r
 
-  place : (m : Name) (b : Addr) → Place v l m b → Place v' l' m b
+  place : (m : Name) (b : Addr) → LiesWithOwner v l m b → LiesWithOwner v' l' m b
   place m b p = record {
     chunk = C.owner b.chunk ∙ (p.chunk ∙ ap Some (sym (owner_same m)));
     here = λ r.
@@ -81,7 +81,7 @@ module _ (v v' : Memory) (l l' : Ledger) (t : ℕ) (n : Name) (a : Addr) (x x' :
       cases_by_cases false e = inr ((λ g. both_ways (same_address o.at a) e (is_same o.at a (name_is u o r i g))), cond-false (same_address o.at a) (f o) o e)
 
   abbrev Content : Located → Type 0
-  Content o = (y : Object) × (object_at l'.machine.store (object_name o) ≡ Some y) × IsModelObject (Place v' l') o y
+  Content o = (y : Object) × (object_at l'.machine.store (object_name o) ≡ Some y) × IsModelObject (LiesWithOwner v' l') o y
 
   content : (u : ℕ) (o : Located) → Rests l' u → In (objects v' u) o → Content o
   content u o r i =
@@ -90,15 +90,15 @@ module _ (v v' : Memory) (l l' : Ledger) (t : ℕ) (n : Name) (a : Addr) (x x' :
       subst Content q.2 (elim (cases u q.0 (rest u r) q.1) [
         | inl w ↦
             let same : c.0 ≡ x = same_Some c.0 x (sym c.1 ∙ (ap (object_at l.machine.store) w.0 ∙ L.was)) in
-            let reads : IsModelObject (Place v l) (one q.0) x' = subst (λ (z : Located). IsModelObject (Place v l) z x') (sym w.2) (W.reads q.0 (subst (IsModelObject (Place v l) q.0) same c.2)) in
-            (x', ap (object_at l'.machine.store) (one_name q.0 ∙ w.0) ∙ L.is, object_kept (Place v l) (Place v' l') (one q.0) x' (λ m j. place m) reads)
-        | inr w ↦ subst Content (sym w.1) (c.0, L.others (object_name q.0) w.0 ∙ c.1, object_kept (Place v l) (Place v' l') q.0 c.0 (λ m j. place m) c.2)
+            let reads : IsModelObject (LiesWithOwner v l) (one q.0) x' = subst (λ (z : Located). IsModelObject (LiesWithOwner v l) z x') (sym w.2) (W.reads q.0 (subst (IsModelObject (LiesWithOwner v l) q.0) same c.2)) in
+            (x', ap (object_at l'.machine.store) (one_name q.0 ∙ w.0) ∙ L.is, object_kept (LiesWithOwner v l) (LiesWithOwner v' l') (one q.0) x' (λ m j. place m) reads)
+        | inr w ↦ subst Content (sym w.1) (c.0, L.others (object_name q.0) w.0 ∙ c.1, object_kept (LiesWithOwner v l) (LiesWithOwner v' l') q.0 c.0 (λ m j. place m) c.2)
       ])
 
-  task : (u : ℕ) (y : Task) → Rests l' u → slice_get l'.machine.tasks u ≡ Some y → TaskIsRead (Place v' l') (v'.belongings u) y
-  task u y r is = task_kept (Place v l) (Place v' l') (v'.belongings u) y (λ m j. place m) (elim (cases_eq u t) [
-    | inl e ↦ subst (λ z. TaskIsRead (Place v l) (v'.belongings z) y) (sym e) (W.task y (subst (Rests l) e (rest u r)) (ap (slice_get l'.machine.tasks) (sym e) ∙ is))
-    | inr ne ↦ same_holding (Place v l) (v.belongings u) (v'.belongings u) y (C.frames u ne) (C.result u ne) (V.tasks u y (rest u r) (sym (L.tasks u ne) ∙ is))
+  task : (u : ℕ) (y : Task) → Rests l' u → slice_get l'.machine.tasks u ≡ Some y → TaskIsRead (LiesWithOwner v' l') (v'.belongings u) y
+  task u y r is = task_kept (LiesWithOwner v l) (LiesWithOwner v' l') (v'.belongings u) y (λ m j. place m) (elim (cases_eq u t) [
+    | inl e ↦ subst (λ z. TaskIsRead (LiesWithOwner v l) (v'.belongings z) y) (sym e) (W.task y (subst (Rests l) e (rest u r)) (ap (slice_get l'.machine.tasks) (sym e) ∙ is))
+    | inr ne ↦ same_holding (LiesWithOwner v l) (v.belongings u) (v'.belongings u) y (C.frames u ne) (C.result u ne) (V.tasks u y (rest u r) (sym (L.tasks u ne) ∙ is))
   ])
 
   abbrev Minds : ℕ → Name → RefField → Type 0
@@ -160,7 +160,7 @@ module _ (v v' : Memory) (l l' : Ledger) (t : ℕ) (n : Name) (a : Addr) (x x' :
       let same : c.0 ≡ x = same_Some c.0 x (sym c.1 ∙ (ap (object_at l.machine.store) (written_is u o r i e) ∙ L.was)) in
       c.2.mutable ∙ (ap (λ (z : Object). z.mutable) same ∙ W.mutable)
 
-  pub written : Stands v' l'
+  pub written : MemoryStands v' l'
   written = record {
     made = λ k u e. L.tree.made u ∙ V.made k u (sym (C.owner k) ∙ e);
     belongings = λ u r. belongings_mapped_by one one_name one_at v v' l l' u (C.chunks u) (C.room u) (C.since u) (C.count u) (λ k e. C.owner k ∙ e) (L.heaps u) (L.rows u) (L.tree.joins u) one_words (V.belongings u (rest u r));

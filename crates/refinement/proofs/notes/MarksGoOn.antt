@@ -1,18 +1,18 @@
 -- A marking that can go on still can, if objects stay and what was overwritten was kept.
-use Rattle.refinement.proofs.Common.{◌≡◌, ℕ, ◌+◌, ◌<◌, ◌≤◌, ◌++◌, arith, Some, List, length, length-append, ◌⊎◌, ◌↔◌, inl, inr, ap, sym, subst, ◌∙◌, Addr, HasObjectAt, RefersTo, Located, Name, contains_from_in, in_append_cases, in_append_left, in_append_right, in_from_contains, reached_more, reached_start, reached_within, IsMarking, MarkingValue, Fork, IsInSnapshot, Starts, marking_goes_on, In, Memory, object_name, objects, CanGoOnMarking, kept}
+use Rattle.refinement.proofs.Common.{◌≡◌, ℕ, ◌+◌, ◌<◌, ◌≤◌, ◌++◌, arith, Some, List, length, length-append, ◌⊎◌, ◌↔◌, inl, inr, ap, sym, subst, ◌∙◌, Addr, HasObjectAt, RefersTo, Located, Name, contains_from_in, in_append_cases, in_append_left, in_append_right, in_from_contains, reached_more, reached_start, reached_within, IsMarking, MarkingValue, Fork, IsInSnapshot, MarkStarts, marking_goes_on, In, Memory, object_name, objects, CanGoOnMarking, kept}
 
 -- WHAT WAS KEPT SINCE, being in the snapshot, leads to nothing more
 module _ (f : Fork) (kept more : List Addr) (of : (a : Addr) → In more a → IsInSnapshot f kept a) where
-  start_then : (a : Addr) → Starts f (kept ++ more) a → IsInSnapshot f kept a
+  start_then : (a : Addr) → MarkStarts f (kept ++ more) a → IsInSnapshot f kept a
   start_then a s = elim (in_append_cases f.roots (kept ++ more) a (in_from_contains (f.roots ++ (kept ++ more)) a s.1)) [
-    | inl i ↦ reached_start (Starts f kept) (RefersTo f.heap) a (s.0, contains_from_in (f.roots ++ kept) a (in_append_left f.roots kept a i))
+    | inl i ↦ reached_start (MarkStarts f kept) (RefersTo f.heap) a (s.0, contains_from_in (f.roots ++ kept) a (in_append_left f.roots kept a i))
     | inr i ↦ elim (in_append_cases kept more a i) [
-      | inl j ↦ reached_start (Starts f kept) (RefersTo f.heap) a (s.0, contains_from_in (f.roots ++ kept) a (in_append_right f.roots kept a j))
+      | inl j ↦ reached_start (MarkStarts f kept) (RefersTo f.heap) a (s.0, contains_from_in (f.roots ++ kept) a (in_append_right f.roots kept a j))
       | inr j ↦ of a j
     ]
   ]
 
-  start_before : (a : Addr) → Starts f kept a → Starts f (kept ++ more) a
+  start_before : (a : Addr) → MarkStarts f kept a → MarkStarts f (kept ++ more) a
   start_before a s = (
     s.0,
     contains_from_in (f.roots ++ (kept ++ more)) a (elim (in_append_cases f.roots kept a (in_from_contains (f.roots ++ kept) a s.1)) [
@@ -23,8 +23,8 @@ module _ (f : Fork) (kept more : List Addr) (of : (a : Addr) → In more a → I
 
   pub same_snapshot : (a : Addr) → IsInSnapshot f (kept ++ more) a ↔ IsInSnapshot f kept a
   same_snapshot a = (
-    (λ w. reached_within (Starts f (kept ++ more)) (RefersTo f.heap) (IsInSnapshot f kept) start_then (λ b x r g. reached_more (Starts f kept) (RefersTo f.heap) b x r g) a w),
-    (λ w. reached_within (Starts f kept) (RefersTo f.heap) (IsInSnapshot f (kept ++ more)) (λ x s. reached_start (Starts f (kept ++ more)) (RefersTo f.heap) x (start_before x s)) (λ b x r g. reached_more (Starts f (kept ++ more)) (RefersTo f.heap) b x r g) a w),
+    (λ w. reached_within (MarkStarts f (kept ++ more)) (RefersTo f.heap) (IsInSnapshot f kept) start_then (λ b x r g. reached_more (MarkStarts f kept) (RefersTo f.heap) b x r g) a w),
+    (λ w. reached_within (MarkStarts f kept) (RefersTo f.heap) (IsInSnapshot f (kept ++ more)) (λ x s. reached_start (MarkStarts f (kept ++ more)) (RefersTo f.heap) x (start_before x s)) (λ b x r g. reached_more (MarkStarts f (kept ++ more)) (RefersTo f.heap) b x r g) a w),
   )
 
 -- THE MARKING of t's heap

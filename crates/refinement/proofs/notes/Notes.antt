@@ -1,6 +1,6 @@
 -- What is noted of a waiting heap still holds, whatever entry is made.
-use Rattle.refinement.proofs.Common.{◌≡◌, ℕ, ℤ, suc, Bool, true, false, cond, Option, Some, None, List, [], ◌∷◌, ◌⊎◌, length, slice_get, inl, inr, refl, ap, ap₂, sym, subst, ◌∙◌, option_map, list_any, ◌&&◌, not, both_ways, same_Some, append-nil, length-map, Addr, Located, Name, Object, Task, Running, object_at, task_names, is_waiting, runs_idle, got_in, Heap, Ledger, heap_of, heap_at, within, SoundLedger, InHeaps, names_of, snapshot_at, MarkingValue, in_append_right, CallFrame, RefField, own, Rests, ref_of, ForksTask, StoresOne, same_address, Chunk, Belongings, Memory, In, object_name, objects, objects_of_chunks, sources, is_source, rewritten, rewritten_refs, rewritten_belongings, mapped_chunk, put_at, Place, Stands, IsReachedAt, AreRoots, CanGoOnMarking, MarkedBy, Since, kept, NotedAt, SameNotes, NoNotes, StaysWhole, Moves, ForksBelongings, WritesAt, StoresAt, with_field, with_int_field}
-use Rattle.refinement.specs.Since.{Keeps}
+use Rattle.refinement.proofs.Common.{◌≡◌, ℕ, ℤ, suc, Bool, true, false, cond, Option, Some, None, List, [], ◌∷◌, ◌⊎◌, length, slice_get, inl, inr, refl, ap, ap₂, sym, subst, ◌∙◌, option_map, list_any, ◌&&◌, not, both_ways, same_Some, append-nil, length-map, Addr, Located, Name, Object, Task, Running, object_at, task_names, is_waiting, runs_idle, got_in, Heap, Ledger, heap_of, heap_at, within, SoundLedger, InHeaps, heap_names, snapshot_at, MarkingValue, in_append_right, CallFrame, RefField, own, Rests, ref_of, ForksTask, StoresOne, same_address, Chunk, Belongings, Memory, In, object_name, objects, objects_of_chunks, sources, is_source, rewritten, rewritten_refs, rewritten_belongings, mapped_chunk, put_at, LiesWithOwner, MemoryStands, IsReachedAt, AreRoots, CanGoOnMarking, MarkedBy, Since, kept, NotedAt, SameNotes, NoNotes, StaysWhole, Moves, ForksBelongings, WritesAt, StoresAt, with_field, with_int_field}
+use Rattle.refinement.specs.Since.{KeepsOldValue}
 use Rattle.refinement.proofs.objects.Mapped.{count_mapped, from_mapped, to_mapped}
 use Rattle.refinement.proofs.notes.MarksGoOn.{goes_on}
 use Rattle.refinement.proofs.objects.Members.{object_held}
@@ -176,7 +176,7 @@ no_notes v' l' t N = record { keeps = N.keeps ∙ sym N.needless; since = λ e. 
 
 -- A FORK
 
-pub fork_notes : (v v' : Memory) (l l' : Ledger) (t a b g h : ℕ) (x : Task) (roots : List Addr) → SoundLedger l → Stands v l → x.status ≡ Running → Rests l t → ((u : ℕ) → is_waiting (slice_get l.machine.tasks u) ≡ true → Rests l u)
+pub fork_notes : (v v' : Memory) (l l' : Ledger) (t a b g h : ℕ) (x : Task) (roots : List Addr) → SoundLedger l → MemoryStands v l → x.status ≡ Running → Rests l t → ((u : ℕ) → is_waiting (slice_get l.machine.tasks u) ≡ true → Rests l u)
     → (F : ForksTask l l' t a b g h x) → ForksBelongings v v' t a b g h → AreRoots v l t roots → F.names ≡ within l t → kept v' t ≡ [] → (v'.noted t).marked ≡ None → (v'.noted t).keeps ≡ true → NotedAt v' l' t
 fork_notes v v' l l' t a b g h x roots S V runs rests at_rest F C R names none unmarked keeps = record {
   keeps = keeps ∙ sym (ap₂ (λ a b. a && not b) (ap is_waiting F.waits) (ap (λ (z : Heap). z.swept) F.heap));
@@ -186,9 +186,9 @@ fork_notes v v' l l' t a b g h x roots S V runs rests at_rest F C R names none u
 
 -- A STORE OF A REFERENCE: what it overwrites is in the snapshot
 
-module _ (v v' : Memory) (l l' : Ledger) (t : ℕ) (x : Task) (n : Name) (y : Object) (o w i : ℕ) (c : Option (ℕ × ℤ)) (f : CallFrame) (fs : List CallFrame) (a : Addr) (S : SoundLedger l) (V : Stands v l) (rests : Rests l t)
+module _ (v v' : Memory) (l l' : Ledger) (t : ℕ) (x : Task) (n : Name) (y : Object) (o w i : ℕ) (c : Option (ℕ × ℤ)) (f : CallFrame) (fs : List CallFrame) (a : Addr) (S : SoundLedger l) (V : MemoryStands v l) (rests : Rests l t)
     (L : StoresOne l l' t x n y o w i c) (C : StoresAt v v' l t f fs a w i c) (at_a : ref_of f o ≡ Some a) (u : ℕ) (wait : is_waiting (slice_get l.machine.tasks u) ≡ true) where
-  abbrev place : Place v l n a
+  abbrev place : LiesWithOwner v l n a
   place = store.place v v' l l' t x n y o w i c f fs a S V rests L C at_a
 
   abbrev rests_n : Rests l (own l n)
@@ -209,11 +209,11 @@ module _ (v v' : Memory) (l l' : Ledger) (t : ℕ) (x : Task) (n : Name) (y : Ob
       let same : q ≡ p.0 = (V.belongings (own l n) rests_n).once q p.0 j' p.1 (e ∙ sym p.2.at) in
       let c = V.contents (own l n) q rests_n j' in
       let is : c.0 ≡ y = same_Some c.0 y (sym c.1 ∙ (ap (object_at l.machine.store) (ap object_name same ∙ p.2.name) ∙ L.writes.was)) in
-      let r = name_at (Place v l) q.refs c.0.refs i b c.2.refs g in
+      let r = name_at (LiesWithOwner v l) q.refs c.0.refs i b c.2.refs g in
       let theirs : own l r.0 ≡ u = same_Some (own l r.0) u (sym r.2.chunk ∙ ob) in
       let k = r.2.here (subst (Rests l) (sym theirs) (L.waits u wait)) in
       let k' : In (objects v u) k.0 = subst (λ m. In (objects v m) k.0) theirs k.1 in
-      let held : In (names_of (heap_at l u)) (object_name k.0) = object_held (v.belongings u).chunks (heap_of l u) (V.belongings u (L.waits u wait)).names k.0 k' in
+      let held : In (heap_names (heap_at l u)) (object_name k.0) = object_held (v.belongings u).chunks (heap_of l u) (V.belongings u (L.waits u wait)).names k.0 k' in
       let P = (S.waits u wait).of_object n r.0 ((S.waits u wait).of_task t x n L.task holds) (refers l.machine.store n r.0 y L.writes.was (subst (λ (m : Object). In m.refs (Some r.0)) is (got_in c.0.refs i (Some r.0) r.1))) in
       (k.0, k', k.2.at, subst (λ ns. In ns (object_name k.0)) (snapshot_is (slice_get l.heaps u)) (subst (In (snapshot_at (slice_get l.heaps u))) (sym k.2.name) (P.1 (subst (InHeaps l.heaps u) k.2.name held))))
 
@@ -235,7 +235,7 @@ module _ (v v' : Memory) (l l' : Ledger) (t : ℕ) (x : Task) (n : Name) (y : Ob
       one_at_by_cases false = refl
 
   -- a marking can go on
-  store_goes : Since v' l' u → Keeps v v' u a i → (m : MarkingValue) → CanGoOnMarking v u (heap_of l u).snapshot m → CanGoOnMarking v' u (heap_of l' u).snapshot m
+  store_goes : Since v' l' u → KeepsOldValue v v' u a i → (m : MarkingValue) → CanGoOnMarking v u (heap_of l u).snapshot m → CanGoOnMarking v' u (heap_of l' u).snapshot m
   store_goes H' K m G =
       let back : (q : Located) → In (objects v' u) q → (o : Located) × In (objects v u) o × (one o ≡ q) = λ q j. from_mapped one one_name one_at (v.belongings u).chunks q (subst (λ ks. In (objects_of_chunks ks) q) (C.writes.chunks u) j) in
       let same : (heap_of l' u).snapshot ≡ (heap_of l u).snapshot = ap (λ (g : Heap). g.snapshot) (L.writes.heaps u) in
@@ -259,7 +259,7 @@ module _ (v v' : Memory) (l l' : Ledger) (t : ℕ) (x : Task) (n : Name) (y : Ob
       ))
       G)
 
-  pub store_notes : (v'.noted u).keeps ≡ (v.noted u).keeps → (heap_of l' u).swept ≡ (heap_of l u).swept → Keeps v v' u a i → NotedAt v l u → NotedAt v' l' u
+  pub store_notes : (v'.noted u).keeps ≡ (v.noted u).keeps → (heap_of l' u).swept ≡ (heap_of l u).swept → KeepsOldValue v v' u a i → NotedAt v l u → NotedAt v' l' u
   store_notes keeps swept K H = record {
     keeps = keeps ∙ (H.keeps ∙ ap₂ (λ a b. a && not b) (sym (L.writes.tree.waits u)) (sym swept));
     since = λ e. since_write v v' l l' u t i n y _ a (ref_of f w) V (L.waits u wait) (C.writes.frames u apart) (H.since (sym keeps ∙ e)) L.writes C.writes K of_snapshot;

@@ -1,6 +1,6 @@
 -- What the registers and the roots of a begun collection reach by addresses is what is reachable within the heap by
 -- names.
-use Rattle.refinement.proofs.Common.{◌≡◌, ℕ, zero, suc, ◌==◌, not, Bool, true, false, Option, Some, None, List, [], ◌∷◌, slice_get, ◌⊎◌, ◌↔◌, inl, inr, refl, ap, sym, subst, ◌∙◌, ne_eqb, and_from, and_parts, eqb-false, not-true, same_Some, in_from_contains, contains_from_in, in_append_left, in_append_right, in_append_cases, in_kept, in_from_kept, in_flat, got_in, in_got, IsWalk, Addr, Located, Name, Frame as ModelFrame, Running, Task, object_at, names_of_references, registers, refs_at, refs_of, is_waiting, is_joined, is_on_path, in_from_named, named_from_in, runs_idle, runs_live, Ledger, StartsWithin, LeadsWithin, heap_of, held, held_in, frames_of, roots_of, within, is_proper_ancestor, reached_root, reached_is_walks, SoundLedger, in_held, held_keeps, CallFrame, own, Rests, own_live, leaf_alone, Belongings, Memory, In, object_name, objects, sources, AllRead, FramesAreRead, HoldsRead, Place, Stands, StartsAt, LeadsAt, IsReachedAt, AreRoots}
+use Rattle.refinement.proofs.Common.{◌≡◌, ℕ, zero, suc, ◌==◌, not, Bool, true, false, Option, Some, None, List, [], ◌∷◌, slice_get, ◌⊎◌, ◌↔◌, inl, inr, refl, ap, sym, subst, ◌∙◌, ne_eqb, and_from, and_parts, eqb-false, not-true, same_Some, in_from_contains, contains_from_in, in_append_left, in_append_right, in_append_cases, in_kept, in_from_kept, in_flat, got_in, in_got, IsWalk, Addr, Located, Name, Frame as ModelFrame, Running, Task, object_at, names_of_references, registers, refs_at, refs_of, is_waiting, is_joined, is_on_path, in_from_named, named_from_in, runs_idle, runs_live, Ledger, StartsWithin, LeadsWithin, heap_of, held, held_in, frames_of, roots_of, within, is_proper_ancestor, reached_root, reached_is_walks, SoundLedger, in_held, held_keeps, CallFrame, own, Rests, own_live, leaf_alone, Belongings, Memory, In, object_name, objects, sources, AllRead, FramesAreRead, HoldsRead, LiesWithOwner, MemoryStands, StartsAt, LeadsAt, IsReachedAt, AreRoots}
 use Rattle.run_ledger.proofs.Reached.{reached_more}
 use Rattle.refinement.proofs.objects.Members.{object_held, held_object, from_flat, lies_in}
 use Rattle.refinement.proofs.changes.Alone.{belongings_own}
@@ -48,7 +48,7 @@ frame_address at (g ∷ fs) (x ∷ xs) n h i = elim (in_append_cases (names_of_r
   | inr j ↦ let q = frame_address at fs xs n h.1 j in (q.0, q.1, inr q.2, q.3, q.4)
 ]
 
-module _ (v : Memory) (l : Ledger) (t : ℕ) (x : Task) (roots : List Addr) (S : SoundLedger l) (V : Stands v l) (is : slice_get l.machine.tasks t ≡ Some x) (runs : x.status ≡ Running) (rests : Rests l t)
+module _ (v : Memory) (l : Ledger) (t : ℕ) (x : Task) (roots : List Addr) (S : SoundLedger l) (V : MemoryStands v l) (is : slice_get l.machine.tasks t ≡ Some x) (runs : x.status ≡ Running) (rests : Rests l t)
     (at_rest : (u : ℕ) → is_waiting (slice_get l.machine.tasks u) ≡ true → Rests l u) (R : AreRoots v l t roots) where
   abbrev h : Belongings
   h = v.belongings t
@@ -62,14 +62,14 @@ module _ (v : Memory) (l : Ledger) (t : ℕ) (x : Task) (roots : List Addr) (S :
   live : is_joined (slice_get l.machine.tasks t) ≡ false
   live = runs_live x is runs
 
-  frames : FramesAreRead (Place v l) h.frames (x.top ∷ x.below)
-  frames = subst (HoldsRead (Place v l) h x) runs (V.tasks t x rests is)
+  frames : FramesAreRead (LiesWithOwner v l) h.frames (x.top ∷ x.below)
+  frames = subst (HoldsRead (LiesWithOwner v l) h x) runs (V.tasks t x rests is)
 
   registers_are : frames_of (slice_get l.machine.tasks t) ≡ x.top ∷ x.below
   registers_are = ap frames_of is
 
   -- the object at an address that stands for a name has that name
-  bears : (u : ℕ) (o : Located) (n : Name) (a : Addr) → Rests l u → In (objects v u) o → o.at ≡ a → Place v l n a → (object_name o ≡ n) × (own l n ≡ u)
+  bears : (u : ℕ) (o : Located) (n : Name) (a : Addr) → Rests l u → In (objects v u) o → o.at ≡ a → LiesWithOwner v l n a → (object_name o ≡ n) × (own l n ≡ u)
   bears u o n a r i e p =
       let mine : own l n ≡ u = same_Some (own l n) u (sym p.chunk ∙ (ap (λ (b : Addr). v.owner b.chunk) (sym e) ∙ lies_in v l V u o r i)) in
       let q = p.here (subst (Rests l) (sym mine) r) in
@@ -77,7 +77,7 @@ module _ (v : Memory) (l : Ledger) (t : ℕ) (x : Task) (roots : List Addr) (S :
       (ap object_name same ∙ q.2.name, mine)
 
   -- and an address that stands for its name is its address
-  lies_at : (o : Located) (n : Name) (a : Addr) → In (objects v t) o → object_name o ≡ n → Place v l n a → a ≡ o.at
+  lies_at : (o : Located) (n : Name) (a : Addr) → In (objects v t) o → object_name o ≡ n → LiesWithOwner v l n a → a ≡ o.at
   lies_at o n a i e p =
       let mine : own l n ≡ t = sym (ap (own l) e) ∙ belongings_own v l S t (V.belongings t rests) o i in
       let q = p.here (subst (Rests l) (sym mine) rests) in
@@ -93,7 +93,7 @@ module _ (v : Memory) (l : Ledger) (t : ℕ) (x : Task) (roots : List Addr) (S :
   root_name o a i e j =
       let k = (R a).0 j in
       let c = V.contents k.task k.object k.rests k.there in
-      let f = name_at (Place v l) k.object.refs c.0.refs k.source.field a c.2.refs k.holds in
+      let f = name_at (LiesWithOwner v l) k.object.refs c.0.refs k.source.field a c.2.refs k.holds in
       let m = bears t o f.0 a rests i e f.2 in
       let s = V.sources t k.source k.noted in
       let b = bears k.task k.object s.name k.source.object k.rests k.there k.at s.place in
@@ -108,7 +108,7 @@ module _ (v : Memory) (l : Ledger) (t : ℕ) (x : Task) (roots : List Addr) (S :
 
   register_name : (o : Located) (a : Addr) (f : CallFrame) → In (objects v t) o → o.at ≡ a → In h.frames f → In f.refs (Some a) → In (roots_of l t) (object_name o)
   register_name o a f i e j k =
-      let q = frame_name (Place v l) h.frames (x.top ∷ x.below) f a frames j k in
+      let q = frame_name (LiesWithOwner v l) h.frames (x.top ∷ x.below) f a frames j k in
       let m = bears t o q.0 a rests i e q.2 in
       subst (In (roots_of l t)) (sym m.0) (in_append_left (registers (frames_of (slice_get l.machine.tasks t))) _ q.0 (subst (λ fs. In (registers fs) q.0) (sym registers_are) q.1))
 
@@ -122,7 +122,7 @@ module _ (v : Memory) (l : Ledger) (t : ℕ) (x : Task) (roots : List Addr) (S :
       let d = w.2 in
       let c = V.contents t d.0 rests d.2.0 in
       let j = in_got d.0.refs (Some a) d.3 in
-      let f = name_at (Place v l) d.0.refs c.0.refs j.0 a c.2.refs j.1 in
+      let f = name_at (LiesWithOwner v l) d.0.refs c.0.refs j.0 a c.2.refs j.1 in
       let m = bears t o f.0 a rests i e f.2 in
       reached_more l.machine.store names (roots_of l t) (object_name d.0) (object_name o) (to_names k d.0 w.0 d.2.0 d.2.1 w.1)
       (subst (In (refs_at l.machine.store (object_name d.0))) (sym m.0) (refers l.machine.store (object_name d.0) f.0 c.0 c.1 (got_in c.0.refs j.0 (Some f.0) f.1))) (is_name_held o i)
@@ -148,7 +148,7 @@ module _ (v : Memory) (l : Ledger) (t : ℕ) (x : Task) (roots : List Addr) (S :
   start_address : (o : Located) → In (objects v t) o → In (roots_of l t) (object_name o) → Start o.at
   start_address o i j = elim (in_append_cases (registers (frames_of (slice_get l.machine.tasks t))) _ (object_name o) j) [
     | inl r ↦
-        let q = frame_address (Place v l) h.frames (x.top ∷ x.below) (object_name o) frames (subst (λ fs. In (registers fs) (object_name o)) registers_are r) in
+        let q = frame_address (LiesWithOwner v l) h.frames (x.top ∷ x.below) (object_name o) frames (subst (λ fs. In (registers fs) (object_name o)) registers_are r) in
         inl (q.0, q.2, subst (λ (a : Addr). In q.0.refs (Some a)) (lies_at o (object_name o) q.1 i refl q.4) q.3)
     | inr r ↦
         let q = from_flat (refs_at l.machine.store) _ (object_name o) r in
@@ -165,7 +165,7 @@ module _ (v : Memory) (l : Ledger) (t : ℕ) (x : Task) (roots : List Addr) (S :
           let q = held_object (v.belongings k.0).chunks (heap_of l k.0) (V.belongings k.0 ru).names m k.1 in
           let c = V.contents k.0 q.0 ru q.1 in
           let j = in_got c.0.refs (Some (object_name o)) (in_from_named c.0.refs (object_name o) (subst (λ z. In (refs_of z) (object_name o)) (ap (object_at l.machine.store) (sym q.2) ∙ c.1) r)) in
-          let b = address_at (Place v l) q.0.refs c.0.refs j.0 (object_name o) c.2.refs j.1 in
+          let b = address_at (LiesWithOwner v l) q.0.refs c.0.refs j.0 (object_name o) c.2.refs j.1 in
           let at : b.0 ≡ o.at = lies_at o (object_name o) b.0 i refl b.2 in
           let own_o : own l (object_name o) ≡ t = belongings_own v l S t (V.belongings t rests) o i in
           elim (V.remembered k.0 q.0 c.0 j.0 (object_name o) ru q.1 c.1 j.1) [
@@ -192,7 +192,7 @@ module _ (v : Memory) (l : Ledger) (t : ℕ) (x : Task) (roots : List Addr) (S :
       let c = V.contents t q.0 rests q.1 in
       let r : In (refs_at l.machine.store (object_name q.0)) (object_name o) = subst (λ z. In (refs_at l.machine.store z) (object_name o)) (sym q.2) (subst (In (refs_at l.machine.store w.0)) (sym e) (in_from_contains (refs_at l.machine.store w.0) n w.2.1)) in
       let j = in_got c.0.refs (Some (object_name o)) (in_from_named c.0.refs (object_name o) (subst (λ z. In (refs_of z) (object_name o)) c.1 r)) in
-      let b = address_at (Place v l) q.0.refs c.0.refs j.0 (object_name o) c.2.refs j.1 in
+      let b = address_at (LiesWithOwner v l) q.0.refs c.0.refs j.0 (object_name o) c.2.refs j.1 in
       let there : In q.0.refs (Some o.at) = subst (λ (a : Addr). In q.0.refs (Some a)) (lies_at o (object_name o) b.0 i refl b.2) (got_in q.0.refs j.0 (Some b.0) b.1) in
       (suc more.0, (q.0.at, more.1, (q.0, o, (q.1, refl), there, (i, refl))))
     where

@@ -1,13 +1,13 @@
 -- From the fork on, the snapshot can be found by addresses.
-use Rattle.refinement.proofs.Common.{◌≡◌, ℕ, Bool, true, false, cond, Option, Some, List, [], slice_get, slice_set, ◌⊎◌, ◌↔◌, inl, inr, refl, ap, sym, subst, ◌∙◌, cases_eq, cond-true, cond-false, got_in, got_other, in_append_left, in_got, Addr, Located, Name, Object, Running, Task, is_waiting, runs_idle, Heap, Ledger, heap_of, within, SoundLedger, Rests, WritesOne, ForksTask, same_address, same_is, Belongings, Memory, In, object_name, objects, objects_of_chunks, put_at, Stands, IsReachedAt, IsRoot, AreRoots, Since, kept, ForksBelongings, WritesAt, with_field}
-use Rattle.refinement.specs.Since.{Keeps}
+use Rattle.refinement.proofs.Common.{◌≡◌, ℕ, Bool, true, false, cond, Option, Some, List, [], slice_get, slice_set, ◌⊎◌, ◌↔◌, inl, inr, refl, ap, sym, subst, ◌∙◌, cases_eq, cond-true, cond-false, got_in, got_other, in_append_left, in_got, Addr, Located, Name, Object, Running, Task, is_waiting, runs_idle, Heap, Ledger, heap_of, within, SoundLedger, Rests, WritesOne, ForksTask, same_address, same_is, Belongings, Memory, In, object_name, objects, objects_of_chunks, put_at, MemoryStands, IsReachedAt, IsRememberedRoot, AreRoots, Since, kept, ForksBelongings, WritesAt, with_field}
+use Rattle.refinement.specs.Since.{KeepsOldValue}
 use Rattle.refinement.proofs.objects.Mapped.{from_mapped, to_mapped}
 use Rattle.refinement.proofs.notes.Rooted.{in_advanced, noted_by, root_apart, root_by, root_same}
 use Rattle.refinement.proofs.notes.Roots.{reached_both}
 use Rattle.refinement.proofs.objects.Members.{lies_in}
 
 -- AT THE FORK
-pub since_fork : (v v' : Memory) (l l' : Ledger) (t a b g h : ℕ) (x : Task) (roots : List Addr) → SoundLedger l → Stands v l → x.status ≡ Running → Rests l t → ((u : ℕ) → is_waiting (slice_get l.machine.tasks u) ≡ true → Rests l u)
+pub since_fork : (v v' : Memory) (l l' : Ledger) (t a b g h : ℕ) (x : Task) (roots : List Addr) → SoundLedger l → MemoryStands v l → x.status ≡ Running → Rests l t → ((u : ℕ) → is_waiting (slice_get l.machine.tasks u) ≡ true → Rests l u)
     → (F : ForksTask l l' t a b g h x) → ForksBelongings v v' t a b g h → AreRoots v l t roots → ((n : Name) → In (within l t) n ↔ In F.names n) → kept v' t ≡ [] → Since v' l' t
 since_fork v v' l l' t a b g h x roots S V runs rests at_rest F C R same none =
     let back : (q : Located) → In (objects v' t) q → In (objects v t) q = λ q i. subst (λ (y : Belongings). In (objects_of_chunks y.chunks) q) C.belongings i in
@@ -35,7 +35,7 @@ since_fork v v' l l' t a b g h x roots S V runs rests at_rest F C R same none =
     }
 
 -- A WRITE, of any object, of t's heap or another
-module _ (v v' : Memory) (l : Ledger) (t i : ℕ) (a : Addr) (value : Option Addr) (V : Stands v l) (rests : Rests l t) (K : Keeps v v' t a i) where
+module _ (v v' : Memory) (l : Ledger) (t i : ℕ) (a : Addr) (value : Option Addr) (V : MemoryStands v l) (rests : Rests l t) (K : KeepsOldValue v v' t a i) where
   -- a reference stays in the object, or was in the field that is written
   pub write_stays : (q : Located) (b : Addr) → In (objects v t) q → In q.refs (Some b) → v.owner b.chunk ≡ Some t → In (put_at a (with_field i value) q).refs (Some b) ⊎ In (kept v' t) b
   write_stays q b j k o = write_stays_by_cases (same_address q.at a) refl
@@ -52,7 +52,7 @@ module _ (v v' : Memory) (l : Ledger) (t i : ℕ) (a : Addr) (value : Option Add
           let r = in_got q.refs (Some b) k in
           subst (λ (s : Located). In s.refs (Some b) ⊎ In (kept v' t) b) (sym (cond-true (same_address q.at a) (with_field i value q) q e)) (write_stays_at r.0 r.1 e)
 
-module _ (v v' : Memory) (l l' : Ledger) (t w i : ℕ) (n : Name) (y y' : Object) (a : Addr) (value : Option Addr) (V : Stands v l) (rests : Rests l t) (frames : (v'.belongings t).frames ≡ (v.belongings t).frames) (H : Since v l t) (L : WritesOne l l' w n y y') (C : WritesAt v v' w a (with_field i value)) (K : Keeps v v' t a i)
+module _ (v v' : Memory) (l l' : Ledger) (t w i : ℕ) (n : Name) (y y' : Object) (a : Addr) (value : Option Addr) (V : MemoryStands v l) (rests : Rests l t) (frames : (v'.belongings t).frames ≡ (v.belongings t).frames) (H : Since v l t) (L : WritesOne l l' w n y y') (C : WritesAt v v' w a (with_field i value)) (K : KeepsOldValue v v' t a i)
     (of_snapshot : (u : ℕ) (q : Located) (b : Addr) → v.owner a.chunk ≡ Some u → In (objects v u) q → q.at ≡ a → slice_get q.refs i ≡ Some (Some b) → v.owner b.chunk ≡ Some t → (o : Located) × In (objects v t) o × (o.at ≡ b) × In (heap_of l t).snapshot (object_name o)) where
   abbrev one : Located → Located
   one q = put_at a (with_field i value) q
@@ -90,14 +90,14 @@ module _ (v v' : Memory) (l l' : Ledger) (t w i : ℕ) (n : Name) (y y' : Object
   kept_on b k = subst (λ ks. In ks b) (sym K.grows) (in_append_left (kept v t) K.more b k)
 
   -- a root stays one, or was in the field that is written
-  root_then : (b : Addr) → IsRoot v l t b → IsRoot v' l' t b ⊎ In (kept v' t) b
+  root_then : (b : Addr) → IsRememberedRoot v l t b → IsRememberedRoot v' l' t b ⊎ In (kept v' t) b
   root_then b r = root_then_by_cases (same_address r.object.at a) refl
     where
-      goes_on : slice_get (one r.object).refs r.source.field ≡ Some (Some b) → IsRoot v' l' t b ⊎ In (kept v' t) b
+      goes_on : slice_get (one r.object).refs r.source.field ≡ Some (Some b) → IsRememberedRoot v' l' t b ⊎ In (kept v' t) b
       goes_on e =
           inl (root_by v v' l l' t (C.noted t) (λ k o. C.owner k ∙ o) b r (ap (λ (y : Heap). y.worker) (L.heaps r.task) ∙ r.rests) (one r.object) (then_ r.task r.object r.there) (one_at r.object) e)
 
-      root_then_by_cases : (z : Bool) → same_address r.object.at a ≡ z → IsRoot v' l' t b ⊎ In (kept v' t) b
+      root_then_by_cases : (z : Bool) → same_address r.object.at a ≡ z → IsRememberedRoot v' l' t b ⊎ In (kept v' t) b
       root_then_by_cases false e = goes_on (ap (λ (s : Located). slice_get s.refs r.source.field) (cond-false (same_address r.object.at a) (with_field i value r.object) r.object e) ∙ r.holds)
       root_then_by_cases true e = elim (cases_eq r.source.field i) [
         | inl f ↦

@@ -1,6 +1,6 @@
 -- Belongings whose objects are changed, except for their names and addresses.
-use Rattle.refinement.proofs.Common.{◌≡◌, ℕ, Bool, true, false, not, cond, Some, List, [], ◌∷◌, ◌++◌, map, length, slice_get, refl, ap, ap₂, sym, subst, ◌∙◌, length-map, map-append, in_map, map_in, Addr, Located, Name, row_of, is_joined, Heap, Ledger, heap_of, Chunk, Belongings, Memory, In, object_name, objects_of_chunks, Lies, mapped_chunk, mapped_belongings, words, AreLaidOut, small_chunks, large_chunks, HasNames, BelongingsStand}
-use Rattle.refinement.specs.Stands.{names_of}
+use Rattle.refinement.proofs.Common.{◌≡◌, ℕ, Bool, true, false, not, cond, Some, List, [], ◌∷◌, ◌++◌, map, length, slice_get, refl, ap, ap₂, sym, subst, ◌∙◌, length-map, map-append, in_map, map_in, Addr, Located, Name, row_of, is_joined, Heap, Ledger, heap_of, Chunk, Belongings, Memory, In, object_name, objects_of_chunks, Lies, mapped_chunk, mapped_belongings, words, AreLaidOut, small_chunks, large_chunks, ChunksHaveNames, BelongingsStand}
+use Rattle.refinement.specs.MemoryStands.{chunk_names}
 use Rattle.refinement.proofs.objects.LaidOut.{laid_mapped}
 
 module _ (one : Located → Located) (same_name : (o : Located) → object_name (one o) ≡ object_name o) (same_at : (o : Located) → (one o).at ≡ o.at) where
@@ -15,11 +15,11 @@ module _ (one : Located → Located) (same_name : (o : Located) → object_name 
   names_same [] = refl
   names_same (o ∷ os) = ap₂ (λ n ns. n ∷ ns) (same_name o) (names_same os)
 
-  small_same : (ks : List Chunk) → map names_of (small_chunks (map chunk ks)) ≡ map names_of (small_chunks ks)
+  small_same : (ks : List Chunk) → map chunk_names (small_chunks (map chunk ks)) ≡ map chunk_names (small_chunks ks)
   small_same [] = refl
   small_same (k ∷ ks) = small_same_by_cases (small_same ks) k.large
     where
-      small_same_by_cases : map names_of (small_chunks (map chunk ks)) ≡ map names_of (small_chunks ks) → (b : Bool) → map names_of (cond (not b) (chunk k ∷ small_chunks (map chunk ks)) (small_chunks (map chunk ks))) ≡ map names_of (cond (not b) (k ∷ small_chunks ks) (small_chunks ks))
+      small_same_by_cases : map chunk_names (small_chunks (map chunk ks)) ≡ map chunk_names (small_chunks ks) → (b : Bool) → map chunk_names (cond (not b) (chunk k ∷ small_chunks (map chunk ks)) (small_chunks (map chunk ks))) ≡ map chunk_names (cond (not b) (k ∷ small_chunks ks) (small_chunks ks))
       small_same_by_cases more true = more
       small_same_by_cases more false = ap₂ (λ a b. a ∷ b) (names_same k.objects) more
 
@@ -31,7 +31,7 @@ module _ (one : Located → Located) (same_name : (o : Located) → object_name 
       large_same_by_cases more true = ap (λ zs. chunk k ∷ zs) more
       large_same_by_cases more false = more
 
-  pub names_mapped : (ks : List Chunk) (h : Heap) → HasNames ks h → HasNames (map chunk ks) h
+  pub names_mapped : (ks : List Chunk) (h : Heap) → ChunksHaveNames ks h → ChunksHaveNames (map chunk ks) h
   names_mapped ks h N = record {
     small = small_same ks ∙ N.small;
     large = ap (λ zs. map object_name (objects_of_chunks zs)) (large_same ks) ∙ (ap (λ zs. map object_name zs) (objects_mapped (large_chunks ks)) ∙ (names_same (objects_of_chunks (large_chunks ks)) ∙ N.large));
@@ -53,7 +53,7 @@ module _ (one : Located → Located) (same_name : (o : Located) → object_name 
       → ((k : ℕ) → v.owner k ≡ Some t → v'.owner k ≡ Some t) → heap_of l' t ≡ heap_of l t → length (row_of (slice_get l'.machine.store t)) ≡ length (row_of (slice_get l.machine.store t))
       → is_joined (slice_get l'.machine.tasks t) ≡ is_joined (slice_get l.machine.tasks t) → ((o : Located) → words (one o) ≡ words o) → BelongingsStand v l t → BelongingsStand v' l' t
   belongings_mapped_by v v' l l' t ec eo es en ow el er ej same_words H = record {
-    names = subst (λ ks. HasNames ks (heap_of l' t)) (sym ec) (subst (HasNames (map chunk (v.belongings t).chunks)) (sym el) (names_mapped (v.belongings t).chunks (heap_of l t) H.names));
+    names = subst (λ ks. ChunksHaveNames ks (heap_of l' t)) (sym ec) (subst (ChunksHaveNames (map chunk (v.belongings t).chunks)) (sym el) (names_mapped (v.belongings t).chunks (heap_of l t) H.names));
     room = eo ∙ (H.room ∙ sym (ap (λ (h : Heap). h.room) el));
     since = es ∙ (H.since ∙ sym (ap (λ (h : Heap). h.since) el));
     count = λ live. en ∙ (H.count (sym ej ∙ live) ∙ sym er);

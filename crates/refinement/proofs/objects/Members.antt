@@ -1,6 +1,6 @@
 -- The objects of chunks and their names.
-use Rattle.refinement.proofs.Common.{◌≡◌, ◌⊎◌, ℕ, Bool, true, false, not, Some, List, [], ◌∷◌, inl, inr, refl, ap, sym, subst, ◌∙◌, flat_map, in_append_left, in_append_right, in_append_cases, in_kept, in_from_kept, in_flat, in_map, map_in, Name, Heap, Ledger, held_in, Located, Rests, Chunk, In, Memory, object_name, objects, objects_of_chunks, small_chunks, large_chunks, HasNames, Stands}
-use Rattle.refinement.specs.Stands.{names_of}
+use Rattle.refinement.proofs.Common.{◌≡◌, ◌⊎◌, ℕ, Bool, true, false, not, Some, List, [], ◌∷◌, inl, inr, refl, ap, sym, subst, ◌∙◌, flat_map, in_append_left, in_append_right, in_append_cases, in_kept, in_from_kept, in_flat, in_map, map_in, Name, Heap, Ledger, held_in, Located, Rests, Chunk, In, Memory, object_name, objects, objects_of_chunks, small_chunks, large_chunks, ChunksHaveNames, MemoryStands}
+use Rattle.refinement.specs.MemoryStands.{chunk_names}
 
 pub from_flat : {A B : Type 0} (f : A → List B) (xs : List A) (y : B) → In (flat_map f xs) y → (x : A) × In xs x × In (f x) y
 from_flat f [] y i = absurd i
@@ -17,7 +17,7 @@ pub in_objects : (ks : List Chunk) (k : Chunk) (o : Located) → In ks k → In 
 in_objects ks k o i j = in_flat (λ k. k.objects) ks k o i j
 
 -- an object is in a chunk of its task
-pub lies_in : (v : Memory) (l : Ledger) → Stands v l → (z : ℕ) (q : Located) → Rests l z → In (objects v z) q → v.owner q.at.chunk ≡ Some z
+pub lies_in : (v : Memory) (l : Ledger) → MemoryStands v l → (z : ℕ) (q : Located) → Rests l z → In (objects v z) q → v.owner q.at.chunk ≡ Some z
 lies_in v l V z q r i =
     let k = in_chunk (v.belongings z).chunks q i in
     ap v.owner ((V.belongings z r).inside k.0 q k.1 k.2) ∙ (V.belongings z r).owned k.0 k.1
@@ -27,12 +27,12 @@ pub none_in : (v : Memory) (a b : ℕ) → (v.belongings a).chunks ≡ [] → (v
 none_in v a b ea eb z o (inl e) i = subst (λ (ks : List Chunk). In (objects_of_chunks ks) o) (ap (λ u. (v.belongings u).chunks) e ∙ ea) i
 none_in v a b ea eb z o (inr e) i = subst (λ (ks : List Chunk). In (objects_of_chunks ks) o) (ap (λ u. (v.belongings u).chunks) e ∙ eb) i
 
-module _ (ks : List Chunk) (h : Heap) (N : HasNames ks h) where
+module _ (ks : List Chunk) (h : Heap) (N : ChunksHaveNames ks h) where
   small_held : (k : Chunk) (o : Located) → In ks k → In k.objects o → k.large ≡ false → In (held_in h) (object_name o)
   small_held k o i j e =
       let s : In (small_chunks ks) k = in_kept (λ k. not k.large) ks k i (ap not e) in
-      let m : In h.chunks (names_of k) = subst (λ ns. In ns (names_of k)) N.small (in_map names_of (small_chunks ks) k s) in
-      in_append_left (flat_map (λ ns. ns) h.chunks) h.large (object_name o) (in_flat (λ ns. ns) h.chunks (names_of k) (object_name o) m (in_map object_name k.objects o j))
+      let m : In h.chunks (chunk_names k) = subst (λ ns. In ns (chunk_names k)) N.small (in_map chunk_names (small_chunks ks) k s) in
+      in_append_left (flat_map (λ ns. ns) h.chunks) h.large (object_name o) (in_flat (λ ns. ns) h.chunks (chunk_names k) (object_name o) m (in_map object_name k.objects o j))
 
   large_held : (k : Chunk) (o : Located) → In ks k → In k.objects o → k.large ≡ true → In (held_in h) (object_name o)
   large_held k o i j e =
@@ -53,7 +53,7 @@ module _ (ks : List Chunk) (h : Heap) (N : HasNames ks h) where
   held_object n i = elim (in_append_cases (flat_map (λ ns. ns) h.chunks) h.large n i) [
     | inl s ↦
         let f = from_flat (λ ns. ns) h.chunks n s in
-        let m = map_in names_of (small_chunks ks) f.0 (subst (λ ns. In ns f.0) (sym N.small) f.1) in
+        let m = map_in chunk_names (small_chunks ks) f.0 (subst (λ ns. In ns f.0) (sym N.small) f.1) in
         let o = map_in object_name m.0.objects n (subst (λ ns. In ns n) (sym m.2) f.2) in
         (o.0, in_objects ks m.0 o.0 (in_from_kept (λ k. not k.large) ks m.0 m.1).0 o.1, o.2)
     | inr l ↦

@@ -1,8 +1,8 @@
 -- Re-exports from `object_layout` for the crates above.
-pub use Rattle.object_layout.specs.Cell.{Born, Cell, Hole, IsBorn, IsObject, IsPlace, IsRef, Mark, Moved, chunk_words, marked_object, moved_to, no_cell, size_of, with_int, with_ref}
+pub use Rattle.object_layout.specs.Cell.{Born, Cell, Hole, IsBorn, IsObject, BeginsInFirstUnit, IsRef, Mark, Moved, chunk_words, marked_object, moved_to, no_cell, size_of, cell_with_int, with_ref}
 pub use Rattle.object_layout.specs.ChunkValue.{ChunkValue, number_of}
-pub use Rattle.object_layout.specs.Chunks.{HaveDistinctNumbers, cell_of, chunk_at, has_chunk, held_size, held_words, no_chunk, object_count, object_of, object_words_in, one_each, place_in, place_of, push_object, put_object, same_address, small_part, small_words, sum_in, with_cell}
-pub use Rattle.object_layout.specs.Graph.{HasObjectAt, IsClosed, IsSoundReference, RefersTo}
+pub use Rattle.object_layout.specs.Chunks.{HaveDistinctNumbers, cell_of, chunk_at, has_chunk, held_size, held_words, no_chunk, object_count, object_of, object_words_in, one_each, place_in, chunk_position, push_object, put_object, same_address, small_part, small_words, sum_in, with_cell}
+pub use Rattle.object_layout.specs.Graph.{HasObjectAt, HeapIsClosed, IsSoundReference, RefersTo}
 pub use Rattle.object_layout.specs.Layout.{word_of_ref}
 pub use Rattle.object_layout.specs.ObjectLaws.{LiesThere}
 pub use Rattle.object_layout.specs.Objects.{Located, changed_at, led_object, located, located_by, objects_from, objects_in, objects_of, with_fields}

@@ -7,7 +7,7 @@ pub use Rattle.run_ledger.specs.Laws.{AreByBirth, HoldsOnce, LeavesTask, TasksAr
 pub use Rattle.run_ledger.specs.Pace.{fork_of, gives, idle, is_paced, is_to_mark, is_under_way, is_unmarked, marked_at_once, more_of, pace_noted, or_idle, owed, owed_after, owed_to_marks, pace_after, pace_after_all, pace_at_end, pace_of, pace_opening, previous_by, waits_on, waits_since}
 pub use Rattle.run_ledger.specs.Reachable.{holds_name, is_name}
 pub use Rattle.run_ledger.specs.Report.{held_not_running, held_not_running_from, lost, report_of}
-pub use Rattle.run_ledger.specs.Sound.{InHeaps, Keeps, Sound, SoundAt, SoundLedger, collecting, names_of, snapshot_at}
+pub use Rattle.run_ledger.specs.Sound.{InHeaps, SomeHeapHas, Sound, SoundAt, SoundLedger, collecting, heap_names, snapshot_at}
 pub use Rattle.run_ledger.specs.Space.{AsksAtMost, CountsFew}
 pub use Rattle.run_ledger.specs.Steps.{allocated_by, allocated_in, at_fork, has_no_caller, is_due, is_in_need, is_open, is_private, is_private_by, is_private_line, join_heaps, most_steps, moved_on, moved_to, on_asked, owns, settled, standing, stepped_to, task_step, task_steps, touched}
 pub use Rattle.run_ledger.specs.Use.{ChunkGoes, UseGoes}

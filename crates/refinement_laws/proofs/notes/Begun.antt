@@ -1,7 +1,7 @@
 -- The invariant of a begun collection: when it begins, and after others' entries.
-use Rattle.refinement_laws.proofs.Common.{◌≡◌, ℕ, true, Some, slice_get, ap, sym, subst, ◌∙◌, Running, Task, is_waiting, Heap, Ledger, heap_of, SoundLedger, Belongings, Memory, In, object_name, objects_of_chunks, Rests, Begun, Stands, IsReachedAt, AreRoots, BegunStands, LeafCollectionBegins, reached_both}
+use Rattle.refinement_laws.proofs.Common.{◌≡◌, ℕ, true, Some, slice_get, ap, sym, subst, ◌∙◌, Running, Task, is_waiting, Heap, Ledger, heap_of, SoundLedger, Belongings, Memory, In, object_name, objects_of_chunks, Rests, Begun, MemoryStands, IsReachedAt, AreRoots, BegunStands, LeafCollectionBegins, reached_both}
 
-pub begins : (v v' : Memory) (l l' : Ledger) (t : ℕ) (x : Task) (b : Begun) → SoundLedger l → Stands v l → slice_get l.machine.tasks t ≡ Some x → x.status ≡ Running → Rests l t → ((u : ℕ) → is_waiting (slice_get l.machine.tasks u) ≡ true → Rests l u)
+pub begins : (v v' : Memory) (l l' : Ledger) (t : ℕ) (x : Task) (b : Begun) → SoundLedger l → MemoryStands v l → slice_get l.machine.tasks t ≡ Some x → x.status ≡ Running → Rests l t → ((u : ℕ) → is_waiting (slice_get l.machine.tasks u) ≡ true → Rests l u)
     → AreRoots v l t b.roots → LeafCollectionBegins v v' l l' t b → BegunStands v' l' t b
 begins v v' l l' t x b S V is runs rests at_rest R B = record {
   few = ap (λ (h : Heap). h.begun) B.heap;

@@ -1,5 +1,5 @@
 -- Nothing is left to mark if and only if the whole snapshot is marked: both have each object once.
-use Rattle.refinement_laws.proofs.Common.{◌≡◌, ◌⊎◌, ◌-◌, ◌≤◌, ℕ, suc, Bool, true, false, cond, arith, Option, List, [], ◌∷◌, length, unwrap_or, inl, inr, refl, ap, sym, subst, ◌∙◌, AllByRecursion, both_ways, Addr, same_address, Located, none_from, Name, Ledger, held_in, heap_of, marked_in, is_name, same_from_is_name, is_name_itself, Rests, Memory, In, object_name, objects, Stands, held_object, MarksAreAll}
+use Rattle.refinement_laws.proofs.Common.{◌≡◌, ◌⊎◌, ◌-◌, ◌≤◌, ℕ, suc, Bool, true, false, cond, arith, Option, List, [], ◌∷◌, length, unwrap_or, inl, inr, refl, ap, sym, subst, ◌∙◌, AllByRecursion, both_ways, Addr, same_address, Located, none_from, Name, Ledger, held_in, heap_of, marked_in, is_name, same_from_is_name, is_name_itself, Rests, Memory, In, object_name, objects, MemoryStands, held_object, MarksAreAll}
 use Rattle.std.specs.List.{IsDistinct}
 
 -- LISTS OF DISTINCT NAMES
@@ -72,7 +72,7 @@ all_of xs ys o f le n i = elim (is_in n xs) [
 
 -- THE NAMES OF WHAT IS MARKED
 
-module _ (v : Memory) (l : Ledger) (t : ℕ) (V : Stands v l) (rests : Rests l t) where
+module _ (v : Memory) (l : Ledger) (t : ℕ) (V : MemoryStands v l) (rests : Rests l t) where
   abbrev Each : List Addr → Type 0
   Each bs = (a : Addr) → In bs a → (q : Located) × In (objects v t) q × (q.at ≡ a) × In (heap_of l t).snapshot (object_name q)
 
@@ -114,7 +114,7 @@ module _ (v : Memory) (l : Ledger) (t : ℕ) (V : Stands v l) (rests : Rests l t
   )
 
 -- at most as many objects are marked as the snapshot has
-pub few_marked : (v : Memory) (l : Ledger) (t : ℕ) (marked : List Addr) → Stands v l → Rests l t → ((a : Addr) → In marked a → (q : Located) × In (objects v t) q × (q.at ≡ a) × In (heap_of l t).snapshot (object_name q)) → IsDistinct same_address marked
+pub few_marked : (v : Memory) (l : Ledger) (t : ℕ) (marked : List Addr) → MemoryStands v l → Rests l t → ((a : Addr) → In marked a → (q : Located) × In (objects v t) q × (q.at ≡ a) × In (heap_of l t).snapshot (object_name q)) → IsDistinct same_address marked
     → length marked ≤ length (heap_of l t).snapshot
 few_marked v l t marked V rests each once =
     let ns = names v l t V rests marked each in
@@ -123,7 +123,7 @@ few_marked v l t marked V rests each once =
     omega (arith, le, as_many)
 
 -- and as many, if each object of it is marked
-pub all_marked : (v : Memory) (l : Ledger) (t : ℕ) (marked : List Addr) → Stands v l → Rests l t → ((a : Addr) → In marked a → (q : Located) × In (objects v t) q × (q.at ≡ a) × In (heap_of l t).snapshot (object_name q))
+pub all_marked : (v : Memory) (l : Ledger) (t : ℕ) (marked : List Addr) → MemoryStands v l → Rests l t → ((a : Addr) → In marked a → (q : Located) × In (objects v t) q × (q.at ≡ a) × In (heap_of l t).snapshot (object_name q))
     → IsDistinct is_name (heap_of l t).snapshot → ((n : Name) → In (heap_of l t).snapshot n → In (held_in (heap_of l t)) n) → ((q : Located) → In (objects v t) q → In (heap_of l t).snapshot (object_name q) → In marked q.at) → length (heap_of l t).snapshot ≤ length marked
 all_marked v l t marked V rests each distinct held every =
     let ns = names v l t V rests marked each in

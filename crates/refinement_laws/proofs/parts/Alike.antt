@@ -1,5 +1,5 @@
 -- An entry of steps keeps the accounts in agreement for each other task that a worker holds.
-use Rattle.refinement_laws.proofs.Common.{◌≡◌, ℕ, ◌+◌, true, false, Some, None, ◌∷◌, length, slice_get, inl, refl, ap, sym, subst, ◌∙◌, Instr, Set, Mov, Movr, Nil as NilOf, Calc, Same, Jmp, Jz, Newm, Pack, Getr, Geti, Putr, Puti, Cntr, Cnti, Freeze, Cas, Call, Par, Ret, Out, ProgramText, SettingsValue, Name, Object, Frame, Task, MachineState, ref_in, object_at, row_of, task_names, is_joined, is_on_path, is_waiting, owner_of, running_tells, at_in, names_run, in_registers, Heap, Ledger, heap_of, let_go, task_steps, touched, heap_machine, StepsAlone, AlikeFor, Leaves, own, rested, Wrote, WritesOther, LastKind, Private, Reading, Writing, Printing, Forking, Ending, Joining, Finishing, Halting, IsOfKind, GoesOn, Splits, RunsPrivateSteps, private_alone, with_off, leaf_alone, alone_along, Belongings, Memory, In, taken_by, Part, FitsAt, ahead, part_for, RunsWithPart, AreOut}
+use Rattle.refinement_laws.proofs.Common.{◌≡◌, ℕ, ◌+◌, true, false, Some, None, ◌∷◌, length, slice_get, inl, refl, ap, sym, subst, ◌∙◌, Instr, Set, Mov, Movr, Nil as NilOf, Calc, Same, Jmp, Jz, Newm, Pack, Getr, Geti, Putr, Puti, Cntr, Cnti, Freeze, Cas, Call, Par, Ret, Out, ProgramText, SettingsValue, Name, Object, Frame, Task, MachineState, ref_in, object_at, row_of, task_names, is_joined, is_on_path, is_waiting, owner_of, running_tells, at_in, names_run, in_registers, Heap, Ledger, heap_of, let_go, task_steps, touched, heap_machine, StepsAlone, AlikeFor, Leaves, own, rested, ChangesByWrite, WritesOther, LastKind, Private, Reading, Writing, Printing, Forking, Ending, Joining, Finishing, Halting, IsOfKind, GoesOn, Splits, RunsPrivateSteps, private_alone, with_off, leaf_alone, alone_along, Belongings, Memory, In, taken_by, Part, FitsAt, ahead, part_for, RunsWithPart, AreOut}
 use Rattle.refinement.proofs.below.ledger_step_laws.BeforeLast as before_last
 use Rattle.refinement_laws.proofs.parts.Along.{alike_alone}
 use Rattle.refinement_laws.proofs.parts.Beside.{alike_forks, alike_joins, alike_writes}
@@ -40,7 +40,7 @@ alike_held u t a b ne A =
     }
 
 -- a register names what is written
-names_it : (x : Task) (n : Name) (y y' : Object) (f : Frame) (instr : Instr) → Wrote x instr y y' f → touched x.top instr ≡ Some n → (o : ℕ) × (ref_in x.top o ≡ Some n)
+names_it : (x : Task) (n : Name) (y y' : Object) (f : Frame) (instr : Instr) → ChangesByWrite x instr y y' f → touched x.top instr ≡ Some n → (o : ℕ) × (ref_in x.top o ≡ Some n)
 names_it x n y y' f (Putr o i v) W e = (o, e)
 names_it x n y y' f (Puti o i v) W e = (o, e)
 names_it x n y y' f (Cas d o i w v) W e = (o, e)
@@ -65,7 +65,7 @@ names_it x n y y' f Ret W e = absurd W
 names_it x n y y' f (Out a) W e = absurd W
 
 -- what is written is mutable
-mutable_is : (x : Task) (y y' : Object) (f : Frame) (instr : Instr) → Wrote x instr y y' f → y.mutable ≡ true
+mutable_is : (x : Task) (y y' : Object) (f : Frame) (instr : Instr) → ChangesByWrite x instr y y' f → y.mutable ≡ true
 mutable_is x y y' f (Putr o i v) W = W.2
 mutable_is x y y' f (Puti o i v) W = W.2
 mutable_is x y y' f (Cas d o i w v) W = W.2

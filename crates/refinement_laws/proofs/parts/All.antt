@@ -1,10 +1,10 @@
 -- All parts that fit a memory fit it together.
-use Rattle.refinement_laws.proofs.Common.{None, ◌≡◌, List, [], ◌∷◌, ap, ap₂, ◌∙◌, ProgramText, SettingsValue, Task, goes_on, is_running, Ledger, or_fresh, Knows, Memory, Stands, Part, FitsAt, with_belongings, ahead, WorkersFit, RunsWithPart, NotOf, AllFitAt, with_all_belongings, all_ahead, AllFitTogether}
+use Rattle.refinement_laws.proofs.Common.{None, ◌≡◌, List, [], ◌∷◌, ap, ap₂, ◌∙◌, ProgramText, SettingsValue, Task, goes_on, is_running, Ledger, or_fresh, LedgerIsKnown, Memory, MemoryStands, Part, FitsAt, with_belongings, ahead, WorkersFit, RunsWithPart, NotOf, AllFitAt, with_all_belongings, all_ahead, AllFitTogether}
 use Rattle.refinement_laws.proofs.parts.Workers.{out, part_now}
 use Rattle.refinement_laws.proofs.parts.Pair as pair
 
 -- a part fits the memory with another's belongings in it, by the accounts with the other's steps
-module _ (p : ProgramText) (s : SettingsValue) (q r : Part) (v : Memory) (l : Ledger) (x y : Task) (K : Knows l) (F : FitsAt p s q v l) (G : FitsAt p s r v l) (O : RunsWithPart l q x) (P : RunsWithPart l r y) (ne : q.task ≡ r.task → ⊥) where
+module _ (p : ProgramText) (s : SettingsValue) (q r : Part) (v : Memory) (l : Ledger) (x y : Task) (K : LedgerIsKnown l) (F : FitsAt p s q v l) (G : FitsAt p s r v l) (O : RunsWithPart l q x) (P : RunsWithPart l r y) (ne : q.task ≡ r.task → ⊥) where
   pub fits_on_top : FitsAt p s r (with_belongings v q.task q.belongings) (ahead p q l)
   fits_on_top = record {
     worker = G.worker;
@@ -23,7 +23,7 @@ module _ (p : ProgramText) (s : SettingsValue) (q r : Part) (v : Memory) (l : Le
   }
 
 module _ (p : ProgramText) (s : SettingsValue) where
-  rest_on_top : (q : Part) (v : Memory) (l : Ledger) (x : Task) → Knows l → FitsAt p s q v l → RunsWithPart l q x → (rs : List Part) → NotOf q.task rs → AllFitAt p s rs v l → AllFitAt p s rs (with_belongings v q.task q.belongings) (ahead p q l)
+  rest_on_top : (q : Part) (v : Memory) (l : Ledger) (x : Task) → LedgerIsKnown l → FitsAt p s q v l → RunsWithPart l q x → (rs : List Part) → NotOf q.task rs → AllFitAt p s rs v l → AllFitAt p s rs (with_belongings v q.task q.belongings) (ahead p q l)
   rest_on_top q v l x K F O [] N A = tt
   rest_on_top q v l x K F O (r ∷ rs) N A = (
     fits_on_top p s q r v l x A.1 K F A.0 O A.2 N.0,
@@ -33,7 +33,7 @@ module _ (p : ProgramText) (s : SettingsValue) where
     rest_on_top q v l x K F O rs N.1 A.4,
   )
 
-  pub all_stand : (qs : List Part) (v : Memory) (l : Ledger) → Knows l → Stands v l → AllFitAt p s qs v l → Stands (with_all_belongings v qs) (all_ahead p qs l)
+  pub all_stand : (qs : List Part) (v : Memory) (l : Ledger) → LedgerIsKnown l → MemoryStands v l → AllFitAt p s qs v l → MemoryStands (with_all_belongings v qs) (all_ahead p qs l)
   all_stand [] v l K V A = V
   all_stand (q ∷ qs) v l K V A =
       all_stand qs (with_belongings v q.task q.belongings) (ahead p q l) (pair.knows_ahead p s q v l A.1 K A.0 A.2) A.0.stands (rest_on_top q v l A.1 K A.0 A.2 qs A.3 A.4)

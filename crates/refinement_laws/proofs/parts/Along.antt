@@ -1,5 +1,5 @@
 -- Several private steps, and the frame law for the private steps of another task.
-use Rattle.refinement_laws.proofs.Common.{◌≡◌, ℕ, true, false, Some, length, slice_get, ap, sym, ◌∙◌, ProgramText, SettingsValue, Task, MachineState, object_at, row_of, can_step, is_joined, is_on_path, is_running, is_waiting, owner_of, running_tells, Heap, Ledger, heap_of, or_fresh, let_go, task_steps, heap_machine, Memory, own, rested, StepsAlone, AlikeFor, Knows, Part, FitsAt, ahead, IsSteady, with_at, heap_then, alike_steps, leaf_alone, steady_same, alone_too}
+use Rattle.refinement_laws.proofs.Common.{◌≡◌, ℕ, true, false, Some, length, slice_get, ap, sym, ◌∙◌, ProgramText, SettingsValue, Task, MachineState, object_at, row_of, can_step, is_joined, is_on_path, is_running, is_waiting, owner_of, running_tells, Heap, Ledger, heap_of, or_fresh, let_go, task_steps, heap_machine, Memory, own, rested, StepsAlone, AlikeFor, LedgerIsKnown, Part, FitsAt, ahead, IsSteady, with_at, heap_then, alike_steps, leaf_alone, steady_same, alone_too}
 use Rattle.refinement_laws.proofs.parts.Parts.{ahead_alone, ahead_sound}
 use Rattle.refinement_laws.proofs.parts.Frame.{step_frame}
 
@@ -48,7 +48,7 @@ module _ (p : ProgramText) (s : SettingsValue) (q : Part) where
   -- a part still fits when another task steps alone
   pub fits_alone : (v : Memory) (l l' : Ledger) (t w : ℕ) (x : Task) → (t ≡ q.task → ⊥) → StepsAlone l l' t → l'.machine.field_limit ≡ l.machine.field_limit → l'.machine.end ≡ l.machine.end → slice_get l'.heaps q.task ≡ slice_get l.heaps q.task
       → (heap_of l t).worker ≡ Some w → (heap_of l' t).worker ≡ Some w → is_waiting (slice_get l.machine.tasks t) ≡ false
-      → Knows l → Knows l' → IsSteady q l → slice_get l.machine.tasks q.task ≡ Some x → is_running (Some x) ≡ true → can_step l.machine q.task ≡ true → FitsAt p s q v l → FitsAt p s q v l'
+      → LedgerIsKnown l → LedgerIsKnown l' → IsSteady q l → slice_get l.machine.tasks q.task ≡ Some x → is_running (Some x) ≡ true → can_step l.machine q.task ≡ true → FitsAt p s q v l → FitsAt p s q v l'
   fits_alone v l l' t w x ne B limit end heap out out' idle K K' c is run can F =
       let live : is_joined (slice_get l.machine.tasks q.task) ≡ false = ap is_joined is ∙ (running_tells x.status run).0 in
       let A : AlikeFor q.task l l' = alike_alone l l' t ne (λ h. ne (leaf_alone l K.sound t q.task idle live h)) B limit end heap in

@@ -1,10 +1,10 @@
 -- Two parts that fit a memory fit it together: with the belongings of both in it, it stands for the accounts in which
 -- both tasks rest.
-use Rattle.refinement_laws.proofs.Common.{◌≡◌, ℕ, true, false, Some, slice_get, ◌⊎◌, inl, inr, ap, sym, subst, ◌∙◌, cases_eq, both_ways, same_Some, Addr, Located, Name, Object, Task, object_at, is_waiting, is_joined, is_on_path, Heap, Ledger, SoundLedger, RefField, Belongings, Memory, In, object_name, objects, objects_of_chunks, sources, Lies, shown_at, IsModelObject, TaskIsRead, own, Rests, StepsAlone, GivesLevel, Place, BelongingsStand, IsSource, Stands, IsShown, SameBut, object_kept, task_kept, object_both, task_both, belongings_own, belongings_kept, refers, gives_kept, leaf_alone, source_alone}
+use Rattle.refinement_laws.proofs.Common.{◌≡◌, ℕ, true, false, Some, slice_get, ◌⊎◌, inl, inr, ap, sym, subst, ◌∙◌, cases_eq, both_ways, same_Some, Addr, Located, Name, Object, Task, object_at, is_waiting, is_joined, is_on_path, Heap, Ledger, SoundLedger, RefField, Belongings, Memory, In, object_name, objects, objects_of_chunks, sources, Lies, shown_at, IsModelObject, TaskIsRead, own, Rests, StepsAlone, GivesLevel, LiesWithOwner, BelongingsStand, IsSource, MemoryStands, AboveIsShown, SameBut, object_kept, task_kept, object_both, task_both, belongings_own, belongings_kept, refers, gives_kept, leaf_alone, source_alone}
 
 -- v1 has t's belongings, v2 has u's, and v has both; l1 and l2 are the accounts for them. What the tasks own is
 -- disjoint: from l1 to l only what u owns changes, from l2 to l only what t owns.
-module _ (v v1 v2 : Memory) (l l1 l2 : Ledger) (t u : ℕ) (apart : t ≡ u → ⊥) (S1 : SoundLedger l1) (S2 : SoundLedger l2) (V1 : Stands v1 l1) (V2 : Stands v2 l2)
+module _ (v v1 v2 : Memory) (l l1 l2 : Ledger) (t u : ℕ) (apart : t ≡ u → ⊥) (S1 : SoundLedger l1) (S2 : SoundLedger l2) (V1 : MemoryStands v1 l1) (V2 : MemoryStands v2 l2)
     (A1 : StepsAlone l1 l u) (A2 : StepsAlone l2 l t) (C1 : SameBut v1 v u) (C2 : SameBut v2 v t)
     (idle_t : is_waiting (slice_get l.machine.tasks t) ≡ false) (idle_u : is_waiting (slice_get l.machine.tasks u) ≡ false)
     (live_t : is_joined (slice_get l.machine.tasks t) ≡ false) (live_u : is_joined (slice_get l.machine.tasks u) ≡ false) where
@@ -21,7 +21,7 @@ module _ (v v1 v2 : Memory) (l l1 l2 : Ledger) (t u : ℕ) (apart : t ≡ u → 
   rest2 z ne r = ap (λ (h : Heap). h.worker) (sym (A2.heaps z ne)) ∙ r
 
   -- a name that isn't u's has its address by the first, and one that isn't t's by the second
-  place1 : (n : Name) (a : Addr) → (own l n ≡ u → ⊥) → Place v1 l1 n a → Place v l n a
+  place1 : (n : Name) (a : Addr) → (own l n ≡ u → ⊥) → LiesWithOwner v1 l1 n a → LiesWithOwner v l n a
   place1 n a ne p = record {
     chunk = C1.owner a.chunk ∙ (p.chunk ∙ ap Some (sym (own1 n)));
     here = λ r.
@@ -29,7 +29,7 @@ module _ (v v1 v2 : Memory) (l l1 l2 : Ledger) (t u : ℕ) (apart : t ≡ u → 
         (subst (λ z. Lies (v1.belongings z).chunks n a) (sym (own1 n)) (p.here (subst (Rests l1) (own1 n) (rest1 (own l n) ne r))));
   }
 
-  place2 : (n : Name) (a : Addr) → (own l n ≡ t → ⊥) → Place v2 l2 n a → Place v l n a
+  place2 : (n : Name) (a : Addr) → (own l n ≡ t → ⊥) → LiesWithOwner v2 l2 n a → LiesWithOwner v l n a
   place2 n a ne p = record {
     chunk = C2.owner a.chunk ∙ (p.chunk ∙ ap Some (sym (own2 n)));
     here = λ r.
@@ -37,7 +37,7 @@ module _ (v v1 v2 : Memory) (l l1 l2 : Ledger) (t u : ℕ) (apart : t ≡ u → 
         (subst (λ z. Lies (v2.belongings z).chunks n a) (sym (own2 n)) (p.here (subst (Rests l2) (own2 n) (rest2 (own l n) ne r))));
   }
 
-  place : (n : Name) (a : Addr) → Place v1 l1 n a → Place v2 l2 n a → Place v l n a
+  place : (n : Name) (a : Addr) → LiesWithOwner v1 l1 n a → LiesWithOwner v2 l2 n a → LiesWithOwner v l n a
   place n a p q = elim (cases_eq (own l n) u) [
     | inl e ↦ place2 n a (λ f. apart (sym f ∙ e)) q
     | inr ne ↦ place1 n a ne p
@@ -86,7 +86,7 @@ module _ (v v1 v2 : Memory) (l l1 l2 : Ledger) (t u : ℕ) (apart : t ≡ u → 
   object2 z o ne r i = A2.store (object_name o) (λ e. ne (sym (owner2 z o ne r i) ∙ e))
 
   abbrev Content : Located → Type 0
-  Content o = (x : Object) × (object_at l.machine.store (object_name o) ≡ Some x) × IsModelObject (Place v l) o x
+  Content o = (x : Object) × (object_at l.machine.store (object_name o) ≡ Some x) × IsModelObject (LiesWithOwner v l) o x
 
   content : (z : ℕ) (o : Located) → Rests l z → In (objects v z) o → Content o
   content z o r i = elim (cases_eq z u) [
@@ -96,7 +96,7 @@ module _ (v v1 v2 : Memory) (l l1 l2 : Ledger) (t u : ℕ) (apart : t ≡ u → 
         let mine : own l2 (object_name o) ≡ u = owner2 z o ne r i ∙ e in (
           c.0,
           object2 z o ne r i ∙ c.1,
-          object_kept (Place v2 l2) (Place v l) o c.0
+          object_kept (LiesWithOwner v2 l2) (LiesWithOwner v l) o c.0
               (λ n j a. place2 n a (λ f. not_t (own l2 n) (subst (λ k. (is_on_path l2.machine.tasks k (own l2 n) ≡ true) ⊎ (is_on_path l2.machine.tasks (own l2 n) k ≡ true)) mine
               (S2.apart.of_object (object_name o) n (refers l2.machine.store (object_name o) n c.0 c.1 j)).2) (sym (own2 n) ∙ f))) c.2,
         )
@@ -107,39 +107,39 @@ module _ (v v1 v2 : Memory) (l l1 l2 : Ledger) (t u : ℕ) (apart : t ≡ u → 
               let mine : own l1 (object_name o) ≡ t = owner1 z o nu r i ∙ e in (
                 c.0,
                 object1 z o nu r i ∙ c.1,
-                object_kept (Place v1 l1) (Place v l) o c.0
+                object_kept (LiesWithOwner v1 l1) (LiesWithOwner v l) o c.0
                     (λ n j a. place1 n a (λ f. not_u (own l1 n) (subst (λ k. (is_on_path l1.machine.tasks k (own l1 n) ≡ true) ⊎ (is_on_path l1.machine.tasks (own l1 n) k ≡ true)) mine
                     (S1.apart.of_object (object_name o) n (refers l1.machine.store (object_name o) n c.0 c.1 j)).2) (sym (own1 n) ∙ f))) c.2,
               )
           | inr nt ↦
               let d = V2.contents z o (rest2 z nt r) (from2 z o nt i) in
               let same : d.0 ≡ c.0 = same_Some d.0 c.0 (sym d.1 ∙ (sym (object2 z o nt r i) ∙ (object1 z o nu r i ∙ c.1))) in
-              (c.0, object1 z o nu r i ∙ c.1, object_both (Place v1 l1) (Place v2 l2) (Place v l) o c.0 place c.2 (subst (IsModelObject (Place v2 l2) o) same d.2))
+              (c.0, object1 z o nu r i ∙ c.1, object_both (LiesWithOwner v1 l1) (LiesWithOwner v2 l2) (LiesWithOwner v l) o c.0 place c.2 (subst (IsModelObject (LiesWithOwner v2 l2) o) same d.2))
         ]
   ]
 
-  task : (z : ℕ) (x : Task) → Rests l z → slice_get l.machine.tasks z ≡ Some x → TaskIsRead (Place v l) (v.belongings z) x
+  task : (z : ℕ) (x : Task) → Rests l z → slice_get l.machine.tasks z ≡ Some x → TaskIsRead (LiesWithOwner v l) (v.belongings z) x
   task z x r is = elim (cases_eq z u) [
     | inl e ↦
         let ne : z ≡ t → ⊥ = λ f. apart (sym f ∙ e) in
         let is2 : slice_get l2.machine.tasks z ≡ Some x = sym (A2.tasks z ne) ∙ is in
-        subst (λ (h : Belongings). TaskIsRead (Place v l) h x) (sym (C2.belongings z ne))
-        (task_kept (Place v2 l2) (Place v l) (v2.belongings z) x
+        subst (λ (h : Belongings). TaskIsRead (LiesWithOwner v l) h x) (sym (C2.belongings z ne))
+        (task_kept (LiesWithOwner v2 l2) (LiesWithOwner v l) (v2.belongings z) x
         (λ n j a. place2 n a (λ f. not_t (own l2 n) (inr (ap (is_on_path l2.machine.tasks (own l2 n)) (sym e) ∙ (S2.apart.of_task z x n is2 j).1)) (sym (own2 n) ∙ f)))
         (V2.tasks z x (rest2 z ne r) is2))
     | inr nu ↦
         let is1 : slice_get l1.machine.tasks z ≡ Some x = sym (A1.tasks z nu) ∙ is in
         elim (cases_eq z t) [
           | inl e ↦
-              subst (λ (h : Belongings). TaskIsRead (Place v l) h x) (sym (C1.belongings z nu))
-              (task_kept (Place v1 l1) (Place v l) (v1.belongings z) x
+              subst (λ (h : Belongings). TaskIsRead (LiesWithOwner v l) h x) (sym (C1.belongings z nu))
+              (task_kept (LiesWithOwner v1 l1) (LiesWithOwner v l) (v1.belongings z) x
               (λ n j a. place1 n a (λ f. not_u (own l1 n) (inr (ap (is_on_path l1.machine.tasks (own l1 n)) (sym e) ∙ (S1.apart.of_task z x n is1 j).1)) (sym (own1 n) ∙ f)))
               (V1.tasks z x (rest1 z nu r) is1))
           | inr nt ↦
               let is2 : slice_get l2.machine.tasks z ≡ Some x = sym (A2.tasks z nt) ∙ is in
-              let k1 : TaskIsRead (Place v1 l1) (v.belongings z) x = subst (λ (h : Belongings). TaskIsRead (Place v1 l1) h x) (sym (C1.belongings z nu)) (V1.tasks z x (rest1 z nu r) is1) in
-              let k2 : TaskIsRead (Place v2 l2) (v.belongings z) x = subst (λ (h : Belongings). TaskIsRead (Place v2 l2) h x) (sym (C2.belongings z nt)) (V2.tasks z x (rest2 z nt r) is2) in
-              task_both (Place v1 l1) (Place v2 l2) (Place v l) (v.belongings z) x place k1 k2
+              let k1 : TaskIsRead (LiesWithOwner v1 l1) (v.belongings z) x = subst (λ (h : Belongings). TaskIsRead (LiesWithOwner v1 l1) h x) (sym (C1.belongings z nu)) (V1.tasks z x (rest1 z nu r) is1) in
+              let k2 : TaskIsRead (LiesWithOwner v2 l2) (v.belongings z) x = subst (λ (h : Belongings). TaskIsRead (LiesWithOwner v2 l2) h x) (sym (C2.belongings z nt)) (V2.tasks z x (rest2 z nt r) is2) in
+              task_both (LiesWithOwner v1 l1) (LiesWithOwner v2 l2) (LiesWithOwner v l) (v.belongings z) x place k1 k2
         ]
   ]
 
@@ -166,7 +166,7 @@ module _ (v v1 v2 : Memory) (l l1 l2 : Ledger) (t u : ℕ) (apart : t ≡ u → 
       let ne' : own l k.name ≡ u → ⊥ = λ f. ne (sym e ∙ f) in
       source_alone v1 v l1 l u z s k A1 ne (place1 k.name s.object ne' k.place)
 
-  view : (z : ℕ) → Rests l z → is_joined (slice_get l.machine.tasks z) ≡ false → IsShown v l z
+  view : (z : ℕ) → Rests l z → is_joined (slice_get l.machine.tasks z) ≡ false → AboveIsShown v l z
   view z r j w o up ne rw i = elim (cases_eq z u) [
     | inl e ↦
         let nt : z ≡ t → ⊥ = λ f. apart (sym f ∙ e) in
@@ -195,5 +195,5 @@ module _ (v v1 v2 : Memory) (l l1 l2 : Ledger) (t u : ℕ) (apart : t ≡ u → 
             (V1.gives z w (rest1 z nu r) (sym (A1.tree.joins z) ∙ j) (sym (path1 w z) ∙ up) ne (sym (A1.tree.waits w) ∙ wait) (rest1 w wu rw))
       ]
 
-  pub assembled : Stands v l
+  pub assembled : MemoryStands v l
   assembled = record { made = λ k z e. A1.tree.made z ∙ V1.made k z (sym (C1.owner k) ∙ e); belongings = belongings; contents = content; tasks = task; remembered = remember; sources = source; views = view; gives = give }

@@ -1,9 +1,9 @@
 -- The frame law for the last step of an entry: a fork, a join and a store of one task keep the part of another fitting.
-use Rattle.refinement_laws.proofs.Common.{◌≡◌, ℕ, ℤ, true, Option, slice_get, inl, inr, refl, ap, sym, ◌∙◌, both_ways, same_Some, Addr, Name, Object, Running, Task, object_at, is_on_path, Heap, Ledger, Belongings, Memory, ReadsReference, own, Rests, StepsAlone, WritesOne, AlikeFor, ForksTask, JoinsTasks, TasksCanJoin, Place, Stands, with_belongings, ForksBelongings, JoinsBelongings, Beside, forked_stands, joined_stands, off_belongings, with_both, forks_too, forks_with, joins_too, joins_with}
+use Rattle.refinement_laws.proofs.Common.{◌≡◌, ℕ, ℤ, true, Option, slice_get, inl, inr, refl, ap, sym, ◌∙◌, both_ways, same_Some, Addr, Name, Object, Running, Task, object_at, is_on_path, Heap, Ledger, Belongings, Memory, ReadsReference, own, Rests, StepsAlone, WritesOne, AlikeFor, ForksTask, JoinsTasks, TasksCanJoin, LiesWithOwner, MemoryStands, with_belongings, ForksBelongings, JoinsBelongings, Beside, forked_stands, joined_stands, off_belongings, with_both, forks_too, forks_with, joins_too, joins_with}
 use Rattle.refinement_laws.proofs.parts.Assemble.{assembled}
 
 -- both fit together
-pub together : (v : Memory) (lt k K : Ledger) (t u : ℕ) (g h : Belongings) → Beside lt k K t u → Stands (with_belongings v t g) lt → Stands (with_belongings v u h) k → Stands (with_belongings (with_belongings v t g) u h) K
+pub together : (v : Memory) (lt k K : Ledger) (t u : ℕ) (g h : Belongings) → Beside lt k K t u → MemoryStands (with_belongings v t g) lt → MemoryStands (with_belongings v u h) k → MemoryStands (with_belongings (with_belongings v t g) u h) K
 together v lt k K t u g h B Vt Vu =
     assembled (with_belongings (with_belongings v t g) u h) (with_belongings v t g) (with_belongings v u h) K lt k t u B.apart B.sound_t B.sound_u Vt Vu B.steps_t B.steps_u
     (record { belongings = λ z ne. off_belongings (with_belongings v t g) u h z ne; owner = λ i. refl; sources = λ z. refl })
@@ -13,7 +13,7 @@ together v lt k K t u g h B Vt Vu =
 -- t forks: from lt to l', and with u's steps from K to k'
 pub fork_frame : (v v' : Memory) (lt l' k k' K : Ledger) (t u a b f i : ℕ) (g h : Belongings) (x : Task) → Beside lt k K t u → (a ≡ u → ⊥) → (b ≡ u → ⊥) → StepsAlone l' k' u → AlikeFor u K k'
     → x.status ≡ Running → Rests lt t → ForksTask lt l' t a b f i x → ForksBelongings (with_belongings v t g) v' t a b f i
-    → Stands (with_belongings v t g) lt → Stands (with_belongings v u h) k → Stands (with_belongings v' u h) k'
+    → MemoryStands (with_belongings v t g) lt → MemoryStands (with_belongings v u h) k → MemoryStands (with_belongings v' u h) k'
 fork_frame v v' lt l' k k' K t u a b f i g h x B na nb A' E runs rests F C Vt Vu =
     forked_stands (with_belongings (with_belongings v t g) u h) (with_belongings v' u h) K k' t a b f i x B.sound (together v lt k K t u g h B Vt Vu) runs
     (ap (λ (z : Heap). z.worker) (B.steps_t.heaps t B.apart) ∙ rests)
@@ -22,8 +22,8 @@ fork_frame v v' lt l' k k' K t u a b f i g h x B na nb A' E runs rests F C Vt Vu
 -- t ends, with its sibling's end before, and both join p: from lt to l', and with u's steps from K to k'
 pub join_frame : (v v' : Memory) (lt l' k k' K : Ledger) (t u p c d : ℕ) (g h : Belongings) (x : Task) (rl rr : ℤ × Option Name) (al ar : ℤ × Option Addr) → Beside lt k K t u → (p ≡ u → ⊥) → (c ≡ u → ⊥) → (d ≡ u → ⊥)
     → StepsAlone l' k' u → AlikeFor u K k' → JoinsTasks lt l' p c d x rl rr → TasksCanJoin K p c d x → JoinsBelongings (with_belongings v t g) v' p c d al ar
-    → (al.0 ≡ rl.0) × ReadsReference (Place (with_belongings (with_belongings v t g) u h) K) al.1 rl.1 → (ar.0 ≡ rr.0) × ReadsReference (Place (with_belongings (with_belongings v t g) u h) K) ar.1 rr.1
-    → Stands (with_belongings v t g) lt → Stands (with_belongings v u h) k → Stands (with_belongings v' u h) k'
+    → (al.0 ≡ rl.0) × ReadsReference (LiesWithOwner (with_belongings (with_belongings v t g) u h) K) al.1 rl.1 → (ar.0 ≡ rr.0) × ReadsReference (LiesWithOwner (with_belongings (with_belongings v t g) u h) K) ar.1 rr.1
+    → MemoryStands (with_belongings v t g) lt → MemoryStands (with_belongings v u h) k → MemoryStands (with_belongings v' u h) k'
 join_frame v v' lt l' k k' K t u p c d g h x rl rr al ar B np nc nd A' E J T C gl gr Vt Vu =
     joined_stands (with_belongings (with_belongings v t g) u h) (with_belongings v' u h) K k' p c d x rl rr al ar B.sound (together v lt k K t u g h B Vt Vu)
     (joins_too lt l' K k' u B.steps_t A' E p c d x rl rr np nc nd J) T (joins_with (with_belongings v t g) v' u h p c d al ar np nc nd C) gl gr

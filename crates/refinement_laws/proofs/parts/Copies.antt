@@ -1,7 +1,7 @@
 -- A copied part fits only for the end of its collection, and fits after it.
-use Rattle.refinement_laws.proofs.Common.{◌≡◌, ℕ, Option, Some, None, map, length, slice_get, refl, ap, sym, subst, ◌∙◌, arith, is_some, same_Some, Addr, ProgramText, SettingsValue, Running, Task, MachineState, row_of, is_joined, Heap, Ledger, heap_of, or_fresh, let_go, collected, with_heap, SoundLedger, heap_machine, Belongings, Memory, In, object_name, objects_of_chunks, sources, copied_object, rewritten_belongings, led_frame, AreLaidOut, small_chunks, large_chunks, BelongingsStand, Stands, Part, FitsAt, with_belongings, ahead, rested, ChangesHeap, Moves, BegunBy, PartFits, part_before, CopyFits, EndsAt, with_at, heap_then, rested_changes, rested_worker, rested_view, rested_sound, end_changes, Begun, at_belongings, off_belongings}
+use Rattle.refinement_laws.proofs.Common.{◌≡◌, ℕ, Option, Some, None, map, length, slice_get, refl, ap, sym, subst, ◌∙◌, arith, is_some, same_Some, Addr, ProgramText, SettingsValue, Running, Task, MachineState, row_of, is_joined, Heap, Ledger, heap_of, or_fresh, let_go, collected, with_heap, SoundLedger, heap_machine, Belongings, Memory, In, object_name, objects_of_chunks, sources, copied_object, rewritten_belongings, led_frame, AreLaidOut, small_chunks, large_chunks, BelongingsStand, MemoryStands, Part, FitsAt, with_belongings, ahead, rested, ChangesHeap, Moves, BegunBy, PartFits, part_before, CopyFits, EndsAt, with_at, heap_then, rested_changes, rested_worker, rested_view, rested_sound, end_changes, Begun, at_belongings, off_belongings}
 use Rattle.std.specs.Option.{option_map}
-use Rattle.refinement.specs.Stands.{names_of}
+use Rattle.refinement.specs.MemoryStands.{chunk_names}
 use Rattle.refinement_laws.proofs.notes.Begun.{begun_stays}
 use Rattle.refinement.proofs.changes.Collect.{collected as collection}
 
@@ -66,7 +66,7 @@ module _ (p : ProgramText) (s : SettingsValue) (t : ℕ) (h h' : Belongings) (f 
   belongings : BelongingsStand V' lt' t
   belongings = record {
     names = record {
-      small = ap (λ (z : Belongings). map names_of (small_chunks z.chunks)) new_belongings ∙ (C.copy.names.small ∙ (ap (λ (z : Heap). z.chunks) (sym heap') ∙ sym (rested_view (λ z. z.chunks) (λ z. refl) l' t)));
+      small = ap (λ (z : Belongings). map chunk_names (small_chunks z.chunks)) new_belongings ∙ (C.copy.names.small ∙ (ap (λ (z : Heap). z.chunks) (sym heap') ∙ sym (rested_view (λ z. z.chunks) (λ z. refl) l' t)));
       large = ap (λ (z : Belongings). map object_name (objects_of_chunks (large_chunks z.chunks))) new_belongings ∙ (C.copy.names.large ∙ (ap (λ (z : Heap). z.large) (sym heap') ∙ sym (rested_view (λ z. z.large) (λ z. refl) l' t)));
     };
     room = ap (λ (z : Belongings). z.room) new_belongings ∙ (C.copy.room ∙ (ap (λ (z : Heap). z.room) (sym heap') ∙ sym (rested_view (λ z. z.room) (λ z. refl) l' t)));
@@ -97,7 +97,7 @@ module _ (p : ProgramText) (s : SettingsValue) (t : ℕ) (h h' : Belongings) (f 
     sources = E.sources;
   }
 
-  stands : Stands V' lt'
+  stands : MemoryStands V' lt'
   stands =
       collection V V' lt lt' t x f (rested_sound l t S) C.old.fits.stands
       (record {

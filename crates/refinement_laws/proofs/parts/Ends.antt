@@ -1,10 +1,10 @@
 -- The end of a leaf collection keeps each part of another task fitting.
-use Rattle.refinement_laws.proofs.Common.{◌≡◌, ℕ, true, Some, slice_get, inl, inr, refl, ap, sym, ◌∙◌, is_some, cases_eq, Addr, ProgramText, SettingsValue, Running, Task, MachineState, Heap, Ledger, heap_of, or_fresh, let_go, task_steps, heap_machine, Belongings, Memory, ArePrivate, rested, StepsAlone, ChangesHeap, Knows, Part, FitsAt, ahead, with_belongings, part_for, Moves, IsSteady, RunsWithPart, Beside, EndsBeside, SameOf, with_off, rested_changes, rested_sound, rested_worker, rested_view, steady_same}
+use Rattle.refinement_laws.proofs.Common.{◌≡◌, ℕ, true, Some, slice_get, inl, inr, refl, ap, sym, ◌∙◌, is_some, cases_eq, Addr, ProgramText, SettingsValue, Running, Task, MachineState, Heap, Ledger, heap_of, or_fresh, let_go, task_steps, heap_machine, Belongings, Memory, ArePrivate, rested, StepsAlone, ChangesHeap, LedgerIsKnown, Part, FitsAt, ahead, with_belongings, part_for, Moves, IsSteady, RunsWithPart, Beside, EndsBeside, SameOf, with_off, rested_changes, rested_sound, rested_worker, rested_view, steady_same}
 use Rattle.refinement_laws.proofs.parts.Parts.{ahead_alone, ahead_same}
 use Rattle.refinement_laws.proofs.parts.Pair.{beside}
 use Rattle.refinement_laws.proofs.parts.Frame.{collect_frame}
 
-module _ (p : ProgramText) (s : SettingsValue) (t : ℕ) (g g' : Belongings) (r : Part) (v v' : Memory) (l l' : Ledger) (w : ℕ) (x y : Task) (f : Addr → Addr) (K : Knows l) (K' : Knows l') where
+module _ (p : ProgramText) (s : SettingsValue) (t : ℕ) (g g' : Belongings) (r : Part) (v v' : Memory) (l l' : Ledger) (w : ℕ) (x y : Task) (f : Addr → Addr) (K : LedgerIsKnown l) (K' : LedgerIsKnown l') where
   -- the part of t, that has begun its collection
   abbrev q : Part
   q = part_for s t g 0

@@ -1,6 +1,6 @@
 -- A step after which its worker goes on with the task keeps the parts of others fitting: a store of a reference or of a
 -- number.
-use Rattle.refinement_laws.proofs.Common.{◌≡◌, ℕ, ℤ, false, Option, Some, List, slice_get, inl, inr, refl, ap, sym, subst, ◌∙◌, cases_eq, same_Some, Addr, Located, ProgramText, SettingsValue, Name, Object, Running, Task, MachineState, is_waiting, is_joined, is_on_path, task_names, Heap, Ledger, heap_of, or_fresh, let_go, task_steps, heap_machine, CallFrame, ref_of, Belongings, Memory, In, objects, objects_of_chunks, own, Rests, ArePrivate, rested, StepsAlone, AlikeFor, Knows, StoresOne, StoresNumber, Stands, Part, FitsAt, ahead, with_belongings, StoresAt, StoresNumberAt, IsSteady, RunsWithPart, Beside, SameOf, with_off, rested_worker, rested_knows, leaf_alone, stores_too, stores_with, numbers_too, numbers_with, in_chunk, released, at_belongings, off_belongings, with_both, steady_same}
+use Rattle.refinement_laws.proofs.Common.{◌≡◌, ℕ, ℤ, false, Option, Some, List, slice_get, inl, inr, refl, ap, sym, subst, ◌∙◌, cases_eq, same_Some, Addr, Located, ProgramText, SettingsValue, Name, Object, Running, Task, MachineState, is_waiting, is_joined, is_on_path, task_names, Heap, Ledger, heap_of, or_fresh, let_go, task_steps, heap_machine, CallFrame, ref_of, Belongings, Memory, In, objects, objects_of_chunks, own, Rests, ArePrivate, rested, StepsAlone, AlikeFor, LedgerIsKnown, StoresOne, StoresNumber, MemoryStands, Part, FitsAt, ahead, with_belongings, StoresAt, StoresNumberAt, IsSteady, RunsWithPart, Beside, SameOf, with_off, rested_worker, rested_knows, leaf_alone, stores_too, stores_with, numbers_too, numbers_with, in_chunk, released, at_belongings, off_belongings, with_both, steady_same}
 use Rattle.refinement_laws.proofs.parts.Beside.{alike_writes}
 use Rattle.refinement_laws.proofs.parts.Pair.{beside}
 use Rattle.refinement_laws.proofs.parts.Parts.{ahead_alone, ahead_same}
@@ -10,7 +10,7 @@ use Rattle.refinement_laws.proofs.parts.Pair as pair
 use Rattle.refinement.proofs.changes.Store as store
 
 -- q's worker goes on with the task, with belongings g', and the memory stands for the accounts in which it rests
-module _ (p : ProgramText) (s : SettingsValue) (q r : Part) (v : Memory) (l l' : Ledger) (x y : Task) (K : Knows l) (K' : Knows l') (F : FitsAt p s q v l) (G : FitsAt p s r v l) (O : RunsWithPart l q x) (P : RunsWithPart l r y) (ne : q.task ≡ r.task → ⊥)
+module _ (p : ProgramText) (s : SettingsValue) (q r : Part) (v : Memory) (l l' : Ledger) (x y : Task) (K : LedgerIsKnown l) (K' : LedgerIsKnown l') (F : FitsAt p s q v l) (G : FitsAt p s r v l) (O : RunsWithPart l q x) (P : RunsWithPart l r y) (ne : q.task ≡ r.task → ⊥)
     (w : ℕ) (out : (heap_of l' q.task).worker ≡ Some w) (limit : l'.machine.field_limit ≡ (ahead p q l).machine.field_limit) (end : l'.machine.end ≡ (ahead p q l).machine.end) (heap : slice_get l'.heaps r.task ≡ slice_get (ahead p q l).heaps r.task) where
   abbrev lq : Ledger
   lq = ahead p q l
@@ -30,7 +30,7 @@ module _ (p : ProgramText) (s : SettingsValue) (q r : Part) (v : Memory) (l l' :
   abbrev BB : Beside lq (ahead p r l) both q.task r.task
   BB = beside p s q r v l x y K F G O P ne
 
-  K2 : Knows lt'
+  K2 : LedgerIsKnown lt'
   K2 = rested_knows l' q.task K'
 
   abbrev limit' : lt'.machine.field_limit ≡ lq.machine.field_limit
@@ -45,11 +45,11 @@ module _ (p : ProgramText) (s : SettingsValue) (q r : Part) (v : Memory) (l l' :
   rests_both : Rests both q.task
   rests_both = ap (λ (h : Heap). h.worker) (BB.steps_t.heaps q.task ne) ∙ rested_worker (task_steps p l q.task q.fresh) q.task
 
-  abbrev before : Stands (with_belongings (with_belongings v q.task q.belongings) r.task r.belongings) both
+  abbrev before : MemoryStands (with_belongings (with_belongings v q.task q.belongings) r.task r.belongings) both
   before = pair.fit_together p s q r v l x y K F G O P ne
 
   -- the part fits what is returned
-  module _ (E : AlikeFor r.task lq lt') (v' : Memory) (g' : Belongings) (idle : is_waiting (slice_get then_.machine.tasks q.task) ≡ false) (V : Stands (with_belongings (with_belongings v' q.task g') r.task r.belongings) then_) where
+  module _ (E : AlikeFor r.task lq lt') (v' : Memory) (g' : Belongings) (idle : is_waiting (slice_get then_.machine.tasks q.task) ≡ false) (V : MemoryStands (with_belongings (with_belongings v' q.task g') r.task r.belongings) then_) where
     at_l' : ArePrivate p s l' r.task r.fresh × SameOf r.task then_ (ahead p r l')
     at_l' = ahead_same p s r lt' l' (record { machine = sym (heap_machine l' q.task let_go); heap = sym (with_off l' q.task r.task let_go off) }) (private' p s q r v l lt' x y K K2 F G O P ne E)
 

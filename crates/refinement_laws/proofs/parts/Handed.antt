@@ -1,8 +1,8 @@
 -- The part that its worker has after an entry fits the returned value.
-use Rattle.refinement_laws.proofs.Common.{◌≡◌, ℕ, arith, Some, inl, inr, refl, ap, sym, ◌∙◌, cases_eq, ProgramText, SettingsValue, Ledger, heap_of, or_fresh, let_go, task_steps, heap_machine, rested, with_off, rested_worker, rested_view, Belongings, Memory, Stands, FitsAt, with_belongings, ahead, part_for, numbered, stepped, renewed, stored}
+use Rattle.refinement_laws.proofs.Common.{◌≡◌, ℕ, arith, Some, inl, inr, refl, ap, sym, ◌∙◌, cases_eq, ProgramText, SettingsValue, Ledger, heap_of, or_fresh, let_go, task_steps, heap_machine, rested, with_off, rested_worker, rested_view, Belongings, Memory, MemoryStands, FitsAt, with_belongings, ahead, part_for, numbered, stepped, renewed, stored}
 use Rattle.refinement_laws.proofs.parts.Statements.{StoresFit, NumbersFit, QuietFitsAt, StepsFit}
 
-fits_now : (p : ProgramText) (s : SettingsValue) (t : ℕ) (g : Belongings) (v : Memory) (l : Ledger) (w : ℕ) → (heap_of l t).worker ≡ Some w → Stands (with_belongings v t g) (rested l t) → FitsAt p s (part_for s t g 0) v l
+fits_now : (p : ProgramText) (s : SettingsValue) (t : ℕ) (g : Belongings) (v : Memory) (l : Ledger) (w : ℕ) → (heap_of l t).worker ≡ Some w → MemoryStands (with_belongings v t g) (rested l t) → FitsAt p s (part_for s t g 0) v l
 fits_now p s t g v l w out V = record { worker = w; out = out; few = omega arith; private = tt; stands = V }
 
 pub stores_fit : StoresFit

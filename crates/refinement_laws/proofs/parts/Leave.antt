@@ -1,5 +1,5 @@
 -- What an entry leaves unchanged for others: the laws, from the lemmas.
-use Rattle.refinement_laws.proofs.Common.{◌≡◌, ℕ, true, false, slice_get, ap, sym, ◌∙◌, none_some, ProgramText, SettingsValue, Task, is_joined, is_on_path, is_waiting, running_tells, leaf_alone, Heap, Ledger, heap_of, or_fresh, Memory, Rests, Knows, Leaves, Part, FitsAt, ahead, AreOut}
+use Rattle.refinement_laws.proofs.Common.{◌≡◌, ℕ, true, false, slice_get, ap, sym, ◌∙◌, none_some, ProgramText, SettingsValue, Task, is_joined, is_on_path, is_waiting, running_tells, leaf_alone, Heap, Ledger, heap_of, or_fresh, Memory, Rests, LedgerIsKnown, Leaves, Part, FitsAt, ahead, AreOut}
 use Rattle.refinement_laws.proofs.parts.Statements.{ForksLeaveFitting, JoinsLeaveFitting, FinishesLeaveFitting, StoresLeaveFitting, NumbersLeaveFitting, TakingsLeaveFitting, QuietLeavesFitting}
 use Rattle.refinement_laws.proofs.parts.Along.{alike_alone}
 use Rattle.refinement_laws.proofs.parts.Beside.{alike_forks, alike_joins}
@@ -8,7 +8,7 @@ use Rattle.refinement_laws.proofs.parts.Goes.{fits_store, fits_number}
 use Rattle.refinement_laws.proofs.parts.NonMovingEntries.{fits_took, fits_quiet}
 use Rattle.refinement_laws.proofs.parts.Pair as pair
 
-module _ (p : ProgramText) (s : SettingsValue) (q r : Part) (v : Memory) (l l' : Ledger) (x y : Task) (K : Knows l) (F : FitsAt p s q v l) (G : FitsAt p s r v l) (A : AreOut l q r x y) where
+module _ (p : ProgramText) (s : SettingsValue) (q r : Part) (v : Memory) (l l' : Ledger) (x y : Task) (K : LedgerIsKnown l) (F : FitsAt p s q v l) (G : FitsAt p s r v l) (A : AreOut l q r x y) where
   -- a task that no worker holds isn't r's
   pub held_then : (z : ℕ) → Rests (ahead p q l) z → r.task ≡ z → ⊥
   held_then z h e = none_some (sym h ∙ (ap (λ k. (heap_of (ahead p q l) k).worker) (sym e) ∙ (ap (λ o. (or_fresh o).worker) (pair.alike p s q r v l x y K F G A.first A.second A.apart).heap ∙ G.out)))

@@ -1,5 +1,5 @@
 -- Entries that move nothing, and those by which a worker takes a task, keep each part fitting.
-use Rattle.refinement_laws.proofs.Common.{◌≡◌, ℕ, false, Some, None, length, slice_get, inl, inr, refl, ap, sym, subst, ◌∙◌, cases_eq, none_some, ProgramText, SettingsValue, MachineState, row_of, is_joined, is_waiting, Heap, Ledger, heap_of, or_fresh, task_steps, Sound, SoundLedger, Belongings, Memory, objects_of_chunks, Rests, aside, ArePrivate, StepsAlone, WorkerTakes, SameTasks, Halts, BelongingsStand, StillFits, Part, FitsAt, ahead, with_belongings, SameBut, SameObjects, IsSteady, SameOf, rested_worker, belongings_kept, released, renewed, at_belongings, off_belongings, steady_same}
+use Rattle.refinement_laws.proofs.Common.{◌≡◌, ℕ, false, Some, None, length, slice_get, inl, inr, refl, ap, sym, subst, ◌∙◌, cases_eq, none_some, ProgramText, SettingsValue, MachineState, row_of, is_joined, is_waiting, Heap, Ledger, heap_of, or_fresh, task_steps, Sound, SoundLedger, Belongings, Memory, objects_of_chunks, Rests, aside, ArePrivate, StepsAlone, WorkerTakes, SameTasks, Halts, BelongingsStand, FitsAfterRun, Part, FitsAt, ahead, with_belongings, SameBut, SameObjects, IsSteady, SameOf, rested_worker, belongings_kept, released, renewed, at_belongings, off_belongings, steady_same}
 use Rattle.refinement_laws.proofs.parts.Parts.{ahead_alone, ahead_same}
 
 module _ (p : ProgramText) (s : SettingsValue) (q : Part) (v : Memory) (l l' : Ledger) (S : SoundLedger l) (S' : SoundLedger l') (c : IsSteady q l) (E : SameOf q.task l l') (F : FitsAt p s q v l) where
@@ -133,7 +133,7 @@ module _ (p : ProgramText) (s : SettingsValue) (q : Part) (v : Memory) (l l' : L
 pub aside_is : (l : Ledger) → l.machine.end ≡ None → aside l ≡ l
 aside_is l e = λ i. record l { machine = record l.machine { end = sym e i } }
 
-pub fits_halt : (p : ProgramText) (s : SettingsValue) (v : Memory) (l l' : Ledger) → SoundLedger l → l.machine.end ≡ None → Halts l l' → (r : Part) → IsSteady r l → FitsAt p s r v l → StillFits p s r v l'
+pub fits_halt : (p : ProgramText) (s : SettingsValue) (v : Memory) (l l' : Ledger) → SoundLedger l → l.machine.end ≡ None → Halts l l' → (r : Part) → IsSteady r l → FitsAt p s r v l → FitsAfterRun p s r v l'
 fits_halt p s v l l' S on H r c F =
     let m : (aside l').machine ≡ l.machine = ap (λ (z : MachineState). record z { end = None }) H.machine ∙ ap (λ (z : Ledger). z.machine) (aside_is l on) in
     let S' : SoundLedger (aside l') =

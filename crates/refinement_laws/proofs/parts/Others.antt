@@ -1,5 +1,5 @@
 -- What the worker of one task commits keeps the parts of others fitting: a fork, a join, a store.
-use Rattle.refinement_laws.proofs.Common.{◌≡◌, ℕ, ℤ, pos, true, unwrap_or, Option, Some, List, ◌∷◌, slice_get, inl, inr, ap, ap₂, sym, subst, ◌∙◌, Addr, ProgramText, SettingsValue, Name, Running, Task, can_step, goes_on, is_running, Heap, Ledger, heap_of, or_fresh, task_steps, CallFrame, ref_of, Belongings, Memory, ReadsReference, FramesAreRead, HoldsRead, Rests, ArePrivate, StepsAlone, AlikeFor, Knows, ForksTask, JoinsTasks, TasksCanJoin, EndsTask, Place, Stands, Part, FitsAt, ahead, with_belongings, ForksBelongings, JoinsBelongings, EndsBelongings, HasResult, IsSteady, RunsWithPart, Beside, alike_steps, rested_worker, field_of, can_too, ends_too, ends_with, finished, off_belongings, none_some, steady_same}
+use Rattle.refinement_laws.proofs.Common.{◌≡◌, ℕ, ℤ, pos, true, unwrap_or, Option, Some, List, ◌∷◌, slice_get, inl, inr, ap, ap₂, sym, subst, ◌∙◌, Addr, ProgramText, SettingsValue, Name, Running, Task, can_step, goes_on, is_running, Heap, Ledger, heap_of, or_fresh, task_steps, CallFrame, ref_of, Belongings, Memory, ReadsReference, FramesAreRead, HoldsRead, Rests, ArePrivate, StepsAlone, AlikeFor, LedgerIsKnown, ForksTask, JoinsTasks, TasksCanJoin, EndsTask, LiesWithOwner, MemoryStands, Part, FitsAt, ahead, with_belongings, ForksBelongings, JoinsBelongings, EndsBelongings, HasResult, IsSteady, RunsWithPart, Beside, alike_steps, rested_worker, field_of, can_too, ends_too, ends_with, finished, off_belongings, none_some, steady_same}
 use Rattle.refinement_laws.proofs.parts.Along.{rested_alike, alone_ahead}
 use Rattle.refinement_laws.proofs.parts.Beside.{together, fork_frame, join_frame}
 use Rattle.refinement_laws.proofs.parts.Pair.{beside}
@@ -8,19 +8,19 @@ use Rattle.refinement_laws.proofs.parts.Pair as pair
 
 -- RESULTS
 
-pub result_read : (v : Memory) (l : Ledger) (c : ℕ) (r : ℤ × Option Name) (a : ℤ × Option Addr) → Stands v l → Rests l c → HasResult v l c r a → (a.0 ≡ r.0) × ReadsReference (Place v l) a.1 r.1
+pub result_read : (v : Memory) (l : Ledger) (c : ℕ) (r : ℤ × Option Name) (a : ℤ × Option Addr) → MemoryStands v l → Rests l c → HasResult v l c r a → (a.0 ≡ r.0) × ReadsReference (LiesWithOwner v l) a.1 r.1
 result_read v l c r a V rests (inl E) =
-    let k : ((v.belongings c).result.0 ≡ r.0) × ReadsReference (Place v l) (v.belongings c).result.1 r.1 = subst (HoldsRead (Place v l) (v.belongings c) E.task) E.ended (V.tasks c E.task rests E.is) in
-    subst (λ (q : ℤ × Option Addr). (q.0 ≡ r.0) × ReadsReference (Place v l) q.1 r.1) E.result k
+    let k : ((v.belongings c).result.0 ≡ r.0) × ReadsReference (LiesWithOwner v l) (v.belongings c).result.1 r.1 = subst (HoldsRead (LiesWithOwner v l) (v.belongings c) E.task) E.ended (V.tasks c E.task rests E.is) in
+    subst (λ (q : ℤ × Option Addr). (q.0 ≡ r.0) × ReadsReference (LiesWithOwner v l) q.1 r.1) E.result k
 result_read v l c r a V rests (inr E) =
-    let k : FramesAreRead (Place v l) (E.frame ∷ E.below) (E.task.top ∷ E.task.below) =
-    subst (λ fs. FramesAreRead (Place v l) fs (E.task.top ∷ E.task.below)) E.frames (subst (HoldsRead (Place v l) (v.belongings c) E.task) E.runs (V.tasks c E.task rests E.is)) in
-    subst (λ (q : ℤ × Option Addr). (q.0 ≡ r.0) × ReadsReference (Place v l) q.1 r.1) (sym E.result)
-    (subst (λ (q : ℤ × Option Name). ((unwrap_or (slice_get E.frame.ints 0) (pos 0)) ≡ q.0) × ReadsReference (Place v l) (ref_of E.frame 0) q.1) (sym E.returns)
-    (ap (λ is. unwrap_or (slice_get is 0) (pos 0)) k.0.ints, field_of (Place v l) E.frame.refs E.task.top.refs 0 k.0.refs))
+    let k : FramesAreRead (LiesWithOwner v l) (E.frame ∷ E.below) (E.task.top ∷ E.task.below) =
+    subst (λ fs. FramesAreRead (LiesWithOwner v l) fs (E.task.top ∷ E.task.below)) E.frames (subst (HoldsRead (LiesWithOwner v l) (v.belongings c) E.task) E.runs (V.tasks c E.task rests E.is)) in
+    subst (λ (q : ℤ × Option Addr). (q.0 ≡ r.0) × ReadsReference (LiesWithOwner v l) q.1 r.1) (sym E.result)
+    (subst (λ (q : ℤ × Option Name). ((unwrap_or (slice_get E.frame.ints 0) (pos 0)) ≡ q.0) × ReadsReference (LiesWithOwner v l) (ref_of E.frame 0) q.1) (sym E.returns)
+    (ap (λ is. unwrap_or (slice_get is 0) (pos 0)) k.0.ints, field_of (LiesWithOwner v l) E.frame.refs E.task.top.refs 0 k.0.refs))
 
 -- THE PART OF r, IF ALL ON WHICH IT DEPENDS IS UNCHANGED: q's steps lead from l to lq, and the entry then leads to l'
-module _ (p : ProgramText) (s : SettingsValue) (q r : Part) (v : Memory) (l l' : Ledger) (x y : Task) (K : Knows l) (K' : Knows l') (F : FitsAt p s q v l) (G : FitsAt p s r v l) (O : RunsWithPart l q x) (P : RunsWithPart l r y) (ne : q.task ≡ r.task → ⊥)
+module _ (p : ProgramText) (s : SettingsValue) (q r : Part) (v : Memory) (l l' : Ledger) (x y : Task) (K : LedgerIsKnown l) (K' : LedgerIsKnown l') (F : FitsAt p s q v l) (G : FitsAt p s r v l) (O : RunsWithPart l q x) (P : RunsWithPart l r y) (ne : q.task ≡ r.task → ⊥)
     (E : AlikeFor r.task (ahead p q l) l') where
   abbrev lq : Ledger
   lq = ahead p q l
@@ -74,7 +74,7 @@ module _ (p : ProgramText) (s : SettingsValue) (q r : Part) (v : Memory) (l l' :
   pub apart' : (z : ℕ) → Rests l' z → z ≡ r.task → ⊥
   apart' z h e = absurd (none_some (sym h ∙ (ap (λ k. (heap_of l' k).worker) e ∙ out')))
 
-  pub fits_by : (v' : Memory) → Stands (with_belongings v' r.task r.belongings) lr' → FitsAt p s r v' l'
+  pub fits_by : (v' : Memory) → MemoryStands (with_belongings v' r.task r.belongings) lr' → FitsAt p s r v' l'
   fits_by v' V = record { worker = G.worker; out = out'; few = G.few; private = then'.0; stands = V }
 
   -- q's task forks

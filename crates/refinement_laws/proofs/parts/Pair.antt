@@ -1,13 +1,13 @@
 -- Two parts that fit a memory fit it together.
-use Rattle.refinement_laws.proofs.Common.{◌≡◌, ap, sym, ◌∙◌, ProgramText, SettingsValue, Task, MachineState, is_waiting, is_joined, running_tells, Ledger, let_go, task_steps, heap_machine, Memory, Stands, Part, FitsAt, ahead, with_belongings, ArePrivate, StepsAlone, AlikeFor, Knows, IsSteady, RunsWithPart, Beside, with_off, alike_steps, steps_limit, steps_end, steps_off, steps_know, rested_knows, leaf_alone, steady_same}
+use Rattle.refinement_laws.proofs.Common.{◌≡◌, ap, sym, ◌∙◌, ProgramText, SettingsValue, Task, MachineState, is_waiting, is_joined, running_tells, Ledger, let_go, task_steps, heap_machine, Memory, MemoryStands, Part, FitsAt, ahead, with_belongings, ArePrivate, StepsAlone, AlikeFor, LedgerIsKnown, IsSteady, RunsWithPart, Beside, with_off, alike_steps, steps_limit, steps_end, steps_off, steps_know, rested_knows, leaf_alone, steady_same}
 use Rattle.refinement_laws.proofs.parts.Along.{rested_alike, alone_ahead, alike_alone}
 use Rattle.refinement_laws.proofs.parts.Beside.{together}
 use Rattle.refinement_laws.proofs.parts.Parts.{ahead_alone, ahead_sound}
 
-pub knows_ahead : (p : ProgramText) (s : SettingsValue) (q : Part) (v : Memory) (l : Ledger) (x : Task) → Knows l → FitsAt p s q v l → RunsWithPart l q x → Knows (ahead p q l)
+pub knows_ahead : (p : ProgramText) (s : SettingsValue) (q : Part) (v : Memory) (l : Ledger) (x : Task) → LedgerIsKnown l → FitsAt p s q v l → RunsWithPart l q x → LedgerIsKnown (ahead p q l)
 knows_ahead p s q v l x K F O = rested_knows (task_steps p l q.task q.fresh) q.task (steps_know p s q.task q.fresh l x K O.steady O.task O.runs O.can F.private)
 
-module _ (p : ProgramText) (s : SettingsValue) (q r : Part) (v : Memory) (l : Ledger) (x y : Task) (K : Knows l) (F : FitsAt p s q v l) (G : FitsAt p s r v l) (O : RunsWithPart l q x) (P : RunsWithPart l r y) (ne : q.task ≡ r.task → ⊥) where
+module _ (p : ProgramText) (s : SettingsValue) (q r : Part) (v : Memory) (l : Ledger) (x y : Task) (K : LedgerIsKnown l) (F : FitsAt p s q v l) (G : FitsAt p s r v l) (O : RunsWithPart l q x) (P : RunsWithPart l r y) (ne : q.task ≡ r.task → ⊥) where
   abbrev lq : Ledger
   lq = ahead p q l
 
@@ -18,7 +18,7 @@ module _ (p : ProgramText) (s : SettingsValue) (q r : Part) (v : Memory) (l : Le
   abbrev both : Ledger
   both = ahead p r lq
 
-  pub knows : Knows lq
+  pub knows : LedgerIsKnown lq
   knows = knows_ahead p s q v l x K F O
 
   pub N : StepsAlone l lq q.task
@@ -55,5 +55,5 @@ module _ (p : ProgramText) (s : SettingsValue) (q r : Part) (v : Memory) (l : Le
   }
 
   -- so the memory with the belongings of both stands for the accounts with the steps of both
-  pub fit_together : Stands (with_belongings (with_belongings v q.task q.belongings) r.task r.belongings) both
+  pub fit_together : MemoryStands (with_belongings (with_belongings v q.task q.belongings) r.task r.belongings) both
   fit_together = together v lq lr both q.task r.task q.belongings r.belongings beside F.stands G.stands

@@ -1,5 +1,5 @@
 -- A step that goes on and sets at most a number register: the part of its worker fits after it.
-use Rattle.refinement_laws.proofs.Common.{◌≡◌, ℕ, ℤ, false, Some, List, ◌∷◌, length, slice_get, slice_set, refl, ap, sym, subst, ◌∙◌, same_Some, got_same, Addr, Located, ProgramText, SettingsValue, Name, Object, Running, Task, MachineState, object_at, row_of, is_waiting, Frame as ModelFrame, Ledger, heap_of, or_fresh, let_go, task_steps, SoundLedger, Rests, StepsAlone, rested, onward_with, stepped_by, both_rested, rest_heaps, rested_worker, rested_sound, Belongings, Memory, In, object_name, objects, objects_of_chunks, Lies, IsModelObject, FrameIsRead, FramesAreRead, HoldsRead, TaskIsRead, Place, FitsAt, with_belongings, part_for, StepsInBelongings, gone_on, object_kept, task_kept, belongings_alike, StepsTo, heap_machine, CallFrame, place_own, at_belongings, off_belongings, FramesGo, NumbersGo}
+use Rattle.refinement_laws.proofs.Common.{◌≡◌, ℕ, ℤ, false, Some, List, ◌∷◌, length, slice_get, slice_set, refl, ap, sym, subst, ◌∙◌, same_Some, got_same, Addr, Located, ProgramText, SettingsValue, Name, Object, Running, Task, MachineState, object_at, row_of, is_waiting, Frame as ModelFrame, Ledger, heap_of, or_fresh, let_go, task_steps, SoundLedger, Rests, StepsAlone, rested, onward_with, stepped_by, both_rested, rest_heaps, rested_worker, rested_sound, Belongings, Memory, In, object_name, objects, objects_of_chunks, Lies, IsModelObject, FrameIsRead, FramesAreRead, HoldsRead, TaskIsRead, LiesWithOwner, FitsAt, with_belongings, part_for, StepsInBelongings, gone_on, object_kept, task_kept, belongings_alike, StepsTo, heap_machine, CallFrame, place_own, at_belongings, off_belongings, FramesGo, NumbersGo}
 use Rattle.refinement_laws.proofs.whole.HandedBack.{alive_machine}
 use Rattle.refinement_laws.proofs.parts.Workers.{part_now}
 use Rattle.refinement.proofs.below.ledger_step_laws.BeforeLast as before_last
@@ -8,7 +8,7 @@ use Rattle.refinement.proofs.changes.Target.{goes_on}
 module _ (p : ProgramText) (s : SettingsValue) (t k : ℕ) (h : Belongings) (v : Memory) (l l' : Ledger) (w : ℕ) (x : Task) (top : ModelFrame) (outs : List ℤ) (f gone : CallFrame) (fs : List CallFrame) (S : SoundLedger (task_steps p l t k)) (S' : SoundLedger l')
     (F : FitsAt p s (part_for s t h k) v l) (held : (heap_of (task_steps p l t k) t).worker ≡ Some w) (is : slice_get (task_steps p l t k).machine.tasks t ≡ Some x) (runs : x.status ≡ Running) (A : StepsAlone (task_steps p l t k) l' t)
     (goes : l' ≡ stepped_by (task_steps p l t k) (record (task_steps p l t k).machine { tasks = slice_set (task_steps p l t k).machine.tasks t (record x { top = top }); outputs = outs })) (frames : h.frames ≡ f ∷ fs)
-    (reads : FrameIsRead (Place (with_belongings v t h) (rested (task_steps p l t k) t)) f x.top → FrameIsRead (Place (with_belongings v t h) (rested (task_steps p l t k) t)) gone top) where
+    (reads : FrameIsRead (LiesWithOwner (with_belongings v t h) (rested (task_steps p l t k) t)) f x.top → FrameIsRead (LiesWithOwner (with_belongings v t h) (rested (task_steps p l t k) t)) gone top) where
   abbrev m : Ledger
   m = task_steps p l t k
 
@@ -70,7 +70,7 @@ module _ (p : ProgramText) (s : SettingsValue) (t k : ℕ) (h : Belongings) (v :
     stays = λ n a i. subst (λ ks. Lies ks n a) (sym chunks_same) i;
   }
 
-  place : (n : Name) (a : Addr) → Place vt lt n a → Place vt' lt' n a
+  place : (n : Name) (a : Addr) → LiesWithOwner vt lt n a → LiesWithOwner vt' lt' n a
   place n a = place_own vt vt' lt lt' t (rested_sound m t S) (rested_sound l' t S') F.stands alone rests (rested_worker l' t) idle at_step n a
 
   abbrev z' : Task
@@ -79,18 +79,18 @@ module _ (p : ProgramText) (s : SettingsValue) (t k : ℕ) (h : Belongings) (v :
   at_lt' : slice_get lt'.machine.tasks t ≡ Some z'
   at_lt' = ap (λ (z : MachineState). slice_get z.tasks t) el ∙ (ap (λ (z : Ledger). slice_get z.machine.tasks t) goes ∙ got_same m.machine.tasks t x z' is)
 
-  read_then : FramesAreRead (Place vt lt) (f ∷ fs) (x.top ∷ x.below)
-  read_then = subst (λ gs. FramesAreRead (Place vt lt) gs (x.top ∷ x.below)) (ap (λ (z : Belongings). z.frames) (at_belongings v t h) ∙ frames) (subst (HoldsRead (Place vt lt) (vt.belongings t) x) runs (F.stands.tasks t x rests at_lt))
+  read_then : FramesAreRead (LiesWithOwner vt lt) (f ∷ fs) (x.top ∷ x.below)
+  read_then = subst (λ gs. FramesAreRead (LiesWithOwner vt lt) gs (x.top ∷ x.below)) (ap (λ (z : Belongings). z.frames) (at_belongings v t h) ∙ frames) (subst (HoldsRead (LiesWithOwner vt lt) (vt.belongings t) x) runs (F.stands.tasks t x rests at_lt))
 
-  read_now : TaskIsRead (Place vt lt) (vt'.belongings t) z'
+  read_now : TaskIsRead (LiesWithOwner vt lt) (vt'.belongings t) z'
   read_now =
-      subst (HoldsRead (Place vt lt) (vt'.belongings t) z') (sym runs)
-      (subst (λ gs. FramesAreRead (Place vt lt) gs (top ∷ x.below)) (sym (ap (λ (z : Belongings). z.frames) (at_belongings v t g))) (reads read_then.0, read_then.1))
+      subst (HoldsRead (LiesWithOwner vt lt) (vt'.belongings t) z') (sym runs)
+      (subst (λ gs. FramesAreRead (LiesWithOwner vt lt) gs (top ∷ x.below)) (sym (ap (λ (z : Belongings). z.frames) (at_belongings v t g))) (reads read_then.0, read_then.1))
 
-  content : (o : Located) → In (objects vt' t) o → (y : Object) × (object_at lt'.machine.store (object_name o) ≡ Some y) × IsModelObject (Place vt' lt') o y
+  content : (o : Located) → In (objects vt' t) o → (y : Object) × (object_at lt'.machine.store (object_name o) ≡ Some y) × IsModelObject (LiesWithOwner vt' lt') o y
   content o i =
       let q = F.stands.contents t o rests (subst (λ ks. In (objects_of_chunks ks) o) chunks_same i) in
-      (q.0, store_same (object_name o) ∙ q.1, object_kept (Place vt lt) (Place vt' lt') o q.0 (λ n j. place n) q.2)
+      (q.0, store_same (object_name o) ∙ q.1, object_kept (LiesWithOwner vt lt) (LiesWithOwner vt' lt') o q.0 (λ n j. place n) q.2)
 
   pub frames_step : StepsTo v l' t h g
   frames_step = (
@@ -98,7 +98,7 @@ module _ (p : ProgramText) (s : SettingsValue) (t k : ℕ) (h : Belongings) (v :
     record {
       belongings = belongings_alike vt vt' lt lt' t chunks_same (seen (λ z. z.room) refl) (seen (λ z. z.since) refl) (seen (λ z. z.count) refl) (λ n e. e) heap_same row_same (alone.tree.joins t) (F.stands.belongings t rests);
       contents = content;
-      task = λ y e. subst (λ (z : Task). TaskIsRead (Place vt' lt') (vt'.belongings t) z) (same_Some z' y (sym at_lt' ∙ e)) (task_kept (Place vt lt) (Place vt' lt') (vt'.belongings t) z' (λ n j. place n) read_now);
+      task = λ y e. subst (λ (z : Task). TaskIsRead (LiesWithOwner vt' lt') (vt'.belongings t) z) (same_Some z' y (sym at_lt' ∙ e)) (task_kept (LiesWithOwner vt lt) (LiesWithOwner vt' lt') (vt'.belongings t) z' (λ n j. place n) read_now);
     },
     refl,
   )

@@ -1,35 +1,35 @@
 -- The statements of lemmas on parts, by the current accounts.
-use Rattle.refinement_laws.proofs.Common.{AllNoted, CopyFits, EndsAt, Heap, Ledger, heap_of, with_heap, collected, SoundLedger, ◌≡◌, ℕ, ℤ, false, Option, Some, List, slice_get, Addr, ProgramText, SettingsValue, Name, Object, Running, Task, is_waiting, CallFrame, ref_of, Stands, Belongings, Memory, Rests, rested, StepsAlone, WorkerTakes, SameTasks, Knows, Leaves, JoinsTasks, TasksCanJoin, ForksTask, StoresOne, EndsTask, StoresNumber, Part, FitsAt, with_belongings, ahead, part_for, SameBut, SameObjects, JoinsBelongings, ForksBelongings, StoresAt, StepsInBelongings, BelongingsAreRead, HasResult, EndsBelongings, StoresNumberAt, IsSteady, RunsWithPart, AreOut}
+use Rattle.refinement_laws.proofs.Common.{AllNoted, CopyFits, EndsAt, Heap, Ledger, heap_of, with_heap, collected, SoundLedger, ◌≡◌, ℕ, ℤ, false, Option, Some, List, slice_get, Addr, ProgramText, SettingsValue, Name, Object, Running, Task, is_waiting, CallFrame, ref_of, MemoryStands, Belongings, Memory, Rests, rested, StepsAlone, WorkerTakes, SameTasks, LedgerIsKnown, Leaves, JoinsTasks, TasksCanJoin, ForksTask, StoresOne, EndsTask, StoresNumber, Part, FitsAt, with_belongings, ahead, part_for, SameBut, SameObjects, JoinsBelongings, ForksBelongings, StoresAt, StepsInBelongings, BelongingsAreRead, HasResult, EndsBelongings, StoresNumberAt, IsSteady, RunsWithPart, AreOut}
 
 abbrev pub ForksLeaveFitting : Type 0
 ForksLeaveFitting =
-    (p : ProgramText) (s : SettingsValue) (q : Part) (v v' : Memory) (l l' : Ledger) (a b f i : ℕ) (z : Task) → Knows l → Knows l' → FitsAt p s q v l
+    (p : ProgramText) (s : SettingsValue) (q : Part) (v v' : Memory) (l l' : Ledger) (a b f i : ℕ) (z : Task) → LedgerIsKnown l → LedgerIsKnown l' → FitsAt p s q v l
     → z.status ≡ Running → ForksTask (ahead p q l) l' q.task a b f i z → ForksBelongings (with_belongings v q.task q.belongings) v' q.task a b f i
     → (r : Part) (x y : Task) → AreOut l q r x y → Leaves r.task (ahead p q l) l' → FitsAt p s r v l → FitsAt p s r v' l'
 
 abbrev pub JoinsLeaveFitting : Type 0
 JoinsLeaveFitting =
-    (p : ProgramText) (s : SettingsValue) (q : Part) (v v' : Memory) (l l' : Ledger) (j c d : ℕ) (z : Task) (rl rr : ℤ × Option Name) (al ar : ℤ × Option Addr) → Knows l → Knows l' → FitsAt p s q v l
+    (p : ProgramText) (s : SettingsValue) (q : Part) (v v' : Memory) (l l' : Ledger) (j c d : ℕ) (z : Task) (rl rr : ℤ × Option Name) (al ar : ℤ × Option Addr) → LedgerIsKnown l → LedgerIsKnown l' → FitsAt p s q v l
     → JoinsTasks (ahead p q l) l' j c d z rl rr → TasksCanJoin (ahead p q l) j c d z → JoinsBelongings (with_belongings v q.task q.belongings) v' j c d al ar
     → HasResult (with_belongings v q.task q.belongings) (ahead p q l) c rl al → HasResult (with_belongings v q.task q.belongings) (ahead p q l) d rr ar
     → (r : Part) (x y : Task) → AreOut l q r x y → Leaves r.task (ahead p q l) l' → FitsAt p s r v l → FitsAt p s r v' l'
 
 abbrev pub FinishesLeaveFitting : Type 0
 FinishesLeaveFitting =
-    (p : ProgramText) (s : SettingsValue) (q : Part) (v v' : Memory) (l l' : Ledger) (z : Task) (f : CallFrame) (fs : List CallFrame) → Knows l → Knows l' → FitsAt p s q v l
+    (p : ProgramText) (s : SettingsValue) (q : Part) (v v' : Memory) (l l' : Ledger) (z : Task) (f : CallFrame) (fs : List CallFrame) → LedgerIsKnown l → LedgerIsKnown l' → FitsAt p s q v l
     → EndsTask (ahead p q l) l' q.task z → EndsBelongings (with_belongings v q.task q.belongings) v' q.task f fs
     → (r : Part) (x y : Task) → AreOut l q r x y → Leaves r.task (ahead p q l) l' → FitsAt p s r v l → FitsAt p s r v' l'
 
 -- after a store its worker still holds the task, with the belongings g
 abbrev pub StoresLeaveFitting : Type 0
 StoresLeaveFitting =
-    (p : ProgramText) (s : SettingsValue) (q : Part) (v v' : Memory) (l l' : Ledger) (g : Belongings) (w : ℕ) (z : Task) (n : Name) (o : Object) (ro rv i : ℕ) (c : Option (ℕ × ℤ)) (f : CallFrame) (fs : List CallFrame) (a : Addr) → Knows l → Knows l' → FitsAt p s q v l
+    (p : ProgramText) (s : SettingsValue) (q : Part) (v v' : Memory) (l l' : Ledger) (g : Belongings) (w : ℕ) (z : Task) (n : Name) (o : Object) (ro rv i : ℕ) (c : Option (ℕ × ℤ)) (f : CallFrame) (fs : List CallFrame) (a : Addr) → LedgerIsKnown l → LedgerIsKnown l' → FitsAt p s q v l
     → (heap_of l' q.task).worker ≡ Some w → StoresOne (ahead p q l) (rested l' q.task) q.task z n o ro rv i c → StoresAt (with_belongings v q.task q.belongings) (with_belongings v' q.task g) (ahead p q l) q.task f fs a rv i c → ref_of f ro ≡ Some a
     → (r : Part) (x y : Task) → AreOut l q r x y → Leaves r.task (ahead p q l) l' → FitsAt p s r v l → FitsAt p s r v' l'
 
 abbrev pub NumbersLeaveFitting : Type 0
 NumbersLeaveFitting =
-    (p : ProgramText) (s : SettingsValue) (q : Part) (v v' : Memory) (l l' : Ledger) (g : Belongings) (w : ℕ) (z : Task) (n : Name) (o : Object) (ro rv i : ℕ) (f : CallFrame) (fs : List CallFrame) (a : Addr) → Knows l → Knows l' → FitsAt p s q v l
+    (p : ProgramText) (s : SettingsValue) (q : Part) (v v' : Memory) (l l' : Ledger) (g : Belongings) (w : ℕ) (z : Task) (n : Name) (o : Object) (ro rv i : ℕ) (f : CallFrame) (fs : List CallFrame) (a : Addr) → LedgerIsKnown l → LedgerIsKnown l' → FitsAt p s q v l
     → (heap_of l' q.task).worker ≡ Some w → StoresNumber (ahead p q l) (rested l' q.task) q.task z n o ro rv i → StoresNumberAt (with_belongings v q.task q.belongings) (with_belongings v' q.task g) q.task f fs a rv i → ref_of f ro ≡ Some a
     → (r : Part) (x y : Task) → AreOut l q r x y → Leaves r.task (ahead p q l) l' → FitsAt p s r v l → FitsAt p s r v' l'
 
@@ -71,13 +71,13 @@ StepsFit =
 -- the end of a copy's collection, for others
 abbrev pub CopiesLeave : Type 0
 CopiesLeave =
-    (p : ProgramText) (s : SettingsValue) (t : ℕ) (h h' : Belongings) (f : Addr → Addr) (v v' : Memory) (l : Ledger) (x : Task) (hs : Heap) → Knows l → Knows (with_heap l t (collected l.machine)) → slice_get l.machine.tasks t ≡ Some x → x.status ≡ Running → slice_get l.heaps t ≡ Some hs
+    (p : ProgramText) (s : SettingsValue) (t : ℕ) (h h' : Belongings) (f : Addr → Addr) (v v' : Memory) (l : Ledger) (x : Task) (hs : Heap) → LedgerIsKnown l → LedgerIsKnown (with_heap l t (collected l.machine)) → slice_get l.machine.tasks t ≡ Some x → x.status ≡ Running → slice_get l.heaps t ≡ Some hs
     → CopyFits p s t h h' f v l → EndsAt v v' t h' f → (r : Part) (y : Task) → RunsWithPart l r y → (t ≡ r.task → ⊥) → FitsAt p s r v l → FitsAt p s r v' (with_heap l t (collected l.machine))
 
 abbrev pub NotesAhead : Type 0
 NotesAhead =
-    (p : ProgramText) (s : SettingsValue) (q : Part) (v : Memory) (l : Ledger) (x : Task) → Knows l → FitsAt p s q v l → RunsWithPart l q x → AllNoted v l → AllNoted (with_belongings v q.task q.belongings) (ahead p q l)
+    (p : ProgramText) (s : SettingsValue) (q : Part) (v : Memory) (l : Ledger) (x : Task) → LedgerIsKnown l → FitsAt p s q v l → RunsWithPart l q x → AllNoted v l → AllNoted (with_belongings v q.task q.belongings) (ahead p q l)
 
 abbrev pub NotesBack : Type 0
 NotesBack =
-    (t : ℕ) (g : Belongings) (v : Memory) (l : Ledger) → is_waiting (slice_get l.machine.tasks t) ≡ false → Stands (with_belongings v t g) (rested l t) → AllNoted (with_belongings v t g) (rested l t) → AllNoted v l
+    (t : ℕ) (g : Belongings) (v : Memory) (l : Ledger) → is_waiting (slice_get l.machine.tasks t) ≡ false → MemoryStands (with_belongings v t g) (rested l t) → AllNoted (with_belongings v t g) (rested l t) → AllNoted v l

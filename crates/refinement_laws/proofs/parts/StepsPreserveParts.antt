@@ -1,5 +1,5 @@
 -- An entry of steps keeps the parts of others fitting.
-use Rattle.refinement_laws.proofs.Common.{◌≡◌, ℕ, ℤ, pos, ◌+◌, Option, Some, None, length, slice_get, inl, inr, refl, ap, sym, subst, ◌∙◌, same_Some, Instr, Set, Mov, Movr, Nil as NilOf, Calc, Same, Jmp, Jz, Newm, Pack, Getr, Geti, Putr, Puti, Cntr, Cnti, Freeze, Cas, Call, Par, Ret, Out, ProgramText, SettingsValue, Task, MachineState, place_in, int_in, runs, is_running, Ledger, heap_of, let_go, task_steps, StepsAlone, Knows, Leaves, rested, StoresOne, WritesOther, Halts, LastKind, Private, Reading, Writing, Printing, Forking, Ending, Joining, Finishing, Halting, IsOfKind, GoesOn, Splits, RunsPrivateSteps, private_alone, with_off, steps_limit, steps_end, steps_off, worker_step, steps_worker, is_store, is_swap, is_number, root_alone, alone_along, Belongings, Memory, Part, FitsAt, StillFits, with_belongings, ahead, part_for, StoresAt, StoresNumberAt, RunsWithPart, IsSteady, AreOut, Stores, StoresInto, EntryMakes, taken_by, ran_fits, heap_machine, steady_same}
+use Rattle.refinement_laws.proofs.Common.{◌≡◌, ℕ, ℤ, pos, ◌+◌, Option, Some, None, length, slice_get, inl, inr, refl, ap, sym, subst, ◌∙◌, same_Some, Instr, Set, Mov, Movr, Nil as NilOf, Calc, Same, Jmp, Jz, Newm, Pack, Getr, Geti, Putr, Puti, Cntr, Cnti, Freeze, Cas, Call, Par, Ret, Out, ProgramText, SettingsValue, Task, MachineState, place_in, int_in, runs, is_running, Ledger, heap_of, let_go, task_steps, StepsAlone, LedgerIsKnown, Leaves, rested, StoresOne, WritesOther, Halts, LastKind, Private, Reading, Writing, Printing, Forking, Ending, Joining, Finishing, Halting, IsOfKind, GoesOn, Splits, RunsPrivateSteps, private_alone, with_off, steps_limit, steps_end, steps_off, worker_step, steps_worker, is_store, is_swap, is_number, root_alone, alone_along, Belongings, Memory, Part, FitsAt, FitsAfterRun, with_belongings, ahead, part_for, StoresAt, StoresNumberAt, RunsWithPart, IsSteady, AreOut, Stores, StoresInto, EntryMakes, taken_by, ran_fits, heap_machine, steady_same}
 use Rattle.refinement.specs.below.hh_model.{End}
 use Rattle.refinement_laws.proofs.parts.Along.{fits_alone}
 use Rattle.refinement_laws.proofs.parts.Leave as leave
@@ -111,11 +111,11 @@ module _ (p : ProgramText) (s : SettingsValue) (v v' : Memory) (l l' : Ledger) (
   abbrev going : mk.machine.end ≡ None
   going = before_last.going p s l l' t w k E
 
-  abbrev known : Knows mk
+  abbrev known : LedgerIsKnown mk
   known = before_last.known p s l l' t w k E
 
   module _ (r : Part) (y : Task) (P : RunsWithPart l r y) (ne : t ≡ r.task → ⊥) (G : FitsAt p s r v l) where
-    aside_fits : l'.machine.end ≡ None → FitsAt p s r v' l' → StillFits p s r v' l'
+    aside_fits : l'.machine.end ≡ None → FitsAt p s r v' l' → FitsAfterRun p s r v' l'
     aside_fits on fit = subst (FitsAt p s r v') (sym (aside_is l' on)) fit
 
     abbrev alone : StepsAlone l mk t
@@ -130,7 +130,7 @@ module _ (p : ProgramText) (s : SettingsValue) (v v' : Memory) (l l' : Ledger) (
         fits_alone p s r v l mk t w y ne alone (steps_limit p s t k l T.private) (steps_end p s t k l T.private) (steps_off p s t k l r.task (λ e. ne (sym e)) T.private) (sym (steps_worker p s t k l T.private) ∙ E.out) E.out
         (before_last.idle_first p s l l' t w k E) E.knows known P.steady P.task P.runs P.can G
 
-    all : (kind : LastKind) (K : IsOfKind p mk l' t T.task T.line kind) → (GoesOn kind → l'.machine.end ≡ None) → FitsAt p s (part_for s t h (taken_by kind k)) v l → EntryMakes p v v' mk l' t h T.task T.line kind K → StillFits p s r v' l'
+    all : (kind : LastKind) (K : IsOfKind p mk l' t T.task T.line kind) → (GoesOn kind → l'.machine.end ≡ None) → FitsAt p s (part_for s t h (taken_by kind k)) v l → EntryMakes p v v' mk l' t h T.task T.line kind K → FitsAfterRun p s r v' l'
     all Private K on F C = aside_fits (on tt) (preserved_by_kind p s v v' l l' t w k h E (on tt) r y P ne G Private K F C)
     all Reading K on F C = aside_fits (on tt) (preserved_by_kind p s v v' l l' t w k h E (on tt) r y P ne G Reading K F C)
     all Writing K on F C = aside_fits (on tt) (preserved_by_kind p s v v' l l' t w k h E (on tt) r y P ne G Writing K F C)
@@ -142,11 +142,11 @@ module _ (p : ProgramText) (s : SettingsValue) (v v' : Memory) (l l' : Ledger) (
     all Finishing d on F C =
         absurd (ne (sym (root_alone mk known.sound E.root t r.task T.task y T.at.task (ap runs T.at.runs) d.root (alone.tasks r.task (λ e. ne (sym e)) ∙ P.task) P.runs)))
     all Halting n on F C =
-        subst (λ (z : Memory). StillFits p s r z l') (sym C) (fits_halt p s v mk l' known.sound going n r steady fits_then)
+        subst (λ (z : Memory). FitsAfterRun p s r z l') (sym C) (fits_halt p s v mk l' known.sound going n r steady fits_then)
 
-    pub ran_leaves_still : FitsAt p s (part_for s t h (taken_by T.kind k)) v l → EntryMakes p v v' mk l' t h T.task T.line T.kind T.last → StillFits p s r v' l'
+    pub ran_leaves_still : FitsAt p s (part_for s t h (taken_by T.kind k)) v l → EntryMakes p v v' mk l' t h T.task T.line T.kind T.last → FitsAfterRun p s r v' l'
     ran_leaves_still = all T.kind T.last T.on
 
   -- and the part of the task itself, if the run halts
-  pub halt_fits : FitsAt p s (part_for s t h k) v l → Halts mk l' → StillFits p s (part_for s t h 0) v l'
+  pub halt_fits : FitsAt p s (part_for s t h k) v l → Halts mk l' → FitsAfterRun p s (part_for s t h 0) v l'
   halt_fits F H = fits_halt p s v mk l' known.sound going H (part_for s t h 0) (inl refl) (ran_fits p s (part_for s t h k) v l w F E.out)

@@ -1,5 +1,5 @@
 -- An entry of one worker keeps what every other holds fitting.
-use Rattle.refinement_laws.proofs.Common.{◌≡◌, ℕ, true, Some, None, slice_get, inr, ap, ap₂, sym, subst, ◌∙◌, ◌+◌, Instr, Set, Mov, Movr, Nil as NilOf, Calc, Same, Jmp, Jz, Newm, Pack, Getr, Geti, Putr, Puti, Cntr, Cnti, Freeze, Cas, Call, Par, Ret, Out, ProgramText, SettingsValue, MachineState, can_step, goes_on, is_joined, is_running, runs, running_tells, leaf_alone, SameOf, alike_steps, steps_limit, steps_end, steps_off, root_alone, Ledger, heap_of, or_fresh, task_steps, AlikeFor, ArePrivate, Knows, aside, WritesOther, LastKind, Private, Reading, Writing, Printing, Forking, Ending, Joining, Finishing, Halting, IsOfKind, GoesOn, Halts, RunsPrivateSteps, Splits, Belongings, Memory, Part, FitsAt, part_for, ahead, AreOut, RunsWithPart, IsSteady, PartFits, Stores, EntryMakes, taken_by, WorkerFits, steady_same, RanLeaves}
+use Rattle.refinement_laws.proofs.Common.{◌≡◌, ℕ, true, Some, None, slice_get, inr, ap, ap₂, sym, subst, ◌∙◌, ◌+◌, Instr, Set, Mov, Movr, Nil as NilOf, Calc, Same, Jmp, Jz, Newm, Pack, Getr, Geti, Putr, Puti, Cntr, Cnti, Freeze, Cas, Call, Par, Ret, Out, ProgramText, SettingsValue, MachineState, can_step, goes_on, is_joined, is_running, runs, running_tells, leaf_alone, SameOf, alike_steps, steps_limit, steps_end, steps_off, root_alone, Ledger, heap_of, or_fresh, task_steps, AlikeFor, ArePrivate, LedgerIsKnown, aside, WritesOther, LastKind, Private, Reading, Writing, Printing, Forking, Ending, Joining, Finishing, Halting, IsOfKind, GoesOn, Halts, RunsPrivateSteps, Splits, Belongings, Memory, Part, FitsAt, part_for, ahead, AreOut, RunsWithPart, IsSteady, PartFits, Stores, EntryMakes, taken_by, WorkerFits, steady_same, RanLeaves}
 use Rattle.refinement_laws.proofs.parts.Alike as alike
 use Rattle.refinement_laws.proofs.parts.Along.{alike_alone}
 use Rattle.refinement_laws.proofs.parts.Copies.{part_stays, rested_heap}
@@ -61,11 +61,11 @@ module _ (p : ProgramText) (s : SettingsValue) (v v' : Memory) (l l' : Ledger) (
       (λ z. ne (leaf_alone l E.knows.sound t r.task (before_last.idle_first p s l l' t w k E) (ap is_joined R.is ∙ (running_tells R.task.status R.runs).0) z))
       (before_last.alone p s l l' t w k E) (steps_limit p s t k l S.private) (steps_end p s t k l S.private) (steps_off p s t k l r.task (λ e. ne (sym e)) S.private)
 
-  abbrev know_m : Knows m
+  abbrev know_m : LedgerIsKnown m
   know_m = before_last.known p s l l' t w k E
 
   -- the heap's account after the part's steps, if the accounts agree for it
-  ahead_alike : (n : Ledger) → Knows n → AlikeFor r.task l n → ArePrivate p s n r.task r.fresh × (heap_of (ahead p r n) r.task ≡ heap_of (ahead p r l) r.task)
+  ahead_alike : (n : Ledger) → LedgerIsKnown n → AlikeFor r.task l n → ArePrivate p s n r.task r.fresh × (heap_of (ahead p r n) r.task ≡ heap_of (ahead p r l) r.task)
   ahead_alike n K A =
       let a = alike_steps p s r.task r.fresh l n R.task E.knows K R.steady A R.is R.runs (can p s r v l alive R) G.private in
       (a.0, rested_heap (task_steps p l r.task r.fresh) (task_steps p n r.task r.fresh) r.task a.1.heap)

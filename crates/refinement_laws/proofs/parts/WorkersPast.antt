@@ -1,5 +1,5 @@
 -- Entries without steps keep what every other worker holds fitting.
-use Rattle.refinement_laws.proofs.Common.{◌≡◌, ℕ, true, false, Some, None, is_none, slice_get, List, refl, ap, sym, subst, ◌∙◌, and_parts, length, none_is, none_some, ProgramText, EntryValue, SettingsValue, Took, Sweep, End as EndOf, MachineState, IsStored, is_running, is_waiting, Closed, runs_is, runs_tell, waiting_stops, Ledger, heap_of, collected, swept_heap, refusal, after, is_ready, is_out, ledger_of, is_legal, SoundLedger, none_unless, entry_sound, entry_tells, wait_tells, legal_sound, accepted_on, heap_of_task, running_at, Rests, Knows, with_off, took_takes, sweep_changes, end_changes, legal_knows, legal_alive, legal_idle, Memory, Part, FitsAt, WorkerFits, TookLeaves, QuietLeaves, SweepsLeave, EndsLeave}
+use Rattle.refinement_laws.proofs.Common.{◌≡◌, ℕ, true, false, Some, None, is_none, slice_get, List, refl, ap, sym, subst, ◌∙◌, and_parts, length, none_is, none_some, ProgramText, EntryValue, SettingsValue, Took, Sweep, End as EndOf, MachineState, IsStored, is_running, is_waiting, Closed, runs_is, runs_tell, waiting_stops, Ledger, heap_of, collected, swept_heap, refusal, after, is_ready, is_out, ledger_of, is_legal, SoundLedger, none_unless, entry_sound, entry_tells, wait_tells, legal_sound, accepted_on, heap_of_task, running_at, Rests, LedgerIsKnown, with_off, took_takes, sweep_changes, end_changes, legal_knows, legal_alive, legal_idle, Memory, Part, FitsAt, WorkerFits, TookLeaves, QuietLeaves, SweepsLeave, EndsLeave}
 use Rattle.refinement_laws.proofs.parts.Leave as leave
 use Rattle.refinement_laws.proofs.parts.Parts.{fits_sweep}
 use Rattle.refinement_laws.proofs.parts.QuietEntries.{quiet_by, quiet_off}
@@ -7,7 +7,7 @@ use Rattle.refinement_laws.proofs.whole.Together.{copies_leave}
 use Rattle.refinement_laws.proofs.parts.Workers.{part_now, out, to_same}
 
 -- what is known of accounts with the same machine
-knows_same : (l l' : Ledger) → l'.machine ≡ l.machine → SoundLedger l' → Knows l → Knows l'
+knows_same : (l l' : Ledger) → l'.machine ≡ l.machine → SoundLedger l' → LedgerIsKnown l → LedgerIsKnown l'
 knows_same l l' e S K = record {
   sound = S;
   stored = subst (λ (m : MachineState). Closed m.tasks m.store (IsStored m)) (sym e) K.stored;

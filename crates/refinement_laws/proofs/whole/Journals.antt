@@ -1,12 +1,12 @@
 -- The memory before any entry stands for the first accounts.
-use Rattle.refinement_laws.proofs.Common.{◌≡◌, ℕ, zero, suc, true, Some, None, slice_get, option_map, replicate, refl, sym, subst, ◌∙◌, ProgramText, SettingsValue, is_waiting, root, Name, Task, opening, false≢true, same_Some, none_some, Addr, Located, In, objects, AllRead, TaskIsRead, Rests, Place, BelongingsStand, Stands, none_laid}
+use Rattle.refinement_laws.proofs.Common.{◌≡◌, ℕ, zero, suc, true, Some, None, slice_get, option_map, replicate, refl, sym, subst, ◌∙◌, ProgramText, SettingsValue, is_waiting, root, Name, Task, opening, false≢true, same_Some, none_some, Addr, Located, In, objects, AllRead, TaskIsRead, Rests, LiesWithOwner, BelongingsStand, MemoryStands, none_laid}
 pub use Rattle.refinement_laws.specs.First.{first}
 
 nils : (at : Name → Addr → Type 0) (n : ℕ) → AllRead at (replicate n None) (replicate n None)
 nils at zero = tt
 nils at (suc n) = (tt, nils at n)
 
-pub first_stands : (p : ProgramText) (s : SettingsValue) → Stands (first p) (opening p s)
+pub first_stands : (p : ProgramText) (s : SettingsValue) → MemoryStands (first p) (opening p s)
 first_stands p s = record {
   made = λ k t e. none_some e;
   belongings = λ t r. belongings t;
@@ -50,8 +50,8 @@ first_stands p s = record {
       laid = none_laid;
     }
 
-    task : (t : ℕ) (x : Task) → Rests (opening p s) t → slice_get (opening p s).machine.tasks t ≡ Some x → TaskIsRead (Place (first p) (opening p s)) ((first p).belongings t) x
+    task : (t : ℕ) (x : Task) → Rests (opening p s) t → slice_get (opening p s).machine.tasks t ≡ Some x → TaskIsRead (LiesWithOwner (first p) (opening p s)) ((first p).belongings t) x
     task zero x r is =
-        subst (λ (y : Task). TaskIsRead (Place (first p) (opening p s)) ((first p).belongings 0) y) (same_Some (root p) x is)
-        (record { function = refl; next = refl; ints = refl; refs = nils (Place (first p) (opening p s)) 16 }, tt)
+        subst (λ (y : Task). TaskIsRead (LiesWithOwner (first p) (opening p s)) ((first p).belongings 0) y) (same_Some (root p) x is)
+        (record { function = refl; next = refl; ints = refl; refs = nils (LiesWithOwner (first p) (opening p s)) 16 }, tt)
     task (suc t) x r is = absurd cc

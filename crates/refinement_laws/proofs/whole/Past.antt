@@ -1,5 +1,5 @@
 -- The whole relation after each accepted entry without steps.
-use Rattle.refinement_laws.proofs.Common.{◌≡◌, ◌&&◌, not, ℕ, true, false, Option, Some, None, List, [], ◌∷◌, ◌++◌, slice_get, is_none, is_some, inl, inr, refl, ap, ap₂, sym, subst, ◌∙◌, false≢true, cases_eq, and_parts, and_from, none_of, none_some, Addr, ProgramText, IsProgram, SettingsValue, EntryValue, Took, End as EndOf, Sweep, MachineState, is_running, is_waiting, runs, can_step, goes_on, runs_is, runs_tell, waiting_stops, Heap, Ledger, heap_of, or_fresh, with_heap, collected, swept_heap, let_go, refusal, after, is_ready, is_out, ledger_of, is_legal, is_legal_from, after_all, opening, SoundLedger, tasks_are_out_once, none_unless, entry_tells, wait_tells, legal_sound, accepted_on, heap_of_task, running_at, heap_view, heap_machine, Rests, StepsAlone, WorkerTakes, rested, with_at, heap_then, took_takes, sweep_changes, end_changes, legal_knows, legal_alive, legal_idle, rested_changes, machine_alone, Begun, Belongings, Memory, Stands, AllNoted, MarksOn, NotesStay, OthersNotes, SameBut, SameObjects, KeepsJust, TreeCounts, BegunBy, StandsFor, CountsGo, IsQuiet, IsMarked, root_apart, ran_stands, CopyFits, EndsAt, part_before, with_belongings, released, renewed, swept}
+use Rattle.refinement_laws.proofs.Common.{◌≡◌, ◌&&◌, not, ℕ, true, false, Option, Some, None, List, [], ◌∷◌, ◌++◌, slice_get, is_none, is_some, inl, inr, refl, ap, ap₂, sym, subst, ◌∙◌, false≢true, cases_eq, and_parts, and_from, none_of, none_some, Addr, ProgramText, IsProgram, SettingsValue, EntryValue, Took, End as EndOf, Sweep, MachineState, is_running, is_waiting, runs, can_step, goes_on, runs_is, runs_tell, waiting_stops, Heap, Ledger, heap_of, or_fresh, with_heap, collected, swept_heap, let_go, refusal, after, is_ready, is_out, ledger_of, is_legal, is_legal_from, after_all, opening, SoundLedger, tasks_are_out_once, none_unless, entry_tells, wait_tells, legal_sound, accepted_on, heap_of_task, running_at, heap_view, heap_machine, Rests, StepsAlone, WorkerTakes, rested, with_at, heap_then, took_takes, sweep_changes, end_changes, legal_knows, legal_alive, legal_idle, rested_changes, machine_alone, Begun, Belongings, Memory, MemoryStands, AllNoted, MarksOn, NotesStay, OthersNotes, SameBut, SameObjects, KeepsJust, TreeCounts, BegunBy, StandsFor, CountsGo, IsQuiet, IsMarked, root_apart, ran_stands, CopyFits, EndsAt, part_before, with_belongings, released, renewed, swept}
 use Rattle.refinement_laws.proofs.notes.AllNotes.{sweeps_note, ends_note, steps_note, quiet_notes}
 use Rattle.refinement_laws.proofs.whole.Counts.{counts_stand}
 use Rattle.refinement_laws.proofs.parts.QuietEntries.{quiet_by, marked_or}
@@ -49,7 +49,7 @@ module _ (p : ProgramText) (s : SettingsValue) (journal : List EntryValue) (prog
       (legal_rests p s (journal ++ e ∷ []) (legal_more p s e journal (opening p s) legal (ap is_none accepted)))
 
   -- from its parts
-  pub put_together : (e : EntryValue) → refusal p s l e ≡ None → StandsFor v c l → Stands v' (after p s l e) → AllNoted v' (after p s l e) → ((u : ℕ) → Rests (after p s l e) u → Rests l u) → ((u : ℕ) → Rests (after p s l e) u → (v'.belongings u).begun ≡ (v.belongings u).begun) → CountsGo p s l c c' e.worker e.kind → StandsFor v' c' (after p s l e)
+  pub put_together : (e : EntryValue) → refusal p s l e ≡ None → StandsFor v c l → MemoryStands v' (after p s l e) → AllNoted v' (after p s l e) → ((u : ℕ) → Rests (after p s l e) u → Rests l u) → ((u : ℕ) → Rests (after p s l e) u → (v'.belongings u).begun ≡ (v.belongings u).begun) → CountsGo p s l c c' e.worker e.kind → StandsFor v' c' (after p s l e)
   put_together e accepted W V' N' back begun C =
       whole_stands v' c' (after p s l e) V' (counts_stand p s journal program legal c c' W.tree_counts e accepted C) (rests_then e accepted)
       (λ u r. begun u r ∙ none_begun_by_ledger v l u (v.belongings u).begun (W.begun u (back u r)) (legal_rests p s journal legal u (back u r))) N'

@@ -1,5 +1,5 @@
 -- An entry of steps keeps the relation and the invariant of what is noted.
-use Rattle.refinement_laws.proofs.Common.{◌≡◌, ℕ, ℤ, pos, ◌+◌, ◌&&◌, not, false, Option, Some, None, is_some, length, slice_get, inr, refl, ap, sym, subst, ◌∙◌, same_Some, Instr, Set, Mov, Movr, Nil as NilOf, Calc, Same, Jmp, Jz, Newm, Pack, Getr, Geti, Putr, Puti, Cntr, Cnti, Freeze, Cas, Call, Par, Ret, Out, ProgramText, SettingsValue, MachineState, place_in, int_in, object_at, row_of, is_waiting, is_joined, is_on_path, owner_of, Ledger, heap_of, or_fresh, let_go, task_steps, SoundLedger, heap_machine, StepsAlone, rested, StoresOne, WritesOther, Halts, LastKind, Private, Reading, Writing, Printing, Forking, Ending, Joining, Finishing, Halting, IsOfKind, GoesOn, Splits, RunsPrivateSteps, private_alone, rested_worker, rested_sound, worker_step, steps_worker, is_store, is_swap, is_number, waits_rest, alone_along, Belongings, Memory, Stands, Part, FitsAt, with_belongings, part_for, StoresNumberAt, AllNoted, StoresNotes, Stores, StoresInto, EntryMakes, taken_by, StoreMarks, Marks, handed, steps_alone, finished, forked_stands, joined_stands, root_apart, ran_stands}
+use Rattle.refinement_laws.proofs.Common.{◌≡◌, ℕ, ℤ, pos, ◌+◌, ◌&&◌, not, false, Option, Some, None, is_some, length, slice_get, inr, refl, ap, sym, subst, ◌∙◌, same_Some, Instr, Set, Mov, Movr, Nil as NilOf, Calc, Same, Jmp, Jz, Newm, Pack, Getr, Geti, Putr, Puti, Cntr, Cnti, Freeze, Cas, Call, Par, Ret, Out, ProgramText, SettingsValue, MachineState, place_in, int_in, object_at, row_of, is_waiting, is_joined, is_on_path, owner_of, Ledger, heap_of, or_fresh, let_go, task_steps, SoundLedger, heap_machine, StepsAlone, rested, StoresOne, WritesOther, Halts, LastKind, Private, Reading, Writing, Printing, Forking, Ending, Joining, Finishing, Halting, IsOfKind, GoesOn, Splits, RunsPrivateSteps, private_alone, rested_worker, rested_sound, worker_step, steps_worker, is_store, is_swap, is_number, waits_rest, alone_along, Belongings, Memory, MemoryStands, Part, FitsAt, with_belongings, part_for, StoresNumberAt, AllNoted, StoresNotes, Stores, StoresInto, EntryMakes, taken_by, StoreMarks, Marks, handed, steps_alone, finished, forked_stands, joined_stands, root_apart, ran_stands}
 use Rattle.refinement.proofs.below.ledger_step_laws.BeforeLast as before_last
 use Rattle.refinement_laws.proofs.whole.HandedBack.{alive_machine, handed_on, handed_halt, handed_done}
 use Rattle.refinement_laws.proofs.whole.RunsOn.{ran_end}
@@ -8,7 +8,7 @@ use Rattle.refinement_laws.proofs.parts.Handed.{stores_fit, numbers_fit}
 use Rattle.refinement_laws.proofs.notes.NotesAhead.{notes_ahead, notes_back}
 use Rattle.refinement_laws.proofs.parts.Others.{result_read}
 
-module _ (p : ProgramText) (s : SettingsValue) (v v' : Memory) (l l' : Ledger) (t w k : ℕ) (h : Belongings) (E : RunsPrivateSteps p s l l' t w k) (alive : l.end ≡ None) (V : Stands v l) (N : AllNoted v l) where
+module _ (p : ProgramText) (s : SettingsValue) (v v' : Memory) (l l' : Ledger) (t w k : ℕ) (h : Belongings) (E : RunsPrivateSteps p s l l' t w k) (alive : l.end ≡ None) (V : MemoryStands v l) (N : AllNoted v l) where
   abbrev q : Part
   q = part_for s t h k
 
@@ -38,16 +38,16 @@ module _ (p : ProgramText) (s : SettingsValue) (v v' : Memory) (l l' : Ledger) (
   idle_t = before_last.idle_rested p s l l' t w k E
 
   abbrev Both : Type 0
-  Both = Stands v' l' × AllNoted v' l'
+  Both = MemoryStands v' l' × AllNoted v' l'
 
   abbrev Handed : Type 0
-  Handed = Stands v' (handed l') × AllNoted v' (handed l')
+  Handed = MemoryStands v' (handed l') × AllNoted v' (handed l')
 
   -- the memory is unchanged, and the last step changes only what t owns
   stays : v' ≡ v → StepsAlone m l' t → (heap_of l' t).worker ≡ Some w → Both
   stays same A out' =
       let AA = alone_along t l m l' (before_last.alone p s l l' t w k E) A in
-      subst (λ (z : Memory). Stands z l' × AllNoted z l') (sym same) (
+      subst (λ (z : Memory). MemoryStands z l' × AllNoted z l') (sym same) (
         steps_alone v l l' t w E.knows.sound V AA (sym (steps_worker p s t k l S.private) ∙ E.out) out' idle,
         steps_note v v l l' t idle AA (λ u ne. refl) (λ i. refl) (λ u. refl) (root_apart v l V t idle) (record { none = (N t).keeps ∙ ap (λ b. b && not (heap_of l t).swept) idle; others = λ u ne. record { keeps = refl; kept = refl; marked = refl } }) N,
       )
@@ -105,7 +105,7 @@ module _ (p : ProgramText) (s : SettingsValue) (v v' : Memory) (l l' : Ledger) (
 
   -- a step after which the run goes on
   goes : l'.machine.end ≡ None → Both → Handed
-  goes on = subst (λ (z : Ledger). Stands v' z × AllNoted v' z) (sym (handed_on l' (ran_end p s l l' t w k E (alive_machine p s l l' t w k E) on ∙ alive)))
+  goes on = subst (λ (z : Ledger). MemoryStands v' z × AllNoted v' z) (sym (handed_on l' (ran_end p s l l' t w k E (alive_machine p s l l' t w k E) on ∙ alive)))
 
   -- a halt changes nothing but the end
   halt_alone : Halts m l' → StepsAlone m l' t
@@ -143,12 +143,12 @@ module _ (p : ProgramText) (s : SettingsValue) (v v' : Memory) (l l' : Ledger) (
   )
   -- the root is returned
   keeps_by_kind Finishing K on F C M =
-      subst (λ (z : Ledger). Stands v' z × AllNoted v' z) (sym (handed_done l l' t w k p s E K)) (
+      subst (λ (z : Ledger). MemoryStands v' z × AllNoted v' z) (sym (handed_done l l' t w k p s E K)) (
         finished vt v' lt (rested l' t) t S.task C.0 C.1 sound (rested_sound l' t E.knows_then.sound) F.stands rests K.ends C.2,
         steps_note vt v' lt (rested l' t) t idle_t K.ends.alone C.2.others C.2.owner C.2.sources (root_apart vt lt F.stands t idle_t) M (notes_t F),
       )
   keeps_by_kind Halting K on F C M =
-      subst (λ (z : Ledger). Stands v' z × AllNoted v' z) (sym (handed_halt m l' K)) (stays C (halt_alone K) (ap (λ hs. (or_fresh (slice_get hs t)).worker) K.heaps ∙ E.out))
+      subst (λ (z : Ledger). MemoryStands v' z × AllNoted v' z) (sym (handed_halt m l' K)) (stays C (halt_alone K) (ap (λ hs. (or_fresh (slice_get hs t)).worker) K.heaps ∙ E.out))
 
   pub ran_keeps : FitsAt p s (part_for s t h (taken_by S.kind k)) v l → (C : EntryMakes p v v' m l' t h S.task S.line S.kind S.last) → Marks p v v' m l' t h S.task S.line S.kind S.last C → Handed
   ran_keeps = keeps_by_kind S.kind S.last S.on

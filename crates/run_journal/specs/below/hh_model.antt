@@ -3,7 +3,7 @@ pub use Rattle.hh_model.specs.Counts.{Counted, SizesAreBounded, SizesIn}
 pub use Rattle.hh_model.specs.Effect.{Calls, Effect, Forks, Goes, Prints, Returns, StepContext, Stops, Traps, calculated, counts_in, effect, int_in, object_at, onward, or_trap, place_in, put_object, read_effect, ref_in, row_of, same_name, with_int, with_object}
 pub use Rattle.hh_model.specs.Machine.{IsOfRun, MachineValue}
 pub use Rattle.hh_model.specs.Names.{task_names}
-pub use Rattle.hh_model.specs.Precedence.{IsWalk, Precedes, precedes, same_strand}
+pub use Rattle.hh_model.specs.Precedence.{IsEdgeWalk, Precedes, precedes, same_strand}
 pub use Rattle.hh_model.specs.Step.{asked, can_step, child, child_ended_by, depth_limit, edge, ended_by, ended_task, entry_frame, fetched, follow, frame_limit, goes_on, is_joined, is_left, is_over, is_running, is_waiting, join_of, joined, joined_task, last_of, last_return, or_same, owner_in, owner_of, parent_of, parents, path_by, path_in, result_at, result_of, resumed, returned_to, run, run_from, runs, setting, sibling, start, step, stepped, strand, strand_of, through, waits, with_task}
 pub use Rattle.hh_model.specs.Store.{IsStored, IsWriteTo, NamesAreStoredIn}
 pub use Rattle.hh_model.specs.Tree.{joins_in}

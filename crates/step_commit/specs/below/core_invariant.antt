@@ -1,6 +1,6 @@
 -- Re-exports from `core_invariant` for the crates above.
 pub use Rattle.core_invariant.specs.Entered.{Enters, refused}
-pub use Rattle.core_invariant.specs.Fits.{Fits, IsAtWork, OthersFit, belongings_of_part, part_of}
+pub use Rattle.core_invariant.specs.WorkerPartFits.{WorkerPartFits, HasFrames, OthersFit, belongings_of_part, part_of}
 pub use Rattle.core_invariant.specs.Links.{above_of}
 pub use Rattle.core_invariant.specs.Measured.{AreMeasured, IsFree, IsMeasured, KeepsUnits}
 pub use Rattle.core_invariant.specs.Next.{next_line}

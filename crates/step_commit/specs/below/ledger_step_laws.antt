@@ -1,2 +1,2 @@
 -- Re-exports from `ledger_step_laws` for the crates above.
-pub use Rattle.core_invariant.specs.below.ledger_step_laws.{Ending, EndsFirst, EndsLast, Finishing, Forking, LastStepForks, Halting, IsOfKind, Joining, JustReads, LastKind, Printing, Private, Reading, ReadsOther, Rests, RunsPrivateSteps, Splits, WritesOther, Writing, Wrote, own, rested, stepped_by}
+pub use Rattle.core_invariant.specs.below.ledger_step_laws.{Ending, EndsFirst, EndsLast, Finishing, Forking, LastStepForks, Halting, IsOfKind, Joining, JustReads, LastKind, Printing, Private, Reading, ReadsOther, Rests, RunsPrivateSteps, Splits, WritesOther, Writing, ChangesByWrite, own, rested, stepped_by}

@@ -1,2 +1,2 @@
 -- Re-exports from `task_frames` for the crates above.
-pub use Rattle.core_invariant.specs.below.task_frames.{CallFrame, FramesValue, int_of, ref_of, with_int, with_next, with_reference}
+pub use Rattle.core_invariant.specs.below.task_frames.{CallFrame, FramesValue, int_of, ref_of, frames_with_int, with_next, with_reference}

@@ -1,4 +1,4 @@
-use Rattle.command_answers.proofs.Common.{◌≡◌, ◌∙◌, ap, subst, Some, IfOk-weaker, first_refused, RefusedAt, HasReplayed, IsStop, ReplayGives, SharedValue, Entry, IsImaged, Refuses}
+use Rattle.command_answers.proofs.Common.{◌≡◌, ◌∙◌, ap, subst, Some, IfOk-weaker, first_refused, RefusedAt, HasReplayed, IsReplayStop, ReplayGives, SharedValue, Entry, IsImaged, Refuses}
 use Rattle.command_answers.proofs.Imaged.{imaged}
 use Rattle.command_answers.proofs.Runs.{refused_first}
 use Rattle.command_answers.proofs.Traces.{trace_told}
@@ -16,7 +16,7 @@ returns-in-Ok c =
 pub returns-in-Err-RefusedAt : goal.returns-in-Err-RefusedAt
 returns-in-Err-RefusedAt c =
     let stopped : first_refused c.args.read.now.program c.with_version-settings.result c.as_slice.result.now ≡ Some c.in-Err-RefusedAt.entry =
-    subst (IsStop c.args.read.now.program c.with_version-settings.result c.as_slice.result.now) c.in-Err-RefusedAt.field-0-is
+    subst (IsReplayStop c.args.read.now.program c.with_version-settings.result c.as_slice.result.now) c.in-Err-RefusedAt.field-0-is
     (subst (ReplayGives c.args.read.now.program c.with_version-settings.result c.as_slice.result.now) c.in-Err-RefusedAt.is c.in_ok-replayed.ensures) in
     IfOk-weaker c.refused.result _ _
     (λ a h. trace_told IsImaged c.args.settings c.args.read.now c.with_version-settings.result c.as_slice.result.now (Some c.in-Err-RefusedAt.entry) a

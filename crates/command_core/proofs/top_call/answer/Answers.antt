@@ -1,4 +1,4 @@
-use Rattle.command_core.proofs.Common.{ℕ, List, subst, Some, SourceState, Ends}
+use Rattle.command_core.proofs.Common.{ℕ, List, subst, Some, SourceState, AnswersInput}
 use Rattle.command_core.proofs.Calls.{has_read, is_read, nothing_read, served, without_input, without_memory}
 use Rattle.command_core.proofs.top_call.answer.Goals as goal
 
@@ -21,5 +21,5 @@ returns-in-Ok g c =
     let after : SourceState = record { left = g.S.Source.left c.read_input.new.source; named = g.S.Source.named c.read_input.new.source; faults = g.S.Source.faults c.read_input.new.source } in
     served (Some c.args.line.now) c.serve.result before after (g.K.Sink.written c.args.sink.now) (g.K.Sink.written c.serve.new.sink) _ c.in-Ok.input.items
     (has_read before after c.in-Ok.input.items c.args.line.now c.in-Ok.ensures.within c.in-Ok.ensures.input c.in-Ok.ensures.taken c.read_input.ensures.untouched)
-    (subst (λ (input : List ℕ). Ends (Some c.args.line.now) input c.serve.result (g.K.Sink.written c.args.sink.now) (g.K.Sink.written c.serve.new.sink)) c.as_slice.ensures.value c.serve.ensures.answer) c.serve.ensures.read
+    (subst (λ (input : List ℕ). AnswersInput (Some c.args.line.now) input c.serve.result (g.K.Sink.written c.args.sink.now) (g.K.Sink.written c.serve.new.sink)) c.as_slice.ensures.value c.serve.ensures.answer) c.serve.ensures.read
     c.serve.ensures.write_fault

@@ -1,4 +1,4 @@
-use Rattle.copying_gc.proofs.Common.{◌≡◌, ℕ, ◌+◌, ◌*◌, ◌/◌, ◌≤◌, List, length, fold, reverse, refl, sym, ap, ◌∙◌, subst, arith, Option, All, length-map, length-reverse, length_permutation, Addr, ChunkValue, IsClosed, IsSoundReference, once_from, AreCounted, LeafHeapValue, IsPermutation, contains_from_in, Survivor, olds, outside, with_chunks, CollectorValue, led_chunk, ArePacked, laying_of, moves_of, redirection, CollectorBegins, IsEvacuated, counted32, with_birth_name, unit_count, CanName, nothing_laid, smalls}
+use Rattle.copying_gc.proofs.Common.{◌≡◌, ℕ, ◌+◌, ◌*◌, ◌/◌, ◌≤◌, List, length, fold, reverse, refl, sym, ap, ◌∙◌, subst, arith, Option, All, length-map, length-reverse, length_permutation, Addr, ChunkValue, HeapIsClosed, IsSoundReference, once_from, AreCounted, LeafHeapValue, IsPermutation, contains_from_in, Survivor, olds, outside, with_chunks, CollectorValue, led_chunk, ArePacked, laying_of, moves_of, redirection, CollectorBegins, IsEvacuated, counted32, with_birth_name, unit_count, CanName, nothing_laid, smalls}
 use Rattle.copying_gc.proofs.Collecting as collecting
 use Rattle.copying_gc.proofs.Collecting.{AreEvacuated}
 use Rattle.address_laws.proofs.Numbers as nums
@@ -50,7 +50,7 @@ evacuate-requires-clause-begins c =
     })
 
 pub evacuate-requires-clause-closed : goal.evacuate-requires-clause-closed
-evacuate-requires-clause-closed c = subst (λ (z : CollectorValue). IsClosed z.heap.chunks) (sym c.of-collector.ensures) c.requires.closed
+evacuate-requires-clause-closed c = subst (λ (z : CollectorValue). HeapIsClosed z.heap.chunks) (sym c.of-collector.ensures) c.requires.closed
 
 pub evacuate-requires-clause-outside : goal.evacuate-requires-clause-outside
 evacuate-requires-clause-outside c = subst (λ (z : CollectorValue). All (IsSoundReference z.heap.chunks) (outside c.args.frames.now c.args.roots.now)) (sym c.of-collector.ensures) c.requires.outside

@@ -1,8 +1,8 @@
-use Rattle.heap_reading.proofs.Common.{◌^◌, ◌<◌, ap, ◌∙◌, IfSome, Option, Some, None, ◌++◌, ◌∷◌, [], sym, map, take, IsPlace, IsRef, Addr, word_of_ref, object_at}
+use Rattle.heap_reading.proofs.Common.{◌^◌, ◌<◌, ap, ◌∙◌, IfSome, Option, Some, None, ◌++◌, ◌∷◌, [], sym, map, take, BeginsInFirstUnit, IsRef, Addr, word_of_ref, object_at}
 use Rattle.heap_reading.proofs.ObjectsRead.{all_next, map_next}
 use Rattle.heap_reading.proofs.seen.refs_at.Goals as goal
 
-near_of : (r : Option Addr) → IsPlace r → IfSome r (λ a. a.chunk < 2 ^ 32) → IsRef r
+near_of : (r : Option Addr) → BeginsInFirstUnit r → IfSome r (λ a. a.chunk < 2 ^ 32) → IsRef r
 near_of None place short = tt
 near_of (Some a) place short = (place, short)
 

@@ -1,4 +1,4 @@
-use Rattle.journal_replay.proofs.Common.{◌≡◌, ◌<◌, ℕ, false, None, subst, Private, first_cause, Fits, SharedValue, GoesAlone, HaltsAlone, IsShared, alone_entry, alone_free, LeavesBy, LeavesPart, LentTo, before_same, then_same, MakesFor}
+use Rattle.journal_replay.proofs.Common.{◌≡◌, ◌<◌, ℕ, false, None, subst, Private, first_cause, WorkerPartFits, SharedValue, GoesAlone, HaltsAlone, IsShared, alone_entry, alone_free, LeavesBy, LeavesPart, LentTo, before_same, then_same, MakesFor}
 use Rattle.journal_replay.proofs.Making.{goes_made, halts_made, ran_fails}
 use Rattle.journal_replay.proofs.apply_ran.enter_last.Goals as goal
 
@@ -50,7 +50,7 @@ enter_leaving-requires-clause-fits c =
     let p : Private = c.args.part in
     let q : Private = c.ran_lent.new.part in
     let a : LeavesPart w v p q c.in-Ok-Leaves.leaving = subst (LentTo w v k p q) c.in-Ok-Leaves.field-0-is c.in-Ok-Leaves.ensures.answered in
-    then_same w v p q a.same a.part (λ (z : SharedValue) (r : Private). Fits z k r) c.requires.fits
+    then_same w v p q a.same a.part (λ (z : SharedValue) (r : Private). WorkerPartFits z k r) c.requires.fits
 
 pub enter_leaving-requires-clause-idle : goal.enter_leaving-requires-clause-idle
 enter_leaving-requires-clause-idle c =

@@ -1,4 +1,4 @@
-use Rattle.journal_replay.proofs.Common.{◌≡◌, None, false, refl, subst, sym, Private, first_cause, Fits, SharedValue, same_world, fit_by, IsNext, HoldsPart}
+use Rattle.journal_replay.proofs.Common.{◌≡◌, None, false, refl, subst, sym, Private, first_cause, WorkerPartFits, SharedValue, same_world, fit_by, PausesNext, HoldsPart}
 use Rattle.journal_replay.proofs.Making.{stopped_part}
 use Rattle.journal_replay.proofs.apply_ran.ran.Goals as goal
 
@@ -10,17 +10,17 @@ run_part-requires-clause-holds c = subst (λ (z : SharedValue). HoldsPart z fals
 
 pub enter-requires-clause-fits : goal.enter-requires-clause-fits
 enter-requires-clause-fits c =
-    subst (λ (p : Private). Fits c.args.shared.now c.args.worker p) (sym c.settle_before_fork.ensures)
-    (subst (λ (z : SharedValue). Fits z c.args.worker c.run_part.new.part) c.shared.ensures c.run_part.ensures.fits)
+    subst (λ (p : Private). WorkerPartFits c.args.shared.now c.args.worker p) (sym c.settle_before_fork.ensures)
+    (subst (λ (z : SharedValue). WorkerPartFits z c.args.worker c.run_part.new.part) c.shared.ensures c.run_part.ensures.fits)
 
 pub enter-requires-clause-next : goal.enter-requires-clause-next
 enter-requires-clause-next c =
-    subst (λ (p : Private). IsNext c.args.shared.now p c.in-Ok.paused) (sym c.settle_before_fork.ensures)
-    (subst (λ (z : SharedValue). IsNext z c.run_part.new.part c.in-Ok.paused) c.shared.ensures c.in-Ok.ensures.next)
+    subst (λ (p : Private). PausesNext c.args.shared.now p c.in-Ok.paused) (sym c.settle_before_fork.ensures)
+    (subst (λ (z : SharedValue). PausesNext z c.run_part.new.part c.in-Ok.paused) c.shared.ensures c.in-Ok.ensures.next)
 
 pub returns-in-Err : goal.returns-in-Err
 returns-in-Err c =
-    let fits : Fits c.args.shared.now c.args.worker c.run_part.new.part = subst (λ (z : SharedValue). Fits z c.args.worker c.run_part.new.part) c.shared.ensures c.run_part.ensures.fits in
+    let fits : WorkerPartFits c.args.shared.now c.args.worker c.run_part.new.part = subst (λ (z : SharedValue). WorkerPartFits z c.args.worker c.run_part.new.part) c.shared.ensures c.run_part.ensures.fits in
     record {
       same = same_world c.args.shared.now;
       still = fit_by c.args.shared.now c.args.shared.now refl;

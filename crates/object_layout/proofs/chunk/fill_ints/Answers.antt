@@ -1,4 +1,4 @@
-use Rattle.object_layout.proofs.Common.{◌≡◌, ◌+◌, ◌<◌, length, refl, ap, sym, subst, ◌∙◌, arith, to_z, of_z, rules, to_z-of_z, with_int, with_cell, ChunkValue, cell_at, object_at}
+use Rattle.object_layout.proofs.Common.{◌≡◌, ◌+◌, ◌<◌, length, refl, ap, sym, subst, ◌∙◌, arith, to_z, of_z, rules, to_z-of_z, cell_with_int, with_cell, ChunkValue, cell_at, object_at}
 use Rattle.std.proofs.Common.{w64}
 use Rattle.object_layout.proofs.FillLemmas.{ints_begun, ints_done, ints_more, ints_within}
 use Rattle.object_layout.proofs.chunk.fill_ints.Goals as goal
@@ -15,8 +15,8 @@ loop-k-preserved c =
     let inside : c.loop-k.k < length vs = c.loop-k-test.true in
     let back : to_z w64 (of_z w64 c.item-value.result) ≡ c.item-value.result = to_z-of_z w64 c.item-value.result (search rules) in
     c.set_int.ensures
-    ∙ (ap (λ v. with_cell c.loop-k.chunk a (with_int (cell_at c.loop-k.chunk.cells a) c.loop-k.k v)) back
-    ∙ (ap (λ (z : ChunkValue). with_cell z a (with_int (cell_at z.cells a) c.loop-k.k c.item-value.result)) c.loop-k.invariant
+    ∙ (ap (λ v. with_cell c.loop-k.chunk a (cell_with_int (cell_at c.loop-k.chunk.cells a) c.loop-k.k v)) back
+    ∙ (ap (λ (z : ChunkValue). with_cell z a (cell_with_int (cell_at z.cells a) c.loop-k.k c.item-value.result)) c.loop-k.invariant
     ∙ ints_more h a c.requires.object vs c.loop-k.k (c.loop-k.k + 1) c.item-value.result c.item-value.ensures inside (omega arith) refl))
 
 pub set_int-requires : goal.set_int-requires

@@ -1,4 +1,4 @@
-use Rattle.copying_gc.proofs.Common.{List, map, sym, subst, ap, All, ChunkValue, as_reference, frames_of, frame_references, outside, CollectorValue, IsTarget, CanFollow}
+use Rattle.copying_gc.proofs.Common.{List, map, sym, subst, ap, All, ChunkValue, as_reference, frames_of, frame_references, outside, CollectorValue, IsTarget, CanBeFollowed}
 use Rattle.copying_gc.proofs.FrameLemmas as frames
 use Rattle.copying_gc.proofs.Phases as phases
 use Rattle.copying_gc.proofs.Phases.{AreFound}
@@ -38,7 +38,7 @@ lead_frames-requires c =
 
 pub lead_larges-requires : goal.lead_larges-requires
 lead_larges-requires c =
-    subst (λ (z : CollectorValue). CanFollow z.heap.chunks z.found) (sym c.lead_chunks.ensures)
+    subst (λ (z : CollectorValue). CanBeFollowed z.heap.chunks z.found) (sym c.lead_chunks.ensures)
     (phases.can_follow _ _ c.requires.closed c.requires.outside _ _ (are_found (goal.at.lead_larges-requires c).After-sort_found) c.copy_all.new.self c.copy_all.ensures)
 
 pub returns : goal.returns

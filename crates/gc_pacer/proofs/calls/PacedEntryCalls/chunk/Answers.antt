@@ -1,9 +1,9 @@
-use Rattle.gc_pacer.proofs.Common.{Ok, refl, sym, subst, ◌∙◌, EntryValue, Chunk, SharedValue, Fits, GetsChunk, handed_on, Pays, KeepsPaces}
+use Rattle.gc_pacer.proofs.Common.{Ok, refl, sym, subst, ◌∙◌, EntryValue, Chunk, SharedValue, WorkerPartFits, GetsChunk, handed_on, Pays, KeepsPaces}
 use Rattle.gc_pacer.proofs.Noted.{other_then}
 use Rattle.gc_pacer.proofs.calls.PacedEntryCalls.chunk.Goals as goal
 
 pub chunk-requires-clause-fits : goal.chunk-requires-clause-fits
-chunk-requires-clause-fits c = subst (λ (z : SharedValue). Fits z c.args.worker c.args.part.now) (sym (c.get_mut-shared.ensures.value ∙ c.self.view_is)) c.requires.fits
+chunk-requires-clause-fits c = subst (λ (z : SharedValue). WorkerPartFits z c.args.worker c.args.part.now) (sym (c.get_mut-shared.ensures.value ∙ c.self.view_is)) c.requires.fits
 
 pub returns : goal.returns
 returns c = subst (λ (z : SharedValue). GetsChunk z c.chunk.new.self c.args.worker c.args.part.now c.chunk.new.part (Ok tt)) (c.get_mut-shared.ensures.value ∙ c.self.view_is) c.in_ok-chunk.ensures

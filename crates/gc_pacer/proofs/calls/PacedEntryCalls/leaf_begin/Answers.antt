@@ -1,9 +1,9 @@
-use Rattle.gc_pacer.proofs.Common.{Ok, refl, sym, subst, ◌∙◌, EntryValue, Begin, SharedValue, Fits, BeginsLeaf, handed_on, Pays, KeepsPaces}
+use Rattle.gc_pacer.proofs.Common.{Ok, refl, sym, subst, ◌∙◌, EntryValue, Begin, SharedValue, WorkerPartFits, BeginsLeaf, handed_on, Pays, KeepsPaces}
 use Rattle.gc_pacer.proofs.Noted.{other_then}
 use Rattle.gc_pacer.proofs.calls.PacedEntryCalls.leaf_begin.Goals as goal
 
 pub leaf_begin-requires-clause-fits : goal.leaf_begin-requires-clause-fits
-leaf_begin-requires-clause-fits c = subst (λ (z : SharedValue). Fits z c.args.worker c.args.part.now) (sym (c.get_mut-shared.ensures.value ∙ c.self.view_is)) c.requires.fits
+leaf_begin-requires-clause-fits c = subst (λ (z : SharedValue). WorkerPartFits z c.args.worker c.args.part.now) (sym (c.get_mut-shared.ensures.value ∙ c.self.view_is)) c.requires.fits
 
 pub returns : goal.returns
 returns c = subst (λ (z : SharedValue). BeginsLeaf z c.leaf_begin.new.self c.args.worker c.args.part.now c.leaf_begin.new.part (Ok c.in_ok-begun.begun)) (c.get_mut-shared.ensures.value ∙ c.self.view_is) c.in_ok-begun.ensures

@@ -1,9 +1,9 @@
-use Rattle.gc_pacer.proofs.Common.{Ok, refl, sym, subst, ◌∙◌, EntryValue, PutOff, SharedValue, Fits, PutsOff, handed_on, Pays, KeepsPaces}
+use Rattle.gc_pacer.proofs.Common.{Ok, refl, sym, subst, ◌∙◌, EntryValue, PutOff, SharedValue, WorkerPartFits, PutsOff, handed_on, Pays, KeepsPaces}
 use Rattle.gc_pacer.proofs.Noted.{other_then}
 use Rattle.gc_pacer.proofs.calls.PacedEntryCalls.put_off.Goals as goal
 
 pub put_off-requires-clause-fits : goal.put_off-requires-clause-fits
-put_off-requires-clause-fits c = subst (λ (z : SharedValue). Fits z c.args.worker c.args.part.now) (sym (c.get_mut-shared.ensures.value ∙ c.self.view_is)) c.requires.fits
+put_off-requires-clause-fits c = subst (λ (z : SharedValue). WorkerPartFits z c.args.worker c.args.part.now) (sym (c.get_mut-shared.ensures.value ∙ c.self.view_is)) c.requires.fits
 
 pub returns : goal.returns
 returns c = subst (λ (z : SharedValue). PutsOff z c.put_off.new.self c.args.worker c.args.part.now c.put_off.new.part (Ok tt)) (c.get_mut-shared.ensures.value ∙ c.self.view_is) c.in_ok-put_off.ensures

@@ -1,10 +1,10 @@
-use Rattle.gc_pacer.proofs.Common.{◌≡◌, ◌+◌, None, Ok, sym, subst, inr, ◌∙◌, EntryValue, Ran, Private, SharedValue, accounts, refused, Fits, alone_entry, IsShared, EntersLeaving, LeavesBy, handed_on, ran_enters, Pays, KeepsNoted, KeepsPaces, NotesAt}
+use Rattle.gc_pacer.proofs.Common.{◌≡◌, ◌+◌, None, Ok, sym, subst, inr, ◌∙◌, EntryValue, Ran, Private, SharedValue, accounts, refused, WorkerPartFits, alone_entry, IsShared, EntersLeaving, LeavesBy, handed_on, ran_enters, Pays, KeepsNoted, KeepsPaces, NotesAt}
 use Rattle.gc_pacer.proofs.Idle.{unchanged_kept}
 use Rattle.gc_pacer.proofs.Noted.{paced_then}
 use Rattle.gc_pacer.proofs.calls.PacedEntryCalls.ran_leaving.Goals as goal
 
 pub ran_leaving-requires-clause-fits : goal.ran_leaving-requires-clause-fits
-ran_leaving-requires-clause-fits c = subst (λ (z : SharedValue). Fits z c.args.worker c.args.part) (sym (c.get_mut-shared.ensures.value ∙ c.self.view_is)) c.requires.fits
+ran_leaving-requires-clause-fits c = subst (λ (z : SharedValue). WorkerPartFits z c.args.worker c.args.part) (sym (c.get_mut-shared.ensures.value ∙ c.self.view_is)) c.requires.fits
 
 pub ran_leaving-requires-clause-shared : goal.ran_leaving-requires-clause-shared
 ran_leaving-requires-clause-shared c = subst (λ (z : SharedValue). IsShared z c.args.part) (sym (c.get_mut-shared.ensures.value ∙ c.self.view_is)) c.requires.shared

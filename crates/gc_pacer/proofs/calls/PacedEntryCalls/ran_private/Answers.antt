@@ -1,9 +1,9 @@
-use Rattle.gc_pacer.proofs.Common.{◌≡◌, None, Ok, sym, subst, inr, ◌∙◌, EntryValue, Ran, SharedValue, accounts, Fits, EntersSteps, handed_on, Pays, KeepsNoted, KeepsPaces, NotesAt}
+use Rattle.gc_pacer.proofs.Common.{◌≡◌, None, Ok, sym, subst, inr, ◌∙◌, EntryValue, Ran, SharedValue, accounts, WorkerPartFits, EntersSteps, handed_on, Pays, KeepsNoted, KeepsPaces, NotesAt}
 use Rattle.gc_pacer.proofs.Noted.{paced_then}
 use Rattle.gc_pacer.proofs.calls.PacedEntryCalls.ran_private.Goals as goal
 
 pub ran_private-requires-clause-fits : goal.ran_private-requires-clause-fits
-ran_private-requires-clause-fits c = subst (λ (z : SharedValue). Fits z c.args.worker c.args.part.now) (sym (c.get_mut-shared.ensures.value ∙ c.self.view_is)) c.requires.fits
+ran_private-requires-clause-fits c = subst (λ (z : SharedValue). WorkerPartFits z c.args.worker c.args.part.now) (sym (c.get_mut-shared.ensures.value ∙ c.self.view_is)) c.requires.fits
 
 pub returns : goal.returns
 returns c = subst (λ (z : SharedValue). EntersSteps z c.ran_private.new.self c.args.worker c.args.part.now c.ran_private.new.part (Ok tt)) (c.get_mut-shared.ensures.value ∙ c.self.view_is) c.in_ok-ran_private.ensures

@@ -1,4 +1,4 @@
-use Rattle.leaf_heap.proofs.Common.{ap, refl, arith, to_z-of_z, w64, Header, with_int, cell_at}
+use Rattle.leaf_heap.proofs.Common.{ap, refl, arith, to_z-of_z, w64, Header, cell_with_int, cell_at}
 use Rattle.object_layout.proofs.ChunkLaws as chunks
 use Rattle.object_layout.proofs.PlaceLemmas as place
 use Rattle.leaf_heap.proofs.HeapLemmas as heap
@@ -34,7 +34,7 @@ invariant_of-self c =
     let back = to_z-of_z w64 c.args.value c.ranges.value in
     rw (c.set_int_behind.ensures, back)
     (heap.own_written c.self.inside.chunks.items c.args.object c.args.place c.at_mut-chunk.result.now o found c.at_mut-chunk.ensures.value
-    _ _ _ _ _ _ _ _ _ c.self.invariant (with_int (cell_at c.at_mut-chunk.result.now.cells c.args.object.offset) c.args.field c.args.value) refl refl (place.size_of-with_int (cell_at c.at_mut-chunk.result.now.cells c.args.object.offset) c.args.field c.args.value) _ c.number.result c.number.ensures c.header_at-header.result c.header_at-header.ensures.kind c.note_write.ensures)
+    _ _ _ _ _ _ _ _ _ c.self.invariant (cell_with_int (cell_at c.at_mut-chunk.result.now.cells c.args.object.offset) c.args.field c.args.value) refl refl (place.size_of-with_int (cell_at c.at_mut-chunk.result.now.cells c.args.object.offset) c.args.field c.args.value) _ c.number.result c.number.ensures c.header_at-header.result c.header_at-header.ensures.kind c.note_write.ensures)
 
 pub returns : goal.returns
 returns c =
@@ -43,4 +43,4 @@ returns c =
     let cell = heap.own_cell c.self.inside.chunks.items c.args.object c.args.place c.at_mut-chunk.result.now o found c.at_mut-chunk.ensures.value in
     let put = heap.own_put c.self.inside.chunks.items c.args.object c.args.place c.at_mut-chunk.result.now o found c.at_mut-chunk.ensures.value in
     let back = to_z-of_z w64 c.args.value c.ranges.value in
-    rw (← c.self.view_is, c.set_int_behind.ensures, back, cell, put (with_int (cell_at c.at_mut-chunk.result.now.cells c.args.object.offset) c.args.field c.args.value))
+    rw (← c.self.view_is, c.set_int_behind.ensures, back, cell, put (cell_with_int (cell_at c.at_mut-chunk.result.now.cells c.args.object.offset) c.args.field c.args.value))

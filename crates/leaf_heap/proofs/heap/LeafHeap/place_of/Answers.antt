@@ -1,12 +1,12 @@
-use Rattle.leaf_heap.proofs.Common.{◌≡◌, ◌<◌, ℕ, List, length, get_or, ap, sym, ◌∙◌, subst, arith, Some, get_or_read, ChunkValue, chunk_at, no_chunk, place_in, place_of}
+use Rattle.leaf_heap.proofs.Common.{◌≡◌, ◌<◌, ℕ, List, length, get_or, ap, sym, ◌∙◌, subst, arith, Some, get_or_read, ChunkValue, chunk_at, no_chunk, place_in, chunk_position}
 use Rattle.object_layout.proofs.ChunkLaws as chunks
 use Rattle.leaf_heap.proofs.PlacedLaws as laws
 use Rattle.leaf_heap.proofs.heap.LeafHeap.place_of.Goals as goal
 
 -- the chunk at a position is found by its number, if numbers are distinct
-at_place : (ks : List ChunkValue) (i n : ℕ) → i < length ks → place_of ks (chunk_at ks i).number ≡ i → (chunk_at ks i).number ≡ n → Some i ≡ place_in ks n
+at_place : (ks : List ChunkValue) (i n : ℕ) → i < length ks → chunk_position ks (chunk_at ks i).number ≡ i → (chunk_at ks i).number ≡ n → Some i ≡ place_in ks n
 at_place ks i n l own number =
-    let at : place_of ks n ≡ i = subst (λ m. place_of ks m ≡ i) number own in
+    let at : chunk_position ks n ≡ i = subst (λ m. chunk_position ks m ≡ i) number own in
     sym (chunks.place_there ks n (omega arith) ∙ ap Some at)
 
 pub returns-then-number : goal.returns-then-number

@@ -1,4 +1,4 @@
-use Rattle.log_refusals.proofs.Common.{◌≡◌, ◌∙◌, ◌+◌, ◌^◌, ◌≤◌, length, arith, List, ℕ, Bor, sym, ap, subst, fold, option_map, GraphStrand, line_of, position, placed_said, later_of, strand_of, IsUpTo}
+use Rattle.log_refusals.proofs.Common.{◌≡◌, ◌∙◌, ◌+◌, ◌^◌, ◌≤◌, length, arith, List, ℕ, Bor, sym, ap, subst, fold, option_map, GraphStrand, line_of, position, placed_said, later_of, open_strand, IsUpTo}
 use Rattle.log_refusals.proofs.Lines.{at_some, at_none, found_next, found_last}
 use Rattle.log_refusals.proofs.search.Search.take_text.Goals as goal
 
@@ -6,7 +6,7 @@ pub lines-preserved : goal.lines-preserved
 lines-preserved c =
     let line = c.next_line.result.0.now in
     let e = at_some (λ (r : Bor (List ℕ)). r.now) c.next_line.result.1 c.lines.left.now line c.in-Some.rest c.in-Some.is c.next_line.ensures.lines in
-    let here = option_map strand_of c.lines.self.here in
+    let here = option_map open_strand c.lines.self.here in
     let n : 2 ^ 31 + c.lines.line + 1 ≡ 2 ^ 31 + (c.lines.line + 1) = omega arith in
     record {
       found =

@@ -1,7 +1,7 @@
-use Rattle.log_walk.proofs.Common.{◌↔◌, IsTrue, subst, tasks_in, Precedes, strand_at, WalkValue}
+use Rattle.log_walk.proofs.Common.{◌↔◌, IsTrue, subst, tasks_in, StrandPrecedes, strand_at, WalkValue}
 use Rattle.log_walk.proofs.walk.SerialWalk.precedes.Goals as goal
 
 pub returns : goal.returns
 returns c =
-    subst (λ (v : WalkValue). IsTrue c.precedes.result ↔ Precedes (tasks_in v.tasks) (strand_at v.order c.args.first) (strand_at v.order c.args.second))
+    subst (λ (v : WalkValue). IsTrue c.precedes.result ↔ StrandPrecedes (tasks_in v.tasks) (strand_at v.order c.args.first) (strand_at v.order c.args.second))
     c.self.view_is c.precedes.ensures

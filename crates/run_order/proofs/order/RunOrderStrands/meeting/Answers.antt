@@ -1,5 +1,5 @@
 use Rattle.run_order.proofs.Common.{◌<◌, length, ap, sym, subst, ◌∙◌, tasks_in, WalkValue, IsWalked, IsDepthAt}
-use Rattle.run_order.specs.Order.{depth_of, run_order}
+use Rattle.run_order.specs.Order.{order_depth, run_order}
 use Rattle.run_order.proofs.Orders.{found_depth}
 use Rattle.run_order.proofs.order.RunOrderStrands.meeting.Goals as goal
 
@@ -11,8 +11,8 @@ unfolding run_order
 returns-in-Some c =
     found_depth c.args.self.now (subst IsWalked c.self.view_is c.self.invariant.1) c.in-Some.exit c.depth.result c.in-Some.ensures.there
     (subst (λ (v : WalkValue). IsDepthAt (tasks_in v.tasks) v.order c.in-Some.exit c.depth.result) c.self.view_is c.depth.ensures)
-    ∙ ap (depth_of c.args.self.now) c.in-Some.ensures.value
+    ∙ ap (order_depth c.args.self.now) c.in-Some.ensures.value
 
 pub returns-in-None : goal.returns-in-None
 unfolding run_order
-returns-in-None c = ap (depth_of c.args.self.now) c.in-None.ensures.value
+returns-in-None c = ap (order_depth c.args.self.now) c.in-None.ensures.value

@@ -1,9 +1,9 @@
-use Rattle.run_statistics.proofs.Common.{Ok, sym, subst, Chunk, SharedValue, Fits, GetsChunk, handed_on, CountsJournal}
+use Rattle.run_statistics.proofs.Common.{Ok, sym, subst, Chunk, SharedValue, WorkerPartFits, GetsChunk, handed_on, CountsJournal}
 use Rattle.run_statistics.proofs.EntryCounted.{is_made}
 use Rattle.run_statistics.proofs.counted.Counted.chunk.Goals as goal
 
 pub chunk-requires-clause-fits : goal.chunk-requires-clause-fits
-chunk-requires-clause-fits c = subst (λ (z : SharedValue). Fits z c.args.worker c.args.part.now) (sym c.self.view_is) c.requires.fits
+chunk-requires-clause-fits c = subst (λ (z : SharedValue). WorkerPartFits z c.args.worker c.args.part.now) (sym c.self.view_is) c.requires.fits
 
 pub returns : goal.returns
 returns c = subst (λ (z : SharedValue). GetsChunk z c.chunk.new.self c.args.worker c.args.part.now c.chunk.new.part (Ok tt)) c.self.view_is c.in_ok-chunk.ensures

@@ -1,9 +1,9 @@
-use Rattle.run_statistics.proofs.Common.{Ok, sym, subst, PutOff, SharedValue, Fits, PutsOff, handed_on, CountsJournal}
+use Rattle.run_statistics.proofs.Common.{Ok, sym, subst, PutOff, SharedValue, WorkerPartFits, PutsOff, handed_on, CountsJournal}
 use Rattle.run_statistics.proofs.EntryCounted.{is_made}
 use Rattle.run_statistics.proofs.counted.Counted.put_off.Goals as goal
 
 pub put_off-requires-clause-fits : goal.put_off-requires-clause-fits
-put_off-requires-clause-fits c = subst (λ (z : SharedValue). Fits z c.args.worker c.args.part.now) (sym c.self.view_is) c.requires.fits
+put_off-requires-clause-fits c = subst (λ (z : SharedValue). WorkerPartFits z c.args.worker c.args.part.now) (sym c.self.view_is) c.requires.fits
 
 pub returns : goal.returns
 returns c = subst (λ (z : SharedValue). PutsOff z c.put_off.new.self c.args.worker c.args.part.now c.put_off.new.part (Ok tt)) c.self.view_is c.in_ok-put_off.ensures

@@ -1,9 +1,9 @@
-use Rattle.run_statistics.proofs.Common.{◌≡◌, None, Ok, sym, subst, SharedValue, refused, Fits, alone_entry, IsShared, EntersLeaving, LeavesBy, handed_on}
+use Rattle.run_statistics.proofs.Common.{◌≡◌, None, Ok, sym, subst, SharedValue, refused, WorkerPartFits, alone_entry, IsShared, EntersLeaving, LeavesBy, handed_on}
 use Rattle.run_statistics.proofs.EntryCounted.{is_made, ran_enters, unchanged_kept}
 use Rattle.run_statistics.proofs.counted.Counted.ran_leaving.Goals as goal
 
 pub ran_leaving-requires-clause-fits : goal.ran_leaving-requires-clause-fits
-ran_leaving-requires-clause-fits c = subst (λ (z : SharedValue). Fits z c.args.worker c.args.part) (sym c.self.view_is) c.requires.fits
+ran_leaving-requires-clause-fits c = subst (λ (z : SharedValue). WorkerPartFits z c.args.worker c.args.part) (sym c.self.view_is) c.requires.fits
 
 pub ran_leaving-requires-clause-shared : goal.ran_leaving-requires-clause-shared
 ran_leaving-requires-clause-shared c = subst (λ (z : SharedValue). IsShared z c.args.part) (sym c.self.view_is) c.requires.shared

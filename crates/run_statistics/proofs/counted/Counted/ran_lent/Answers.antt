@@ -1,9 +1,9 @@
-use Rattle.run_statistics.proofs.Common.{Ok, sym, subst, Private, SharedValue, Fits, alone_entry, IsShared, EntersLent, LeavesPart, LentTo, handed_on, CountsJournal}
+use Rattle.run_statistics.proofs.Common.{Ok, sym, subst, Private, SharedValue, WorkerPartFits, alone_entry, IsShared, EntersLent, LeavesPart, LentTo, handed_on, CountsJournal}
 use Rattle.run_statistics.proofs.EntryCounted.{is_made, lent_enters, unchanged_kept}
 use Rattle.run_statistics.proofs.counted.Counted.ran_lent.Goals as goal
 
 pub ran_lent-requires-clause-fits : goal.ran_lent-requires-clause-fits
-ran_lent-requires-clause-fits c = subst (λ (z : SharedValue). Fits z c.args.worker c.args.part.now) (sym c.self.view_is) c.requires.fits
+ran_lent-requires-clause-fits c = subst (λ (z : SharedValue). WorkerPartFits z c.args.worker c.args.part.now) (sym c.self.view_is) c.requires.fits
 
 pub ran_lent-requires-clause-shared : goal.ran_lent-requires-clause-shared
 ran_lent-requires-clause-shared c = subst (λ (z : SharedValue). IsShared z c.args.part.now) (sym c.self.view_is) c.requires.shared

@@ -1,9 +1,9 @@
-use Rattle.run_statistics.proofs.Common.{Ok, sym, subst, Ran, SharedValue, Fits, EntersSteps, handed_on, CountsJournal}
+use Rattle.run_statistics.proofs.Common.{Ok, sym, subst, Ran, SharedValue, WorkerPartFits, EntersSteps, handed_on, CountsJournal}
 use Rattle.run_statistics.proofs.EntryCounted.{is_made}
 use Rattle.run_statistics.proofs.counted.Counted.ran_private.Goals as goal
 
 pub ran_private-requires-clause-fits : goal.ran_private-requires-clause-fits
-ran_private-requires-clause-fits c = subst (λ (z : SharedValue). Fits z c.args.worker c.args.part.now) (sym c.self.view_is) c.requires.fits
+ran_private-requires-clause-fits c = subst (λ (z : SharedValue). WorkerPartFits z c.args.worker c.args.part.now) (sym c.self.view_is) c.requires.fits
 
 pub returns : goal.returns
 returns c = subst (λ (z : SharedValue). EntersSteps z c.ran_private.new.self c.args.worker c.args.part.now c.ran_private.new.part (Ok tt)) c.self.view_is c.in_ok-ran_private.ensures

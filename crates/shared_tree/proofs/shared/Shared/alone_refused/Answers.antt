@@ -1,4 +1,4 @@
-use Rattle.shared_tree.proofs.Common.{◌≡◌, ℕ, true, false, Option, None, is_some, ap, sym, subst, ◌∙◌, Refused, Collecting, refused_if, Private, first_cause, or_else, SharedValue, Fits, refused, found_first, nothing_first, IsShared, alone_entry, alone_answer, the_view}
+use Rattle.shared_tree.proofs.Common.{◌≡◌, ℕ, true, false, Option, None, is_some, ap, sym, subst, ◌∙◌, Refused, Collecting, refused_if, Private, first_cause, or_else, SharedValue, WorkerPartFits, refused, found_first, nothing_first, IsShared, alone_entry, alone_answer, the_view}
 use Rattle.shared_tree.proofs.shared.Shared.alone_refused.Goals as goal
 
 -- in the order of the causes
@@ -10,7 +10,7 @@ returns-then-is_some c =
     let w : SharedValue = the_view c.self.inside in
     let p : Private = c.args.part.now in
     let k : ℕ = c.args.worker in
-    let F : Fits w k p = subst (λ (z : SharedValue). Fits z k p) (sym c.self.view_is) c.requires.fits in
+    let F : WorkerPartFits w k p = subst (λ (z : SharedValue). WorkerPartFits z k p) (sym c.self.view_is) c.requires.fits in
     let shared : IsShared w p = subst (λ (z : SharedValue). IsShared z p) (sym c.self.view_is) c.requires.shared in
     let some : is_some (first_cause w.end w.steps w.settings k false) ≡ true = ap is_some (sym c.first_cause-first.ensures) ∙ (sym c.is_some.ensures ∙ c.if-is_some.true) in
     c.first_cause-first.ensures
@@ -22,7 +22,7 @@ returns-then-is_some-2 c =
     let w : SharedValue = the_view c.self.inside in
     let p : Private = c.args.part.now in
     let k : ℕ = c.args.worker in
-    let F : Fits w k p = subst (λ (z : SharedValue). Fits z k p) (sym c.self.view_is) c.requires.fits in
+    let F : WorkerPartFits w k p = subst (λ (z : SharedValue). WorkerPartFits z k p) (sym c.self.view_is) c.requires.fits in
     let shared : IsShared w p = subst (λ (z : SharedValue). IsShared z p) (sym c.self.view_is) c.requires.shared in
     let none : is_some (first_cause w.end w.steps w.settings k false) ≡ false = ap is_some (sym c.first_cause-first.ensures) ∙ (sym c.is_some.ensures ∙ c.if-is_some.false) in
     let begun : is_some p.begun ≡ true = sym c.is_some-2.ensures ∙ c.if-is_some-2.true in
@@ -35,7 +35,7 @@ returns-else-is_some-2 c =
     let w : SharedValue = the_view c.self.inside in
     let p : Private = c.args.part.now in
     let k : ℕ = c.args.worker in
-    let F : Fits w k p = subst (λ (z : SharedValue). Fits z k p) (sym c.self.view_is) c.requires.fits in
+    let F : WorkerPartFits w k p = subst (λ (z : SharedValue). WorkerPartFits z k p) (sym c.self.view_is) c.requires.fits in
     let shared : IsShared w p = subst (λ (z : SharedValue). IsShared z p) (sym c.self.view_is) c.requires.shared in
     let none : is_some (first_cause w.end w.steps w.settings k false) ≡ false = ap is_some (sym c.first_cause-first.ensures) ∙ (sym c.is_some.ensures ∙ c.if-is_some.false) in
     let idle : is_some p.begun ≡ false = sym c.is_some-2.ensures ∙ c.if-is_some-2.false in

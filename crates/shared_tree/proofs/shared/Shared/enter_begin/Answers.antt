@@ -1,4 +1,4 @@
-use Rattle.shared_tree.proofs.Common.{refl, ◌≡◌, ℕ, ◌-◌, ◌++◌, ◌∷◌, [], List, None, Some, map, arith, ap, sym, subst, ◌∙◌, ◌<◌, ReservedVecValue, EntryValue, Begin, small_words, ChunkValue, number_of, PoolValue, saturating_words, with_places, Private, SharedValue, IsSharedValue, Fits, OthersFit, take_by, refused, HasBegun, roots_of, journal_by, begin_count, begin_few, begin_free, begins_apart, begins_fit, begins_idle, begins_with, begins_world, places_fit, the_view}
+use Rattle.shared_tree.proofs.Common.{refl, ◌≡◌, ℕ, ◌-◌, ◌++◌, ◌∷◌, [], List, None, Some, map, arith, ap, sym, subst, ◌∙◌, ◌<◌, ReservedVecValue, EntryValue, Begin, small_words, ChunkValue, number_of, PoolValue, saturating_words, with_places, Private, SharedValue, IsSharedValue, WorkerPartFits, OthersFit, take_by, refused, CopyingHasBegun, roots_of, journal_by, begin_count, begin_few, begin_free, begins_apart, begins_fit, begins_idle, begins_with, begins_world, places_fit, the_view}
 use Rattle.shared_tree.proofs.shared.Shared.enter_begin.Goals as goal
 
 -- how many chunks the code takes
@@ -25,7 +25,7 @@ begin_with-requires c =
     let p : Private = c.args.part.now in
     let k : ℕ = c.args.worker in
     let same : w ≡ c.args.self.now = c.self.view_is in
-    let F : Fits w k p = subst (λ (z : SharedValue). Fits z k p) (sym same) c.requires.fits in
+    let F : WorkerPartFits w k p = subst (λ (z : SharedValue). WorkerPartFits z k p) (sym same) c.requires.fits in
     let free : refused w (record { worker = k; kind = Begin p.task }) ≡ None = subst (λ (z : SharedValue). refused z (record { worker = k; kind = Begin p.task }) ≡ None) (sym same) c.requires.free in
     let n : ℕ = c.chunks_for-count.result in
     let count = counts n c.small_words.result p c.chunks_for-count.ensures.take c.small_words.ensures in
@@ -44,9 +44,9 @@ returns-in_err-to-clause-fits c =
     let p : Private = c.args.part.now in
     let k : ℕ = c.args.worker in
     let q : Private = c.begin_with.new.part in
-    let F : Fits w k p = subst (λ (z : SharedValue). Fits z k p) (sym c.self.view_is) c.requires.fits in
-    subst (λ (z : PoolValue). Fits (record w { pool = z }) k q) (sym c.in_err-to.ensures.same)
-    (subst (λ (x : Private). Fits w k x) (sym c.in_err-to.ensures.back) (places_fit w k p q.heap.slots q.heap.spare F))
+    let F : WorkerPartFits w k p = subst (λ (z : SharedValue). WorkerPartFits z k p) (sym c.self.view_is) c.requires.fits in
+    subst (λ (z : PoolValue). WorkerPartFits (record w { pool = z }) k q) (sym c.in_err-to.ensures.same)
+    (subst (λ (x : Private). WorkerPartFits w k x) (sym c.in_err-to.ensures.back) (places_fit w k p q.heap.slots q.heap.spare F))
 
 pub push_reserved-requires : goal.push_reserved-requires
 push_reserved-requires c = subst (λ (z : SharedValue). 0 < z.journal.room) (sym c.self.view_is) c.requires.room
@@ -79,8 +79,8 @@ module _ (c : goal.After-push_reserved) where
   abbrev left : ReservedVecValue EntryValue
   left = record { items = []; room = w.journal.room - 1 }
 
-  F : Fits w k p
-  F = subst (λ (z : SharedValue). Fits z k p) (sym c.self.view_is) c.requires.fits
+  F : WorkerPartFits w k p
+  F = subst (λ (z : SharedValue). WorkerPartFits z k p) (sym c.self.view_is) c.requires.fits
 
   free : refused w (record { worker = k; kind = Begin p.task }) ≡ None
   free = subst (λ (z : SharedValue). refused z (record { worker = k; kind = Begin p.task }) ≡ None) (sym c.self.view_is) c.requires.free
@@ -104,12 +104,12 @@ module _ (c : goal.After-push_reserved) where
       subst (λ (j : ReservedVecValue EntryValue). OthersFit w (with j) k) (sym journal)
       (begins_apart w k p c.self.invariant F c.requires.fresh free c.begin_with.new.pool news [] p.task _ refl count refl c.in_ok-to.ensures.taken c.deref.result.now roots (map number_of news) refl left)
 
-  fits : Fits (with c.push_reserved.new.self) k (record p { heap = with_places p.heap q.heap.slots q.heap.spare; begun = Some (record { roots = c.deref.result.now; news = map number_of news }) })
+  fits : WorkerPartFits (with c.push_reserved.new.self) k (record p { heap = with_places p.heap q.heap.slots q.heap.spare; begun = Some (record { roots = c.deref.result.now; news = map number_of news }) })
   fits =
-      subst (λ (j : ReservedVecValue EntryValue). Fits (with j) k (record p { heap = with_places p.heap q.heap.slots q.heap.spare; begun = Some (record { roots = c.deref.result.now; news = map number_of news }) })) (sym journal)
+      subst (λ (j : ReservedVecValue EntryValue). WorkerPartFits (with j) k (record p { heap = with_places p.heap q.heap.slots q.heap.spare; begun = Some (record { roots = c.deref.result.now; news = map number_of news }) })) (sym journal)
       (begins_fit w k p c.self.invariant F c.requires.fresh free c.begin_with.new.pool news [] p.task _ refl count refl c.in_ok-to.ensures.taken c.deref.result.now roots (map number_of news) refl left q.heap.slots q.heap.spare)
 
-  begun : HasBegun p q c.deref.result.now c.in_ok-to.to
+  begun : CopyingHasBegun p q c.deref.result.now c.in_ok-to.to
   begun = begins_with w k p c.self.invariant F c.requires.fresh free c.begin_with.new.pool news [] p.task _ refl count refl c.in_ok-to.ensures.taken c.deref.result.now roots (map number_of news) refl left q c.in_ok-to.to refl c.in_ok-to.ensures.begun c.in_ok-to.ensures.reserved
 
 pub invariant_of-self-2 : goal.invariant_of-self-2
@@ -119,7 +119,7 @@ pub returns-clause-others : goal.returns-clause-others
 returns-clause-others c = subst (λ (z : SharedValue). OthersFit z (with c c.push_reserved.new.self) c.args.worker) c.self.view_is (apart c)
 
 pub returns-clause-fits : goal.returns-clause-fits
-returns-clause-fits c = subst (λ (x : Private). Fits (with c c.push_reserved.new.self) c.args.worker x) (sym c.in_ok-to.ensures.begun) (fits c)
+returns-clause-fits c = subst (λ (x : Private). WorkerPartFits (with c c.push_reserved.new.self) c.args.worker x) (sym c.in_ok-to.ensures.begun) (fits c)
 
 pub returns-clause-begun : goal.returns-clause-begun
-returns-clause-begun c = subst (λ rs. HasBegun c.args.part.now c.begin_with.new.part rs c.in_ok-to.to) c.deref.ensures.value (begun c)
+returns-clause-begun c = subst (λ rs. CopyingHasBegun c.args.part.now c.begin_with.new.part rs c.in_ok-to.to) c.deref.ensures.value (begun c)

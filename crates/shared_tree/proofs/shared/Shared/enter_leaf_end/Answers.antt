@@ -1,4 +1,4 @@
-use Rattle.shared_tree.proofs.Common.{◌≡◌, ℕ, All, None, Option, fold, is_some, slice_get, true, refl, ap, sym, subst, ◌∙◌, ◌<◌, IsSome, ReservedVecValue, all_from, EntryValue, ChunkValue, PoolValue, slot_at, redirected, AreInOrder, ArePlaces, StandOnce, Moved, AreGiven, Private, Heaps, Resting, resting_references, with_ref_in, with_resting, SharedValue, IsSharedValue, Fits, OthersFit, Enters, refused, heaps_of, sources_of, journal_by, FitsCopied, end_entry, without_collection, are_fields, back_in_use, fits_so, has_slot, others_so, pool_same, world_so, the_view}
+use Rattle.shared_tree.proofs.Common.{◌≡◌, ℕ, All, None, Option, fold, is_some, slice_get, true, refl, ap, sym, subst, ◌∙◌, ◌<◌, IsSome, ReservedVecValue, all_from, EntryValue, ChunkValue, PoolValue, slot_at, redirected, AreAscending, ArePlaces, StandOnce, Moved, AreGiven, Private, Heaps, Resting, resting_references, with_ref_in, with_resting, SharedValue, IsSharedValue, WorkerPartFits, OthersFit, Enters, refused, heaps_of, sources_of, journal_by, FitsCopied, end_entry, without_collection, are_fields, back_in_use, fits_so, has_slot, others_so, pool_same, world_so, the_view}
 use Rattle.shared_tree.proofs.shared.Shared.enter_leaf_end.Goals as goal
 
 some_is : {A : Type 0} (o : Option A) → is_some o ≡ true → IsSome o
@@ -66,7 +66,7 @@ returns-clause-fits c =
     let led : c.lead.new.heaps ≡ with_resting c.self.inside.heaps (led_heaps w p m) = c.lead.ensures.led ∙ ap (λ ms. with_resting c.self.inside.heaps (fold (redirected resting_references with_ref_in ms) (heaps_of w) (sources_of (slice_get w.sets p.task)))) c.deref.ensures.value in
     let once : StandOnce (sources_of (slice_get w.sets p.task)) = c.lead.ensures.once in
     let given : AreGiven (led_heaps w p m).pool c.give_all.new.pool m.back.items = subst (λ (z : PoolValue). AreGiven z c.give_all.new.pool m.back.items) (ap (λ (h : Heaps). h.pool) led ∙ sym (pool_same w k p m c.self.invariant F free (led_heaps w p m) refl once)) c.give_all.ensures in
-    subst (λ (h : Heaps). Fits (record w { pool = c.give_all.new.pool; rests = h.task_slots.rests; sets = h.task_slots.sets; marks = h.task_slots.marks; journal = c.push_reserved.new.self }) k (without_collection p)) (sym led)
+    subst (λ (h : Heaps). WorkerPartFits (record w { pool = c.give_all.new.pool; rests = h.task_slots.rests; sets = h.task_slots.sets; marks = h.task_slots.marks; journal = c.push_reserved.new.self }) k (without_collection p)) (sym led)
     (fits_so w k p m c.self.invariant F free (led_heaps w p m) refl once c.give_all.new.pool given c.push_reserved.new.self (journal_by w.journal _ _ (end_entry k p m) c.new.ensures c.push_reserved.ensures))
 
 pub returns-clause-others : goal.returns-clause-others
@@ -95,7 +95,7 @@ pub push_reserved-requires : goal.push_reserved-requires
 push_reserved-requires c = subst (λ (z : SharedValue). 0 < z.journal.room) (sym c.self.view_is) c.requires.room
 
 pub lead-requires-clause-order : goal.lead-requires-clause-order
-lead-requires-clause-order c = subst AreInOrder (sym c.deref.ensures.value) c.requires.fits.order
+lead-requires-clause-order c = subst AreAscending (sym c.deref.ensures.value) c.requires.fits.order
 
 pub lead-requires-clause-places : goal.lead-requires-clause-places
 lead-requires-clause-places c = subst ArePlaces (sym c.deref.ensures.value) c.requires.fits.places

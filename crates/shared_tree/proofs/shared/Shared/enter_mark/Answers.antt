@@ -1,4 +1,4 @@
-use Rattle.shared_tree.proofs.Common.{◌≡◌, ℕ, ◌-◌, ◌++◌, ◌∷◌, [], List, Option, None, Some, is_some, slice_set, ap, sym, subst, ◌∙◌, ◌<◌, option_flatten, ReservedVecValue, got_other, EntryValue, Mark, heap_of, MarkingValue, CanGoOnMarking, TaskSlotsValue, refused, AllFit, SharedValue, accounts, value_of, IsSharedValue, entry_on, journal_by, mark_enters, mark_waits, rest, the_view}
+use Rattle.shared_tree.proofs.Common.{◌≡◌, ℕ, ◌-◌, ◌++◌, ◌∷◌, [], List, Option, None, Some, is_some, slice_set, ap, sym, subst, ◌∙◌, ◌<◌, option_flatten, ReservedVecValue, got_other, EntryValue, Mark, heap_of, MarkingValue, CanGoOnMarking, TaskSlotsValue, refused, EachPartStillFits, SharedValue, accounts, value_of, IsSharedValue, entry_on, journal_by, mark_enters, mark_waits, rest, the_view}
 use Rattle.leaf_collections.specs.below.task_slots.{marks_at}
 use Rattle.shared_tree.proofs.shared.Shared.enter_mark.Goals as goal
 
@@ -38,9 +38,9 @@ returns-clause-fits c =
     let ms : List (Option MarkingValue) = slice_set w.marks t (Some c.in_ok-marking.marking) in
     let at : marks_at ms t ≡ Some c.args.marking = ap (λ (h : TaskSlotsValue). marks_at h.marks t) (sym c.put_marking.ensures.task_slots) ∙ (c.put_marking.ensures.marking ∙ ap Some c.in_ok-marking.ensures.ok) in
     let both = mark_enters w c.self.invariant k t c.args.marking ms (w.journal.room - 1) at (λ u ne. ap option_flatten (got_other w.marks t u (Some c.in_ok-marking.marking) ne)) free c.requires.none goes in
-    subst (λ (z : SharedValue). AllFit z (record w { rests = c.put_marking.new.self.rests; sets = c.put_marking.new.self.sets; marks = c.put_marking.new.self.marks; journal = c.push_reserved.new.self })) c.self.view_is
-    (subst (λ (j : ReservedVecValue EntryValue). AllFit w (record w { rests = c.put_marking.new.self.rests; sets = c.put_marking.new.self.sets; marks = c.put_marking.new.self.marks; journal = j })) (sym journal)
-    (subst (λ (h : TaskSlotsValue). AllFit w (record w { rests = h.rests; sets = h.sets; marks = h.marks; journal = record { items = w.journal.items ++ e ∷ []; room = w.journal.room - 1 } })) (sym c.put_marking.ensures.task_slots) both.1))
+    subst (λ (z : SharedValue). EachPartStillFits z (record w { rests = c.put_marking.new.self.rests; sets = c.put_marking.new.self.sets; marks = c.put_marking.new.self.marks; journal = c.push_reserved.new.self })) c.self.view_is
+    (subst (λ (j : ReservedVecValue EntryValue). EachPartStillFits w (record w { rests = c.put_marking.new.self.rests; sets = c.put_marking.new.self.sets; marks = c.put_marking.new.self.marks; journal = j })) (sym journal)
+    (subst (λ (h : TaskSlotsValue). EachPartStillFits w (record w { rests = h.rests; sets = h.sets; marks = h.marks; journal = record { items = w.journal.items ++ e ∷ []; room = w.journal.room - 1 } })) (sym c.put_marking.ensures.task_slots) both.1))
 
 pub push_reserved-requires : goal.push_reserved-requires
 push_reserved-requires c = subst (λ (z : SharedValue). 0 < z.journal.room) (sym c.self.view_is) c.requires.room

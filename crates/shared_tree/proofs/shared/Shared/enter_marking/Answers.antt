@@ -1,4 +1,4 @@
-use Rattle.shared_tree.proofs.Common.{◌≡◌, ℕ, ◌-◌, ◌<◌, ◌++◌, ◌∷◌, [], All, List, Option, Some, None, min, is_some, option_copied, slice_get, slice_set, ap, sym, subst, ◌∙◌, ReservedVecValue, EntryValue, More, heap_of, left_in, Addr, HasObjectAt, IsAllMarked, IsMarking, IsOf, MarkingValue, ParkedTask, ChunkValue, Fork, IsSince, kept, TaskSlotsValue, kept_of, refused, AllFit, SharedValue, accounts, marks_at, rest_at, value_of, IsSharedValue, journal_by, entry_on, marking_cause, Further, kept_noted, put_back, some_count, some_enters, some_marks, further, marks_within, never_gone, never_unmarked, the_view}
+use Rattle.shared_tree.proofs.Common.{◌≡◌, ℕ, ◌-◌, ◌<◌, ◌++◌, ◌∷◌, [], All, List, Option, Some, None, min, is_some, option_copied, slice_get, slice_set, ap, sym, subst, ◌∙◌, ReservedVecValue, EntryValue, More, heap_of, left_in, Addr, HasObjectAt, IsAllMarked, IsMarking, IsOf, MarkingValue, ParkedTask, ChunkValue, Fork, IsSince, kept, TaskSlotsValue, kept_of, refused, EachPartStillFits, SharedValue, accounts, marks_at, rest_at, value_of, IsSharedValue, journal_by, entry_on, marking_cause, Further, kept_noted, put_back, some_count, some_enters, some_marks, further, marks_within, never_gone, never_unmarked, the_view}
 use Rattle.heap_marking.proofs.MarkedHeap.{rest}
 use Rattle.shared_tree.proofs.shared.Shared.enter_marking.Goals as goal
 use Rattle.shared_tree.proofs.shared.Shared.enter_marking.Goals.{After-get_mut, After-push_reserved}
@@ -114,7 +114,7 @@ module _ (c : After-push_reserved) where
   abbrev with : TaskSlotsValue → ReservedVecValue EntryValue → SharedValue
   with h j = record old { rests = h.rests; sets = h.sets; marks = h.marks; journal = j }
 
-  both : IsSharedValue (with c.put_marking.new.self c.push_reserved.new.self) × AllFit old (with c.put_marking.new.self c.push_reserved.new.self)
+  both : IsSharedValue (with c.put_marking.new.self c.push_reserved.new.self) × EachPartStillFits old (with c.put_marking.new.self c.push_reserved.new.self)
   both =
       let journal : c.push_reserved.new.self ≡ record { items = old.journal.items ++ e ∷ []; room = old.journal.room - 1 } = journal_by old.journal _ _ e c.new.ensures c.push_reserved.ensures in
       let put = put_back old.marks task None last (marks_within old c.self.invariant ask.1.0 task ask.1.1) in
@@ -122,8 +122,8 @@ module _ (c : After-push_reserved) where
       let whole : c.put_marking.new.self ≡ record c.self.inside.heaps.task_slots { marks = ms } =
       c.put_marking.ensures.task_slots ∙ ap (λ (h : TaskSlotsValue). let z : TaskSlotsValue = record h { marks = slice_set h.marks task (Some last) } in z) c.take_marking.ensures.task_slots in
       let all = some_enters old c.self.invariant k task n ask.0 c.in-Some-rest.rest.now first last c.mark_objects-count.result (there b) (at b) own c.mark_objects-count.ensures.count c.mark_objects-count.ensures.most goes left ms (old.journal.room - 1) put.0 put.1 in
-      subst (λ (j : ReservedVecValue EntryValue). IsSharedValue (with c.put_marking.new.self j) × AllFit old (with c.put_marking.new.self j)) (sym journal)
-      (subst (λ (h : TaskSlotsValue). IsSharedValue (with h (record { items = old.journal.items ++ e ∷ []; room = old.journal.room - 1 })) × AllFit old (with h (record { items = old.journal.items ++ e ∷ []; room = old.journal.room - 1 }))) (sym whole) all)
+      subst (λ (j : ReservedVecValue EntryValue). IsSharedValue (with c.put_marking.new.self j) × EachPartStillFits old (with c.put_marking.new.self j)) (sym journal)
+      (subst (λ (h : TaskSlotsValue). IsSharedValue (with h (record { items = old.journal.items ++ e ∷ []; room = old.journal.room - 1 })) × EachPartStillFits old (with h (record { items = old.journal.items ++ e ∷ []; room = old.journal.room - 1 }))) (sym whole) all)
 
 pub invariant_of-self : goal.invariant_of-self
 invariant_of-self c = (both c).0
@@ -132,4 +132,4 @@ pub returns-clause-count : goal.returns-clause-count
 returns-clause-count c = count c ∙ ap (λ (z : SharedValue). min c.args.n (left_in (heap_of (accounts z) c.args.t))) c.self.view_is
 
 pub returns-clause-fits : goal.returns-clause-fits
-returns-clause-fits c = subst (λ (z : SharedValue). AllFit z (with c c.put_marking.new.self c.push_reserved.new.self)) c.self.view_is (both c).1
+returns-clause-fits c = subst (λ (z : SharedValue). EachPartStillFits z (with c c.put_marking.new.self c.push_reserved.new.self)) c.self.view_is (both c).1

@@ -1,4 +1,4 @@
-use Rattle.shared_tree.proofs.Common.{◌≡◌, ℕ, ◌+◌, ◌-◌, arith, [], ap, ap₂, sym, subst, ◌∙◌, w64, to_z-of_z, FramesValue, with_int, with_next, Private, IsSharedValue, SharedValue, GoesAlone, AsksAlone, asks_alone, alone_small, next_small, SetsNumber, TellsOther, number_goes, number_world, the_view}
+use Rattle.shared_tree.proofs.Common.{◌≡◌, ℕ, ◌+◌, ◌-◌, arith, [], ap, ap₂, sym, subst, ◌∙◌, w64, to_z-of_z, FramesValue, frames_with_int, with_next, Private, IsSharedValue, SharedValue, GoesAlone, AsksAlone, asks_alone, alone_small, next_small, SetsNumber, TellsOther, number_goes, number_world, the_view}
 use Rattle.shared_tree.proofs.StepsEntered.{along}
 use Rattle.shared_tree.proofs.shared.Shared.enter_number.Goals as goal
 
@@ -31,9 +31,9 @@ returns c =
     let k : ℕ = c.args.worker in
     let asks : AsksAlone w k p = asks_alone c.self.view_is c.self.invariant c.requires.fits c.requires.shared c.requires.free in
     let T : (n : ℕ) × TellsOther w p (SetsNumber c.args.register c.args.value) n = subst (λ (z : SharedValue). (n : ℕ) × TellsOther z p (SetsNumber c.args.register c.args.value) n) (sym c.self.view_is) c.requires.reads in
-    let frames : c.set_next.new.self ≡ with_next (with_int p.frames c.args.register c.args.value) (p.frames.top.next + 1) =
-    c.set_next.ensures ∙ ap₂ (λ (s : FramesValue) n. with_next s (n + 1)) (c.set_int.ensures ∙ (ap (with_int p.frames c.index.result) (to_z-of_z w64 c.args.value c.ranges.value) ∙ ap (λ i. with_int p.frames i c.args.value) c.index.ensures.value)) c.next-next.ensures in
+    let frames : c.set_next.new.self ≡ with_next (frames_with_int p.frames c.args.register c.args.value) (p.frames.top.next + 1) =
+    c.set_next.ensures ∙ ap₂ (λ (s : FramesValue) n. with_next s (n + 1)) (c.set_int.ensures ∙ (ap (frames_with_int p.frames c.index.result) (to_z-of_z w64 c.args.value c.ranges.value) ∙ ap (λ i. frames_with_int p.frames i c.args.value) c.index.ensures.value)) c.next-next.ensures in
     subst (λ (z : SharedValue). GoesAlone z (record w { steps = c.enter_alone.new.steps; journal = c.enter_alone.new.journal }) k p (record p { frames = c.set_next.new.self; fresh = 0 })) c.self.view_is
     (subst (λ (s : FramesValue). GoesAlone w (record w { steps = c.enter_alone.new.steps; journal = c.enter_alone.new.journal }) k p (record p { frames = s; fresh = 0 })) (sym frames)
-    (along w k p _ _ c.enter_alone.ensures.steps c.enter_alone.ensures.journal (λ n j. GoesAlone w (record w { steps = n; journal = j }) k p (record p { frames = with_next (with_int p.frames c.args.register c.args.value) (p.frames.top.next + 1); fresh = 0 }))
+    (along w k p _ _ c.enter_alone.ensures.steps c.enter_alone.ensures.journal (λ n j. GoesAlone w (record w { steps = n; journal = j }) k p (record p { frames = with_next (frames_with_int p.frames c.args.register c.args.value) (p.frames.top.next + 1); fresh = 0 }))
     (number_goes asks c.args.register c.args.value T.0 T.1 (record { items = []; room = w.journal.room - 1 }))))

@@ -1,4 +1,4 @@
-use Rattle.shared_tree.proofs.Common.{◌≡◌, ℕ, ◌-◌, ◌++◌, ◌∷◌, [], None, ap, sym, subst, ◌∙◌, ReservedVecValue, EntryValue, PutOff, Private, SharedValue, IsSharedValue, Fits, OthersFit, refused, journal_by, put_off_apart, put_off_fits, put_off_stands, reset, the_view}
+use Rattle.shared_tree.proofs.Common.{◌≡◌, ℕ, ◌-◌, ◌++◌, ◌∷◌, [], None, ap, sym, subst, ◌∙◌, ReservedVecValue, EntryValue, PutOff, Private, SharedValue, IsSharedValue, WorkerPartFits, OthersFit, refused, journal_by, put_off_apart, put_off_fits, put_off_stands, reset, the_view}
 use Rattle.shared_tree.proofs.shared.Shared.enter_put_off.Goals as goal
 
 -- the journal with the entry, as the call names the task
@@ -12,7 +12,7 @@ invariant_of-self c =
     let p : Private = c.args.part.now in
     let k : ℕ = c.args.worker in
     let e : EntryValue = record { worker = k; kind = PutOff p.task } in
-    let F : Fits w k p = subst (λ (z : SharedValue). Fits z k p) (sym c.self.view_is) c.requires.fits in
+    let F : WorkerPartFits w k p = subst (λ (z : SharedValue). WorkerPartFits z k p) (sym c.self.view_is) c.requires.fits in
     let free : refused w e ≡ None = subst (λ (z : SharedValue). refused z e ≡ None) (sym c.self.view_is) c.requires.free in
     subst (λ (j : ReservedVecValue EntryValue). IsSharedValue (record w { journal = j })) (sym (entry_so w.journal k c.args.task p.task c.requires.task c.new.result c.push_reserved.new.self c.new.ensures c.push_reserved.ensures))
     (put_off_stands w k p F c.requires.fresh c.self.invariant free (record { items = []; room = w.journal.room - 1 }))
@@ -23,10 +23,10 @@ returns-clause-fits c =
     let p : Private = c.args.part.now in
     let k : ℕ = c.args.worker in
     let e : EntryValue = record { worker = k; kind = PutOff p.task } in
-    let F : Fits w k p = subst (λ (z : SharedValue). Fits z k p) (sym c.self.view_is) c.requires.fits in
+    let F : WorkerPartFits w k p = subst (λ (z : SharedValue). WorkerPartFits z k p) (sym c.self.view_is) c.requires.fits in
     let free : refused w e ≡ None = subst (λ (z : SharedValue). refused z e ≡ None) (sym c.self.view_is) c.requires.free in
-    subst (λ (q : Private). Fits (record w { journal = c.push_reserved.new.self }) k q) (sym c.reset_since.ensures.changed)
-    (subst (λ (j : ReservedVecValue EntryValue). Fits (record w { journal = j }) k (record p { heap = reset p.heap })) (sym (entry_so w.journal k c.args.task p.task c.requires.task c.new.result c.push_reserved.new.self c.new.ensures c.push_reserved.ensures))
+    subst (λ (q : Private). WorkerPartFits (record w { journal = c.push_reserved.new.self }) k q) (sym c.reset_since.ensures.changed)
+    (subst (λ (j : ReservedVecValue EntryValue). WorkerPartFits (record w { journal = j }) k (record p { heap = reset p.heap })) (sym (entry_so w.journal k c.args.task p.task c.requires.task c.new.result c.push_reserved.new.self c.new.ensures c.push_reserved.ensures))
     (put_off_fits w k p F c.requires.fresh c.self.invariant free (record { items = []; room = w.journal.room - 1 })))
 
 pub returns-clause-others : goal.returns-clause-others
@@ -35,7 +35,7 @@ returns-clause-others c =
     let p : Private = c.args.part.now in
     let k : ℕ = c.args.worker in
     let e : EntryValue = record { worker = k; kind = PutOff p.task } in
-    let F : Fits w k p = subst (λ (z : SharedValue). Fits z k p) (sym c.self.view_is) c.requires.fits in
+    let F : WorkerPartFits w k p = subst (λ (z : SharedValue). WorkerPartFits z k p) (sym c.self.view_is) c.requires.fits in
     let free : refused w e ≡ None = subst (λ (z : SharedValue). refused z e ≡ None) (sym c.self.view_is) c.requires.free in
     subst (λ (z : SharedValue). OthersFit z (record w { journal = c.push_reserved.new.self }) k) c.self.view_is
     (subst (λ (j : ReservedVecValue EntryValue). OthersFit w (record w { journal = j }) k) (sym (entry_so w.journal k c.args.task p.task c.requires.task c.new.result c.push_reserved.new.self c.new.ensures c.push_reserved.ensures))

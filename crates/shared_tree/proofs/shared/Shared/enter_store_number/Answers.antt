@@ -1,5 +1,5 @@
 use Rattle.shared_tree.proofs.Common.{◌≡◌, ℕ, ℤ, ◌+◌, ◌-◌, arith, Option, Some, None, List, [], slice_set, ap, sym, subst, ◌∙◌, w64, to_z-of_z, ReservedVecValue, EntryValue, cell_of, FramesValue, Private, Heaps, ParkedTask, TaskSlotsValue, IsSharedValue, SharedValue, GoesAlone, AsksAlone, asks_alone, alone_small, next_small, StoresNumber, TellsOther, put_rest, store_frames, the_view}
-use Rattle.leaf_collections.specs.below.object_layout.{with_int}
+use Rattle.leaf_collections.specs.below.object_layout.{cell_with_int}
 use Rattle.remote_access.proofs.StoreEntries as entries
 use Rattle.shared_tree.proofs.HeapsWritten.{with_heaps, written_by}
 use Rattle.shared_tree.proofs.StepsEntered.{along, entered}
@@ -51,9 +51,9 @@ invariant_of-self c =
     let asks : AsksAlone w k p = asks_alone c.self.view_is c.self.invariant c.requires.fits c.requires.shared c.requires.free in
     let T : (n : ℕ) × TellsOther w p (StoresNumber c.args.object c.args.field c.args.value) n = subst (λ (z : SharedValue). (n : ℕ) × TellsOther z p (StoresNumber c.args.object c.args.field c.args.value) n) (sym c.self.view_is) c.requires.stores in
     let h : Heaps = c.write_number.new.heaps in
-    let task_slots : h.task_slots ≡ written c.self.inside.heaps.task_slots (slice_set w.rests (entries.owner_number asks c.args.object c.args.field c.args.value T.0 T.1) (Some (put_rest (entries.foreign_number asks c.args.object c.args.field c.args.value T.0 T.1).rest c.args.object (with_int (cell_of (entries.foreign_number asks c.args.object c.args.field c.args.value T.0 T.1).rest.heap.chunks c.args.object) c.args.field c.args.value)))) =
+    let task_slots : h.task_slots ≡ written c.self.inside.heaps.task_slots (slice_set w.rests (entries.owner_number asks c.args.object c.args.field c.args.value T.0 T.1) (Some (put_rest (entries.foreign_number asks c.args.object c.args.field c.args.value T.0 T.1).rest c.args.object (cell_with_int (cell_of (entries.foreign_number asks c.args.object c.args.field c.args.value T.0 T.1).rest.heap.chunks c.args.object) c.args.field c.args.value)))) =
     c.write_number.ensures.written (entries.owner_number asks c.args.object c.args.field c.args.value T.0 T.1) (entries.foreign_number asks c.args.object c.args.field c.args.value T.0 T.1).rest (entries.foreign_number asks c.args.object c.args.field c.args.value T.0 T.1).place.chunk (entries.foreign_number asks c.args.object c.args.field c.args.value T.0 T.1).there
-    ∙ ap (λ (z : ℤ). written c.self.inside.heaps.task_slots (slice_set w.rests (entries.owner_number asks c.args.object c.args.field c.args.value T.0 T.1) (Some (put_rest (entries.foreign_number asks c.args.object c.args.field c.args.value T.0 T.1).rest c.args.object (with_int (cell_of (entries.foreign_number asks c.args.object c.args.field c.args.value T.0 T.1).rest.heap.chunks c.args.object) c.args.field z))))) (to_z-of_z w64 c.args.value c.ranges.value) in
+    ∙ ap (λ (z : ℤ). written c.self.inside.heaps.task_slots (slice_set w.rests (entries.owner_number asks c.args.object c.args.field c.args.value T.0 T.1) (Some (put_rest (entries.foreign_number asks c.args.object c.args.field c.args.value T.0 T.1).rest c.args.object (cell_with_int (cell_of (entries.foreign_number asks c.args.object c.args.field c.args.value T.0 T.1).rest.heap.chunks c.args.object) c.args.field z))))) (to_z-of_z w64 c.args.value c.ranges.value) in
     let space : ReservedVecValue EntryValue = record { items = []; room = w.journal.room - 1 } in
     along w k p _ _ c.enter_alone.ensures.steps c.enter_alone.ensures.journal (λ n j. IsSharedValue (with_heaps w h n j))
     (subst IsSharedValue (written_by w (w.steps + (p.fresh + 1)) (entered w k p) h _ w.sets c.write_number.ensures.pool (ap (λ (z : TaskSlotsValue). z.marks) task_slots) (ap (λ (z : TaskSlotsValue). z.rests) task_slots) (ap (λ (z : TaskSlotsValue). z.sets) task_slots)) (entries.number_world asks c.args.object c.args.field c.args.value T.0 T.1 space))
@@ -66,9 +66,9 @@ returns c =
     let asks : AsksAlone w k p = asks_alone c.self.view_is c.self.invariant c.requires.fits c.requires.shared c.requires.free in
     let T : (n : ℕ) × TellsOther w p (StoresNumber c.args.object c.args.field c.args.value) n = subst (λ (z : SharedValue). (n : ℕ) × TellsOther z p (StoresNumber c.args.object c.args.field c.args.value) n) (sym c.self.view_is) c.requires.stores in
     let h : Heaps = c.write_number.new.heaps in
-    let task_slots : h.task_slots ≡ written c.self.inside.heaps.task_slots (slice_set w.rests (entries.owner_number asks c.args.object c.args.field c.args.value T.0 T.1) (Some (put_rest (entries.foreign_number asks c.args.object c.args.field c.args.value T.0 T.1).rest c.args.object (with_int (cell_of (entries.foreign_number asks c.args.object c.args.field c.args.value T.0 T.1).rest.heap.chunks c.args.object) c.args.field c.args.value)))) =
+    let task_slots : h.task_slots ≡ written c.self.inside.heaps.task_slots (slice_set w.rests (entries.owner_number asks c.args.object c.args.field c.args.value T.0 T.1) (Some (put_rest (entries.foreign_number asks c.args.object c.args.field c.args.value T.0 T.1).rest c.args.object (cell_with_int (cell_of (entries.foreign_number asks c.args.object c.args.field c.args.value T.0 T.1).rest.heap.chunks c.args.object) c.args.field c.args.value)))) =
     c.write_number.ensures.written (entries.owner_number asks c.args.object c.args.field c.args.value T.0 T.1) (entries.foreign_number asks c.args.object c.args.field c.args.value T.0 T.1).rest (entries.foreign_number asks c.args.object c.args.field c.args.value T.0 T.1).place.chunk (entries.foreign_number asks c.args.object c.args.field c.args.value T.0 T.1).there
-    ∙ ap (λ (z : ℤ). written c.self.inside.heaps.task_slots (slice_set w.rests (entries.owner_number asks c.args.object c.args.field c.args.value T.0 T.1) (Some (put_rest (entries.foreign_number asks c.args.object c.args.field c.args.value T.0 T.1).rest c.args.object (with_int (cell_of (entries.foreign_number asks c.args.object c.args.field c.args.value T.0 T.1).rest.heap.chunks c.args.object) c.args.field z))))) (to_z-of_z w64 c.args.value c.ranges.value) in
+    ∙ ap (λ (z : ℤ). written c.self.inside.heaps.task_slots (slice_set w.rests (entries.owner_number asks c.args.object c.args.field c.args.value T.0 T.1) (Some (put_rest (entries.foreign_number asks c.args.object c.args.field c.args.value T.0 T.1).rest c.args.object (cell_with_int (cell_of (entries.foreign_number asks c.args.object c.args.field c.args.value T.0 T.1).rest.heap.chunks c.args.object) c.args.field z))))) (to_z-of_z w64 c.args.value c.ranges.value) in
     let space : ReservedVecValue EntryValue = record { items = []; room = w.journal.room - 1 } in
     subst (λ (z : SharedValue). GoesAlone z (with_heaps w h c.enter_alone.new.steps c.enter_alone.new.journal) k p (record p { frames = c.go_on.new.frames; fresh = 0 })) c.self.view_is
     (subst (λ (s : FramesValue). GoesAlone w (with_heaps w h c.enter_alone.new.steps c.enter_alone.new.journal) k p (record p { frames = s; fresh = 0 })) (sym c.go_on.ensures)

@@ -1,4 +1,4 @@
-use Rattle.shared_tree.proofs.Common.{◌≡◌, false, ℕ, None, length, option_map, slice_get, slice_set, ap, sym, subst, ◌∙◌, EntryValue, Sweep, content_at, TaskSlotsValue, keeping, SharedValue, IsSharedValue, AllFit, refused, journal_by, SweepsSlot, can_all, has_marking, m, marked, r, rest_is_there, the_view}
+use Rattle.shared_tree.proofs.Common.{◌≡◌, false, ℕ, None, length, option_map, slice_get, slice_set, ap, sym, subst, ◌∙◌, EntryValue, Sweep, content_at, TaskSlotsValue, keeping, SharedValue, IsSharedValue, EachPartStillFits, refused, journal_by, SweepsSlot, can_all, has_marking, m, marked, r, rest_is_there, the_view}
 use Rattle.heap_marking.proofs.SweepEntered.{fits_so, has_slot, world_so}
 use Rattle.shared_tree.proofs.shared.Shared.enter_sweep.Goals as goal
 
@@ -58,7 +58,7 @@ module _ (c : goal.After-push_reserved) where
   abbrev with : SharedValue
   with = record w { pool = c.drop_unmarked.new.heaps.pool; rests = new.rests; sets = new.sets; marks = new.marks; journal = c.push_reserved.new.self }
 
-  both : IsSharedValue with × AllFit w with
+  both : IsSharedValue with × EachPartStillFits w with
   both =
       let many : length new.sets ≡ length w.sets = c.forget_kept.ensures.many ∙ ap length sets in
       let none = c.forget_kept.ensures.none ∙ ap (λ xs. option_map (keeping false) (content_at xs t)) sets in
@@ -71,4 +71,4 @@ pub invariant_of-self : goal.invariant_of-self
 invariant_of-self c = (both c).0
 
 pub returns-clause-fits : goal.returns-clause-fits
-returns-clause-fits c = subst (λ (z : SharedValue). AllFit z (with c)) c.self.view_is (both c).1
+returns-clause-fits c = subst (λ (z : SharedValue). EachPartStillFits z (with c)) c.self.view_is (both c).1

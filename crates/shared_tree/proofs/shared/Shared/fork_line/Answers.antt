@@ -1,4 +1,4 @@
-use Rattle.shared_tree.proofs.Common.{◌≡◌, ℕ, Option, Some, None, ap₂, sym, subst, ◌∙◌, Line, line_at, Private, SharedValue, Fits, refused, next_line, alone_entry, runs_on, some_line, ForksTo, IsAtFork, fork_shared, forks_to, is_par_line, par_is, MayBeEntered, the_view}
+use Rattle.shared_tree.proofs.Common.{◌≡◌, ℕ, Option, Some, None, ap₂, sym, subst, ◌∙◌, Line, line_at, Private, SharedValue, WorkerPartFits, refused, next_line, alone_entry, runs_on, some_line, ForksTo, IsAtFork, fork_shared, forks_to, is_par_line, par_is, MayBeEntered, the_view}
 use Rattle.shared_tree.proofs.shared.Shared.fork_line.Goals as goal
 
 none_some : (line : Line) → ◌≡◌ {A = Option Line} None (Some line) → ⊥
@@ -10,7 +10,7 @@ unreachable-requires c =
     let p : Private = c.args.part.now in
     let held : MayBeEntered w p = subst (λ (z : SharedValue). MayBeEntered z p) (sym c.self.view_is) c.requires.out in
     let k : ℕ = held.worker in
-    let F : Fits w k p = held.fits in
+    let F : WorkerPartFits w k p = held.fits in
     let at : IsAtFork w p = subst (λ (z : SharedValue). IsAtFork z p) (sym c.self.view_is) c.requires.forks in
     let free : refused w (alone_entry k p) ≡ None = held.free in
     let line = some_line w k p c.self.invariant F (fork_shared w p at) (runs_on (record { I = c.self.invariant; F = F; shared = (fork_shared w p at); free = free })) in
@@ -22,7 +22,7 @@ unreachable-requires-in_default-instr c =
     let p : Private = c.args.part.now in
     let held : MayBeEntered w p = subst (λ (z : SharedValue). MayBeEntered z p) (sym c.self.view_is) c.requires.out in
     let k : ℕ = held.worker in
-    let F : Fits w k p = held.fits in
+    let F : WorkerPartFits w k p = held.fits in
     let at : IsAtFork w p = subst (λ (z : SharedValue). IsAtFork z p) (sym c.self.view_is) c.requires.forks in
     let free : refused w (alone_entry k p) ≡ None = held.free in
     let is : next_line w.program p ≡ Some c.in-Some.line = ap₂ (line_at w.program) (sym c.fun.ensures) (sym c.next.ensures) ∙ (sym c.line.ensures ∙ c.in-Some.is) in
@@ -35,7 +35,7 @@ returns c =
     let p : Private = c.args.part.now in
     let held : MayBeEntered w p = subst (λ (z : SharedValue). MayBeEntered z p) (sym c.self.view_is) c.requires.out in
     let k : ℕ = held.worker in
-    let F : Fits w k p = held.fits in
+    let F : WorkerPartFits w k p = held.fits in
     let at : IsAtFork w p = subst (λ (z : SharedValue). IsAtFork z p) (sym c.self.view_is) c.requires.forks in
     let free : refused w (alone_entry k p) ≡ None = held.free in
     let is : next_line w.program p ≡ Some c.in-Some.line = ap₂ (line_at w.program) (sym c.fun.ensures) (sym c.next.ensures) ∙ (sym c.line.ensures ∙ c.in-Some.is) in

@@ -1,4 +1,4 @@
-use Rattle.shared_tree.proofs.Common.{◌≡◌, ℕ, ◌+◌, ◌-◌, ◌<◌, ◌≤◌, None, Some, [], inl, inr, Ok, Err, refl, ap, sym, subst, ◌∙◌, Result, cases_lt, OnErr, ReservedVecValue, EntryValue, Chunk, Pool as PoolOf, chunk_units, NotTaken, Full, PoolValue, units_in_use, LeafHeapValue, IsFresh, added, with_places, Private, SharedValue, IsSharedValue, Fits, OthersFit, part_asks, Enters, refused, journal_by, given_fresh, given_others, given_part, given_world, places_fit, pool_others, pool_part, pool_world, the_view}
+use Rattle.shared_tree.proofs.Common.{◌≡◌, ℕ, ◌+◌, ◌-◌, ◌<◌, ◌≤◌, None, Some, [], inl, inr, Ok, Err, refl, ap, sym, subst, ◌∙◌, Result, cases_lt, OnErr, ReservedVecValue, EntryValue, Chunk, Pool as PoolOf, chunk_units, NotTaken, Full, PoolValue, units_in_use, LeafHeapValue, IsFresh, added, with_places, Private, SharedValue, IsSharedValue, WorkerPartFits, OthersFit, part_asks, Enters, refused, journal_by, given_fresh, given_others, given_part, given_world, places_fit, pool_others, pool_part, pool_world, the_view}
 use Rattle.shared_tree.proofs.shared.Shared.give_chunk.Goals as goal
 
 room_of_space : ReservedVecValue EntryValue → ℕ → ReservedVecValue EntryValue
@@ -16,7 +16,7 @@ add_spare-requires-clause-fresh c =
     let w : SharedValue = the_view c.self.inside in
     let p : Private = c.args.part.now in
     let k : ℕ = c.args.worker in
-    let F : Fits w k p = subst (λ (z : SharedValue). Fits z k p) (sym c.self.view_is) c.requires.fits in
+    let F : WorkerPartFits w k p = subst (λ (z : SharedValue). WorkerPartFits z k p) (sym c.self.view_is) c.requires.fits in
     let free : refused w (record { worker = k; kind = Chunk p.task }) ≡ None = subst (λ (z : SharedValue). refused z (record { worker = k; kind = Chunk p.task }) ≡ None) (sym c.self.view_is) c.requires.free in
     let sized : c.units_for-units.result ≡ chunk_units (part_asks w.program p) = c.units_for-units.ensures.units ∙ ap chunk_units c.words_asked.ensures.asked in
     subst (λ (h : LeafHeapValue). IsFresh h.chunks c.in-Ok.chunk.number) (sym c.make_room.ensures.kept)
@@ -28,7 +28,7 @@ invariant_of-self c =
     let w : SharedValue = the_view c.self.inside in
     let p : Private = c.args.part.now in
     let k : ℕ = c.args.worker in
-    let F : Fits w k p = subst (λ (z : SharedValue). Fits z k p) (sym c.self.view_is) c.requires.fits in
+    let F : WorkerPartFits w k p = subst (λ (z : SharedValue). WorkerPartFits z k p) (sym c.self.view_is) c.requires.fits in
     let e : EntryValue = record { worker = k; kind = Chunk p.task } in
     let free : refused w e ≡ None = subst (λ (z : SharedValue). refused z e ≡ None) (sym c.self.view_is) c.requires.free in
     let sized : c.units_for-units.result ≡ chunk_units (part_asks w.program p) = c.units_for-units.ensures.units ∙ ap chunk_units c.words_asked.ensures.asked in
@@ -41,14 +41,14 @@ returns-in-Ok-clause-fits c =
     let w : SharedValue = the_view c.self.inside in
     let p : Private = c.args.part.now in
     let k : ℕ = c.args.worker in
-    let F : Fits w k p = subst (λ (z : SharedValue). Fits z k p) (sym c.self.view_is) c.requires.fits in
+    let F : WorkerPartFits w k p = subst (λ (z : SharedValue). WorkerPartFits z k p) (sym c.self.view_is) c.requires.fits in
     let e : EntryValue = record { worker = k; kind = Chunk p.task } in
     let free : refused w e ≡ None = subst (λ (z : SharedValue). refused z e ≡ None) (sym c.self.view_is) c.requires.free in
     let sized : c.units_for-units.result ≡ chunk_units (part_asks w.program p) = c.units_for-units.ensures.units ∙ ap chunk_units c.words_asked.ensures.asked in
     let heap : c.add_spare.new.self ≡ with_places (added (with_places p.heap c.make_room.new.self.slots c.make_room.new.self.spare) c.in-Ok.chunk) c.add_spare.new.self.slots c.add_spare.new.self.spare =
     c.add_spare.ensures.added ∙ ap (λ (h : LeafHeapValue). with_places (added h c.in-Ok.chunk) c.add_spare.new.self.slots c.add_spare.new.self.spare) c.make_room.ensures.kept in
-    subst (λ (h : LeafHeapValue). Fits (record w { pool = c.take.new.self; journal = c.push_reserved.new.self }) k (record p { heap = h })) (sym heap)
-    (subst (λ (j : ReservedVecValue EntryValue). Fits (record w { pool = c.take.new.self; journal = j }) k (record p { heap = with_places (added (with_places p.heap c.make_room.new.self.slots c.make_room.new.self.spare) c.in-Ok.chunk) c.add_spare.new.self.slots c.add_spare.new.self.spare }))
+    subst (λ (h : LeafHeapValue). WorkerPartFits (record w { pool = c.take.new.self; journal = c.push_reserved.new.self }) k (record p { heap = h })) (sym heap)
+    (subst (λ (j : ReservedVecValue EntryValue). WorkerPartFits (record w { pool = c.take.new.self; journal = j }) k (record p { heap = with_places (added (with_places p.heap c.make_room.new.self.slots c.make_room.new.self.spare) c.in-Ok.chunk) c.add_spare.new.self.slots c.add_spare.new.self.spare }))
     (sym (journal_by w.journal _ _ e c.new.ensures c.push_reserved.ensures))
     (given_part w k p c.self.invariant F c.requires.fresh free c.take.new.self c.in-Ok.chunk c.in-Ok.chunk.number c.units_for-units.result c.in-Ok.ensures.chunk sized
     (within_by w.pool.limit (units_in_use w.pool + c.units_for-units.result) (λ lt. not_full c.in-Ok.chunk (c.in-Ok.ensures.full.1 lt))) c.in-Ok.ensures.taken (record { items = []; room = w.journal.room - 1 })
@@ -59,7 +59,7 @@ returns-in-Ok-clause-others c =
     let w : SharedValue = the_view c.self.inside in
     let p : Private = c.args.part.now in
     let k : ℕ = c.args.worker in
-    let F : Fits w k p = subst (λ (z : SharedValue). Fits z k p) (sym c.self.view_is) c.requires.fits in
+    let F : WorkerPartFits w k p = subst (λ (z : SharedValue). WorkerPartFits z k p) (sym c.self.view_is) c.requires.fits in
     let e : EntryValue = record { worker = k; kind = Chunk p.task } in
     let free : refused w e ≡ None = subst (λ (z : SharedValue). refused z e ≡ None) (sym c.self.view_is) c.requires.free in
     let sized : c.units_for-units.result ≡ chunk_units (part_asks w.program p) = c.units_for-units.ensures.units ∙ ap chunk_units c.words_asked.ensures.asked in
@@ -79,7 +79,7 @@ invariant_of-self-in-Err-Full c =
     let w : SharedValue = the_view c.self.inside in
     let p : Private = c.args.part.now in
     let k : ℕ = c.args.worker in
-    let F : Fits w k p = subst (λ (z : SharedValue). Fits z k p) (sym c.self.view_is) c.requires.fits in
+    let F : WorkerPartFits w k p = subst (λ (z : SharedValue). WorkerPartFits z k p) (sym c.self.view_is) c.requires.fits in
     let e : EntryValue = record { worker = k; kind = Chunk p.task } in
     let free : refused w e ≡ None = subst (λ (z : SharedValue). refused z e ≡ None) (sym c.self.view_is) c.requires.free in
     let sized : c.units_for-units.result ≡ chunk_units (part_asks w.program p) = c.units_for-units.ensures.units ∙ ap chunk_units c.words_asked.ensures.asked in
@@ -91,12 +91,12 @@ returns-in-Err-Full-clause-fits c =
     let w : SharedValue = the_view c.self.inside in
     let p : Private = c.args.part.now in
     let k : ℕ = c.args.worker in
-    let F : Fits w k p = subst (λ (z : SharedValue). Fits z k p) (sym c.self.view_is) c.requires.fits in
+    let F : WorkerPartFits w k p = subst (λ (z : SharedValue). WorkerPartFits z k p) (sym c.self.view_is) c.requires.fits in
     let e : EntryValue = record { worker = k; kind = Chunk p.task } in
     let free : refused w e ≡ None = subst (λ (z : SharedValue). refused z e ≡ None) (sym c.self.view_is) c.requires.free in
     let sized : c.units_for-units.result ≡ chunk_units (part_asks w.program p) = c.units_for-units.ensures.units ∙ ap chunk_units c.words_asked.ensures.asked in
-    subst (λ (h : LeafHeapValue). Fits (record w { pool = c.take.new.self; journal = c.push_reserved-in-Err-Full.new.self; end = Some (PoolOf c.in_use.result) }) k (record p { heap = h })) (sym c.make_room.ensures.kept)
-    (subst (λ (z : SharedValue). Fits z k (record p { heap = with_places p.heap c.make_room.new.self.slots c.make_room.new.self.spare }))
+    subst (λ (h : LeafHeapValue). WorkerPartFits (record w { pool = c.take.new.self; journal = c.push_reserved-in-Err-Full.new.self; end = Some (PoolOf c.in_use.result) }) k (record p { heap = h })) (sym c.make_room.ensures.kept)
+    (subst (λ (z : SharedValue). WorkerPartFits z k (record p { heap = with_places p.heap c.make_room.new.self.slots c.make_room.new.self.spare }))
     (pool_same w c.take.new.self (record { items = _; room = w.journal.room - 1 }) c.push_reserved-in-Err-Full.new.self c.in_use.result c.in-Err-Full.ensures.err (journal_by w.journal _ _ e c.new-in-Err-Full.ensures c.push_reserved-in-Err-Full.ensures) c.in_use.ensures.units)
     (pool_part w k p c.self.invariant F c.requires.fresh free c.units_for-units.result sized (c.in-Err-Full.ensures.full.0 (ap (λ (x : NotTaken). Err x) c.in-Err-Full.field-0-is)) (record { items = []; room = w.journal.room - 1 })
     c.make_room.new.self.slots c.make_room.new.self.spare))
@@ -106,7 +106,7 @@ returns-in-Err-Full-clause-others c =
     let w : SharedValue = the_view c.self.inside in
     let p : Private = c.args.part.now in
     let k : ℕ = c.args.worker in
-    let F : Fits w k p = subst (λ (z : SharedValue). Fits z k p) (sym c.self.view_is) c.requires.fits in
+    let F : WorkerPartFits w k p = subst (λ (z : SharedValue). WorkerPartFits z k p) (sym c.self.view_is) c.requires.fits in
     let e : EntryValue = record { worker = k; kind = Chunk p.task } in
     let free : refused w e ≡ None = subst (λ (z : SharedValue). refused z e ≡ None) (sym c.self.view_is) c.requires.free in
     let sized : c.units_for-units.result ≡ chunk_units (part_asks w.program p) = c.units_for-units.ensures.units ∙ ap chunk_units c.words_asked.ensures.asked in
@@ -120,14 +120,14 @@ returns-in-Err-NoMemory-clause-fits c =
     let w : SharedValue = the_view c.self.inside in
     let p : Private = c.args.part.now in
     let k : ℕ = c.args.worker in
-    let F : Fits w k p = subst (λ (z : SharedValue). Fits z k p) (sym c.self.view_is) c.requires.fits in
-    subst (λ (z : PoolValue). Fits (record w { pool = z }) k (record p { heap = c.make_room.new.self })) (sym c.in-Err-NoMemory.ensures.err)
-    (subst (λ (h : LeafHeapValue). Fits w k (record p { heap = h })) (sym c.make_room.ensures.kept) (places_fit w k p c.make_room.new.self.slots c.make_room.new.self.spare F))
+    let F : WorkerPartFits w k p = subst (λ (z : SharedValue). WorkerPartFits z k p) (sym c.self.view_is) c.requires.fits in
+    subst (λ (z : PoolValue). WorkerPartFits (record w { pool = z }) k (record p { heap = c.make_room.new.self })) (sym c.in-Err-NoMemory.ensures.err)
+    (subst (λ (h : LeafHeapValue). WorkerPartFits w k (record p { heap = h })) (sym c.make_room.ensures.kept) (places_fit w k p c.make_room.new.self.slots c.make_room.new.self.spare F))
 
 pub returns-in_err-make_room-clause-fits : goal.returns-in_err-make_room-clause-fits
 returns-in_err-make_room-clause-fits c =
     let p : Private = c.args.part.now in
-    subst (λ (h : LeafHeapValue). Fits c.args.self.now c.args.worker (record p { heap = h })) (sym c.make_room.ensures.kept)
+    subst (λ (h : LeafHeapValue). WorkerPartFits c.args.self.now c.args.worker (record p { heap = h })) (sym c.make_room.ensures.kept)
     (places_fit c.args.self.now c.args.worker p c.make_room.new.self.slots c.make_room.new.self.spare c.requires.fits)
 
 pub returns-in-Ok-clause-enters : goal.returns-in-Ok-clause-enters

@@ -1,4 +1,4 @@
-use Rattle.shared_tree.proofs.Common.{◌≡◌, ℕ, true, false, Some, None, is_some, ap, sym, subst, ◌∙◌, EntryValue, Begin, PoolShort, is_pool_enough, refused_unless, units_in_use, Private, SharedValue, accounts, first_cause, or_else, due_cause, refused, Fits, part_asks, found_first, nothing_first, first_answer, begin_answer, without_fresh, the_view}
+use Rattle.shared_tree.proofs.Common.{◌≡◌, ℕ, true, false, Some, None, is_some, ap, sym, subst, ◌∙◌, EntryValue, Begin, PoolShort, is_pool_enough, refused_unless, units_in_use, Private, SharedValue, accounts, first_cause, or_else, due_cause, refused, WorkerPartFits, part_asks, found_first, nothing_first, first_answer, begin_answer, without_fresh, the_view}
 use Rattle.shared_tree.proofs.shared.Shared.leaf_begin_refused.Goals as goal
 
 pub returns-then-is_some : goal.returns-then-is_some
@@ -17,7 +17,7 @@ returns-then-is_some-2 c =
     let k : ℕ = c.args.worker in
     let e : EntryValue = record { worker = k; kind = Begin p.task } in
     let first : is_some (first_cause w.end w.steps w.settings k false) ≡ false = ap is_some (sym c.first_cause-first.ensures) ∙ (sym c.is_some.ensures ∙ c.if-is_some.false) in
-    let F : Fits w k p = subst (λ (z : SharedValue). Fits z k p) (sym c.self.view_is) c.requires.fits in
+    let F : WorkerPartFits w k p = subst (λ (z : SharedValue). WorkerPartFits z k p) (sym c.self.view_is) c.requires.fits in
     let due : c.due_cause-due.result ≡ due_cause p (part_asks w.program p) = c.due_cause-due.ensures ∙ ap (due_cause p) c.words_asked.ensures.asked in
     let some : is_some (due_cause p (part_asks w.program p)) ≡ true = ap is_some (sym due) ∙ (sym c.is_some-2.ensures ∙ c.if-is_some-2.true) in
     due
@@ -32,7 +32,7 @@ returns-then-pool_enough c =
     let k : ℕ = c.args.worker in
     let e : EntryValue = record { worker = k; kind = Begin p.task } in
     let first : is_some (first_cause w.end w.steps w.settings k false) ≡ false = ap is_some (sym c.first_cause-first.ensures) ∙ (sym c.is_some.ensures ∙ c.if-is_some.false) in
-    let F : Fits w k p = subst (λ (z : SharedValue). Fits z k p) (sym c.self.view_is) c.requires.fits in
+    let F : WorkerPartFits w k p = subst (λ (z : SharedValue). WorkerPartFits z k p) (sym c.self.view_is) c.requires.fits in
     let due : c.due_cause-due.result ≡ due_cause p (part_asks w.program p) = c.due_cause-due.ensures ∙ ap (due_cause p) c.words_asked.ensures.asked in
     let none : is_some (due_cause p (part_asks w.program p)) ≡ false = ap is_some (sym due) ∙ (sym c.is_some-2.ensures ∙ c.if-is_some-2.false) in
     let enough : is_pool_enough w.settings (accounts w) p.task ≡ true = ap (λ (z : SharedValue). is_pool_enough z.settings (accounts z) p.task) c.self.view_is ∙ (sym c.pool_enough.ensures ∙ c.if-pool_enough.true) in
@@ -48,7 +48,7 @@ returns-else-pool_enough c =
     let k : ℕ = c.args.worker in
     let e : EntryValue = record { worker = k; kind = Begin p.task } in
     let first : is_some (first_cause w.end w.steps w.settings k false) ≡ false = ap is_some (sym c.first_cause-first.ensures) ∙ (sym c.is_some.ensures ∙ c.if-is_some.false) in
-    let F : Fits w k p = subst (λ (z : SharedValue). Fits z k p) (sym c.self.view_is) c.requires.fits in
+    let F : WorkerPartFits w k p = subst (λ (z : SharedValue). WorkerPartFits z k p) (sym c.self.view_is) c.requires.fits in
     let due : c.due_cause-due.result ≡ due_cause p (part_asks w.program p) = c.due_cause-due.ensures ∙ ap (due_cause p) c.words_asked.ensures.asked in
     let none : is_some (due_cause p (part_asks w.program p)) ≡ false = ap is_some (sym due) ∙ (sym c.is_some-2.ensures ∙ c.if-is_some-2.false) in
     let short : is_pool_enough w.settings (accounts w) p.task ≡ false = ap (λ (z : SharedValue). is_pool_enough z.settings (accounts z) p.task) c.self.view_is ∙ (sym c.pool_enough.ensures ∙ c.if-pool_enough.false) in

@@ -1,4 +1,4 @@
-use Rattle.shared_tree.proofs.Common.{◌≡◌, ℕ, arith, Option, Some, None, List, refl, ap, sym, subst, ◌∙◌, Result, Ok, Err, OnOk, Ended, parent_of, state_of, sibling, MarkingValue, Private, TaskSlotsValue, SharedValue, IsSharedValue, Fits, refused, alone_entry, IsAtEnd, HasPlaces, SameButPlaces, own_made, parent_low, few_tasks, parent_slot, parent_is, parent_other, placed_has, placed_same, places_world, MayBeEntered, the_view}
+use Rattle.shared_tree.proofs.Common.{◌≡◌, ℕ, arith, Option, Some, None, List, refl, ap, sym, subst, ◌∙◌, Result, Ok, Err, OnOk, Ended, parent_of, state_of, sibling, MarkingValue, Private, TaskSlotsValue, SharedValue, IsSharedValue, WorkerPartFits, refused, alone_entry, IsAtEnd, HasPlaces, SameButPlaces, own_made, parent_low, few_tasks, parent_slot, parent_is, parent_other, placed_has, placed_same, places_world, MayBeEntered, the_view}
 use Rattle.shared_tree.proofs.shared.Shared.make_join_places.Goals as goal
 
 pub make_places-requires-clause-child : goal.make_places-requires-clause-child
@@ -61,7 +61,7 @@ returns-clause-places c =
     let held : MayBeEntered w p = subst (λ (z : SharedValue). MayBeEntered z p) (sym c.self.view_is) c.requires.out in
     let k : ℕ = held.worker in
     let I : IsSharedValue w = c.self.invariant in
-    let F : Fits w k p = held.fits in
+    let F : WorkerPartFits w k p = held.fits in
     let at : IsAtEnd w p = subst (λ (z : SharedValue). IsAtEnd z p) (sym c.self.view_is) c.requires.ends in
     let free : refused w (alone_entry k p) ≡ None = held.free in
     let ended : state_of w.tree (sibling p.task) ≡ Some Ended = subst (λ (z : SharedValue). state_of z.tree (sibling p.task) ≡ Some Ended) (sym c.self.view_is) c.requires.ended in

@@ -1,4 +1,4 @@
-use Rattle.shared_tree.proofs.Common.{◌≡◌, Result, None, refl, sym, subst, ◌∙◌, ◌<◌, Mark, NotEntered, refused, Enters, AllFit, SharedValue, BeginsMarking}
+use Rattle.shared_tree.proofs.Common.{◌≡◌, Result, None, refl, sym, subst, ◌∙◌, ◌<◌, Mark, NotEntered, refused, Enters, EachPartStillFits, SharedValue, BeginsMarking}
 use Rattle.shared_tree.proofs.HandedOn.{for_memory}
 use Rattle.shared_tree.proofs.shared.Shared.mark.Goals as goal
 
@@ -31,5 +31,5 @@ returns c = record {
   refused = sym c.mark_refused.ensures ∙ c.in_default.is;
   same = tt;
   enters = subst (λ (z : SharedValue). Enters z c.enter_mark.new.self (record { worker = c.args.worker; kind = Mark c.args.t })) c.marking_of.ensures.same c.in_ok-enter_mark.ensures.enters;
-  fits = subst (λ (z : SharedValue). AllFit z c.enter_mark.new.self) c.marking_of.ensures.same c.in_ok-enter_mark.ensures.fits;
+  fits = subst (λ (z : SharedValue). EachPartStillFits z c.enter_mark.new.self) c.marking_of.ensures.same c.in_ok-enter_mark.ensures.fits;
 }

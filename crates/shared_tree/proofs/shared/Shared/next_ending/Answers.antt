@@ -1,4 +1,4 @@
-use Rattle.shared_tree.proofs.Common.{◌≡◌, ℕ, Option, Some, None, ap₂, sym, subst, ◌∙◌, Line, line_at, Private, Ending, SharedValue, next_line, IsShared, Tells, AsksAlone, is_safe, runs_on, some_line, tells, MayBeEntered, the_view}
+use Rattle.shared_tree.proofs.Common.{◌≡◌, ℕ, Option, Some, None, ap₂, sym, subst, ◌∙◌, Line, line_at, Private, Ending, SharedValue, next_line, IsShared, EndingTells, AsksAlone, is_safe, runs_on, some_line, tells, MayBeEntered, the_view}
 use Rattle.shared_tree.proofs.shared.Shared.next_ending.Goals as goal
 
 none_some : (line : Line) → ◌≡◌ {A = Option Line} None (Some line) → ⊥
@@ -31,5 +31,5 @@ returns c =
     let k : ℕ = held.worker in
     let asks : AsksAlone w k p = record { I = c.self.invariant; F = held.fits; shared = subst (λ (z : SharedValue). IsShared z p) (sym c.self.view_is) c.requires.shared; free = held.free } in
     let is : next_line w.program p ≡ Some c.in-Some.line = ap₂ (line_at w.program) (sym c.fun.ensures) (sym c.next.ensures) ∙ (sym c.line.ensures ∙ c.in-Some.is) in
-    subst (λ (z : SharedValue). Tells z p c.last_step.result c.in-Some.line.number) c.self.view_is
-    (subst (λ (e : Ending). Tells w p e c.in-Some.line.number) (sym c.last_step.ensures) (tells w k p c.self.invariant asks.F asks.shared (runs_on asks) c.in-Some.line is))
+    subst (λ (z : SharedValue). EndingTells z p c.last_step.result c.in-Some.line.number) c.self.view_is
+    (subst (λ (e : Ending). EndingTells w p e c.in-Some.line.number) (sym c.last_step.ensures) (tells w k p c.self.invariant asks.F asks.shared (runs_on asks) c.in-Some.line is))

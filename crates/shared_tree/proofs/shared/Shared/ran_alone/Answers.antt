@@ -1,4 +1,4 @@
-use Rattle.shared_tree.proofs.Common.{◌≡◌, ℕ, ℤ, SFits, w64, rules, Option, None, Result, refl, sym, subst, ◌∙◌, IfOk, OnErr, to_z-of_z, Private, NotEntered, Ending, Beyond, Prints, Returns, SharedValue, EntersOrRefuses, refused, Tells, alone_entry, child_beyond, other_beyond, trap_is, Lent, AloneTo}
+use Rattle.shared_tree.proofs.Common.{◌≡◌, ℕ, ℤ, SFits, w64, rules, Option, None, Result, refl, sym, subst, ◌∙◌, IfOk, OnErr, to_z-of_z, Private, NotEntered, Ending, Beyond, Prints, Returns, SharedValue, EntersOrRefuses, refused, EndingTells, alone_entry, child_beyond, other_beyond, trap_is, Lent, AloneTo}
 use Rattle.shared_tree.proofs.HandedOn.{for_memory}
 use Rattle.shared_tree.proofs.shared.Shared.ran_alone.Goals as goal
 
@@ -8,7 +8,7 @@ returns-else-part-eq0-clause-answered c =
     let p : Private = c.args.part.now in
     let k : ℕ = c.args.worker in
     let free : refused w (alone_entry k p) ≡ None = sym c.alone_refused.ensures ∙ c.in_default.is in
-    let T : Tells w p Returns c.next_ending-ending.result.1 = subst (λ (e : Ending). Tells w p e c.next_ending-ending.result.1) c.in-Returns.is c.next_ending-ending.ensures in
+    let T : EndingTells w p Returns c.next_ending-ending.result.1 = subst (λ (e : Ending). EndingTells w p e c.next_ending-ending.result.1) c.in-Returns.is c.next_ending-ending.ensures in
     record { same = refl; part = refl; beyond = child_beyond (record { I = c.stands.ensures; F = c.requires.fits; shared = c.requires.shared; free = free }) c.next_ending-ending.result.1 T c.if-part-eq0.false }
 
 pub returns-then-part-eq0-clause-answered : goal.returns-then-part-eq0-clause-answered
@@ -16,7 +16,7 @@ returns-then-part-eq0-clause-answered c =
     let w : SharedValue = c.args.self.now in
     let p : Private = c.args.part.now in
     let number : ℕ = c.next_ending-ending.result.1 in
-    record { same = refl; part = refl; leaves = record { returns = (number, subst (λ (e : Ending). Tells w p e number) c.in-Returns.is c.next_ending-ending.ensures); root = c.if-part-eq0.true } }
+    record { same = refl; part = refl; leaves = record { returns = (number, subst (λ (e : Ending). EndingTells w p e number) c.in-Returns.is c.next_ending-ending.ensures); root = c.if-part-eq0.true } }
 
 pub returns-then-part-eq0-clause-refused : goal.returns-then-part-eq0-clause-refused
 returns-then-part-eq0-clause-refused c = sym c.alone_refused.ensures ∙ c.in_default.is
@@ -27,14 +27,14 @@ returns-in-Beyond-clause-answered c =
     let p : Private = c.args.part.now in
     let k : ℕ = c.args.worker in
     let free : refused w (alone_entry k p) ≡ None = sym c.alone_refused.ensures ∙ c.in_default.is in
-    let T : Tells w p Beyond c.next_ending-ending.result.1 = subst (λ (e : Ending). Tells w p e c.next_ending-ending.result.1) c.in-Beyond.is c.next_ending-ending.ensures in
+    let T : EndingTells w p Beyond c.next_ending-ending.result.1 = subst (λ (e : Ending). EndingTells w p e c.next_ending-ending.result.1) c.in-Beyond.is c.next_ending-ending.ensures in
     record { same = refl; part = refl; beyond = other_beyond (record { I = c.stands.ensures; F = c.requires.fits; shared = c.requires.shared; free = free }) c.next_ending-ending.result.1 T }
 
 pub enter_halt-requires-clause-ends : goal.enter_halt-requires-clause-ends
 enter_halt-requires-clause-ends c =
     let w : SharedValue = c.args.self.now in
     let p : Private = c.args.part.now in
-    trap_is w p c.in-Traps.kind c.next_ending-ending.result.1 (subst (λ (e : Ending). Tells w p e c.next_ending-ending.result.1) c.in-Traps.is c.next_ending-ending.ensures)
+    trap_is w p c.in-Traps.kind c.next_ending-ending.result.1 (subst (λ (e : Ending). EndingTells w p e c.next_ending-ending.result.1) c.in-Traps.is c.next_ending-ending.ensures)
 
 pub returns-in-Some-clause-refused : goal.returns-in-Some-clause-refused
 returns-in-Some-clause-refused c = sym c.alone_refused.ensures ∙ c.in-Some.is
@@ -69,8 +69,8 @@ enter_output-requires-clause-prints c =
     let fits : SFits w64 v = search rules in
     let number : ℕ = c.next_ending-ending.result.1 in (
       number,
-      subst (λ (z : ℤ). Tells c.args.self.now c.args.part.now (Prints z) number) (sym (to_z-of_z w64 v fits))
-          (subst (λ (e : Ending). Tells c.args.self.now c.args.part.now e number) c.in-Prints.is c.next_ending-ending.ensures),
+      subst (λ (z : ℤ). EndingTells c.args.self.now c.args.part.now (Prints z) number) (sym (to_z-of_z w64 v fits))
+          (subst (λ (e : Ending). EndingTells c.args.self.now c.args.part.now e number) c.in-Prints.is c.next_ending-ending.ensures),
     )
 
 pub enter_halt-requires-clause-free : goal.enter_halt-requires-clause-free

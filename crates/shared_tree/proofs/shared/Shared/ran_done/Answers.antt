@@ -1,4 +1,4 @@
-use Rattle.shared_tree.proofs.Common.{refl, ◌≡◌, ℕ, ◌+◌, ◌-◌, Some, None, Err, [], slice_set, ap, sym, subst, ◌∙◌, Done, Machine, Ended, with_state, Private, Returns, NoMemory, IsSharedValue, SharedValue, ParkedTask, TaskSlotsValue, four_changed, FinishesAlone, Tells, ended_rest, AsksAlone, asks_alone, alone_small, finishes_alone, finished_world, slot_there, node_there, same_world, EntersLeaving, the_view}
+use Rattle.shared_tree.proofs.Common.{refl, ◌≡◌, ℕ, ◌+◌, ◌-◌, Some, None, Err, [], slice_set, ap, sym, subst, ◌∙◌, Done, Machine, Ended, with_state, Private, Returns, NoMemory, IsSharedValue, SharedValue, ParkedTask, TaskSlotsValue, four_changed, FinishesAlone, EndingTells, ended_rest, AsksAlone, asks_alone, alone_small, finishes_alone, finished_world, slot_there, node_there, same_world, EntersLeaving, the_view}
 use Rattle.shared_tree.proofs.StepsEntered.{along, entered}
 use Rattle.shared_tree.proofs.shared.Shared.ran_done.Goals as goal
 
@@ -27,7 +27,7 @@ invariant_of-self-2 c =
     let p : Private = c.args.part in
     let k : ℕ = c.args.worker in
     let asks : AsksAlone w k p = asks_alone c.self.view_is c.self.invariant c.requires.fits c.requires.shared c.requires.free in
-    let T : (n : ℕ) × Tells w p Returns n = subst (λ (z : SharedValue). (n : ℕ) × Tells z p Returns n) (sym c.self.view_is) c.requires.returns in
+    let T : (n : ℕ) × EndingTells w p Returns n = subst (λ (z : SharedValue). (n : ℕ) × EndingTells z p Returns n) (sym c.self.view_is) c.requires.returns in
     let hm : TaskSlotsValue = record c.self.inside.heaps.task_slots { rests = slice_set w.rests p.task (Some (ended_rest p)); blocks = c.make_block.new.self.blocks } in
     let put : c.put_rest.new.self ≡ hm =
     c.put_rest.ensures
@@ -46,7 +46,7 @@ returns c =
     let p : Private = c.args.part in
     let k : ℕ = c.args.worker in
     let asks : AsksAlone w k p = asks_alone c.self.view_is c.self.invariant c.requires.fits c.requires.shared c.requires.free in
-    let T : (n : ℕ) × Tells w p Returns n = subst (λ (z : SharedValue). (n : ℕ) × Tells z p Returns n) (sym c.self.view_is) c.requires.returns in
+    let T : (n : ℕ) × EndingTells w p Returns n = subst (λ (z : SharedValue). (n : ℕ) × EndingTells z p Returns n) (sym c.self.view_is) c.requires.returns in
     let hm : TaskSlotsValue = record c.self.inside.heaps.task_slots { rests = slice_set w.rests p.task (Some (ended_rest p)); blocks = c.make_block.new.self.blocks } in
     let put : c.put_rest.new.self ≡ hm =
     c.put_rest.ensures

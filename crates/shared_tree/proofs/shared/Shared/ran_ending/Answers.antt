@@ -1,4 +1,4 @@
-use Rattle.shared_tree.proofs.Common.{false, true, ◌≡◌, ℕ, Option, Some, None, slice_set, ap, sym, ◌∙◌, ◌<◌, arith, refl, subst, OnErr, Result, Ok, Err, parent_of, state_of, TaskState, sibling, Private, NoMemory, NotRan, SharedValue, RanAnswers, refused, AllFit, Fits, alone_entry, IsAtEnd, IsUnchanged, SameButPlaces, end_shared, own_made, parent_low, tree_parent, few_tasks, places_ends, places_same, same_world}
+use Rattle.shared_tree.proofs.Common.{false, true, ◌≡◌, ℕ, Option, Some, None, slice_set, ap, sym, ◌∙◌, ◌<◌, arith, refl, subst, OnErr, Result, Ok, Err, parent_of, state_of, TaskState, sibling, Private, NoMemory, NotRan, SharedValue, RanAnswers, refused, EachPartStillFits, WorkerPartFits, alone_entry, IsAtEnd, IsUnchanged, SameButPlaces, end_shared, own_made, parent_low, tree_parent, few_tasks, places_ends, places_same, same_world}
 use Rattle.std.specs.Prelude.{IfErr}
 use Rattle.fork_join_commit.proofs.JoinPlaces.{places_fit}
 use Rattle.shared_tree.proofs.shared.Shared.ran_ending.Goals as goal
@@ -8,9 +8,9 @@ unchanged : (w after : SharedValue) (r : Result (Option ℕ) NotRan) → IfErr r
 unchanged w after (Ok x) m e = m
 unchanged w after (Err x) m e = subst (λ c. IsUnchanged c w after) (sym m) (subst (SameButPlaces w) (sym e) (same_world w))
 
-still : (w after : SharedValue) (r : Result (Option ℕ) NotRan) → OnErr r (after ≡ w) → OnErr r (AllFit w after)
+still : (w after : SharedValue) (r : Result (Option ℕ) NotRan) → OnErr r (after ≡ w) → OnErr r (EachPartStillFits w after)
 still w after (Ok x) e = e
-still w after (Err x) e = λ k p F. subst (λ (z : SharedValue). Fits z k p) (sym e) F
+still w after (Err x) e = λ k p F. subst (λ (z : SharedValue). WorkerPartFits z k p) (sym e) F
 
 none_some : {q : ℕ} → ◌≡◌ {A = Option ℕ} None (Some q) → ⊥
 none_some e = cc

@@ -1,4 +1,4 @@
-use Rattle.shared_tree.proofs.Common.{◌≡◌, None, Err, refl, sym, subst, Private, NotEntered, SharedValue, EntersOrRefuses, refused, Fits, IsBeyond, IsShared, alone_entry, EntersLent, AloneTo, IsJoint}
+use Rattle.shared_tree.proofs.Common.{◌≡◌, None, Err, refl, sym, subst, Private, NotEntered, SharedValue, EntersOrRefuses, refused, WorkerPartFits, IsBeyond, IsShared, alone_entry, EntersLent, AloneTo, IsJoint}
 use Rattle.shared_tree.proofs.HandedOn.{handed_on}
 use Rattle.shared_tree.proofs.Joints.{before_same, fit_by, same_by, then_same}
 use Rattle.shared_tree.proofs.shared.Shared.ran_lent.Goals as goal
@@ -10,7 +10,7 @@ lent_joint-requires-clause-fits c =
     let p : Private = c.args.part.now in
     let q : Private = c.ran_alone.new.part in
     let B : IsBeyond w after p q = subst (AloneTo w after c.args.worker p q) c.in-None.is c.in_ok-lent.ensures.answered in
-    then_same w after p q B.same B.part (λ z r. Fits z c.args.worker r) c.requires.fits
+    then_same w after p q B.same B.part (λ z r. WorkerPartFits z c.args.worker r) c.requires.fits
 
 pub lent_joint-requires-clause-shared : goal.lent_joint-requires-clause-shared
 lent_joint-requires-clause-shared c =

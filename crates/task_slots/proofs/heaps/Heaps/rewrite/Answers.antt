@@ -1,4 +1,4 @@
-use Rattle.task_slots.proofs.Common.{rules, ◌≡◌, ℕ, true, false, Option, Some, List, fold, slice_get, slice_set, ap, subst, sym, ◌∙◌, RefField, redirected, StandOnce, SetOf, bare, Heaps, TaskSlotsValue, sources_of, Resting, resting_references, resting, with_ref_in, with_resting}
+use Rattle.task_slots.proofs.Common.{rules, ◌≡◌, ℕ, true, false, Option, Some, List, fold, slice_get, slice_set, ap, subst, sym, ◌∙◌, RefField, redirected, StandOnce, SetOf, bare_noted, Heaps, TaskSlotsValue, sources_of, Resting, resting_references, resting, with_ref_in, with_resting}
 use Rattle.task_slots.proofs.Led.{led_rest}
 use Rattle.task_slots.proofs.Places.{set_back}
 use Rattle.task_slots.proofs.heaps.Heaps.rewrite.Goals as goal
@@ -28,7 +28,7 @@ returns-then-has_block-clause-led c =
     ap (λ (w : TaskSlotsValue). let h : Heaps = record { task_slots = w; pool = c.rewrite.new.words.pool } in h) c.put_set.ensures
     ∙ (ap (λ (h : Heaps). record h { task_slots = record h.task_slots { sets = slice_set h.task_slots.sets t set } }) e
     ∙ (ap (λ (w : TaskSlotsValue). q w ss) c.take_set-set.ensures.task_slots
-    ∙ (ap (λ (xs : List SetOf). record (q old.task_slots ss) { task_slots = record (q old.task_slots ss).task_slots { sets = xs } }) (set_back old.task_slots.sets t set (bare false) c.take_set-set.ensures.set)
+    ∙ (ap (λ (xs : List SetOf). record (q old.task_slots ss) { task_slots = record (q old.task_slots ss).task_slots { sets = xs } }) (set_back old.task_slots.sets t set (bare_noted false) c.take_set-set.ensures.set)
     ∙ ap (λ xs. with_resting old (fold (redirected resting_references with_ref_in c.args.moved.now) (resting old) xs)) (sym (ap sources_of c.take_set-set.ensures.set)))))
 
 pub returns-then-has_block-clause-once : goal.returns-then-has_block-clause-once

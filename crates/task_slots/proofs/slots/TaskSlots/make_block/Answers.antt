@@ -1,4 +1,4 @@
-use Rattle.task_slots.proofs.Common.{rules, ◌<◌, ◌≡◌, false, Some, None, length, slice_get, ap, sym, ◌∙◌, vec_capacity, got_item, bare, TaskSlot, marking_in, rest_in, set_in}
+use Rattle.task_slots.proofs.Common.{rules, ◌<◌, ◌≡◌, false, Some, None, length, slice_get, ap, sym, ◌∙◌, vec_capacity, got_item, bare_noted, TaskSlot, marking_in, rest_in, set_in}
 use Rattle.task_slots.proofs.Places.{bare_was, made_within, block_now, block_only}
 use Rattle.task_slots.proofs.slots.TaskSlots.make_block.Goals as goal
 
@@ -8,7 +8,7 @@ returns-clause-task_slots c =
     let there0 : slice_get c.self.inside.list.items c.args.t ≡ Some c.index_mut.result.now = got_item c.self.inside.list.items c.args.t c.index_mut.result.now lt (search rules) in
     let bare_then : slice_get c.args.self.now.blocks c.args.t ≡ Some false = search rules in
     let none = bare_was c.self.inside.list.items (vec_capacity c.self.inside.list) c.args.t c.index_mut.result.now (Some c.in_ok-block.block) there0 c.args.self.now c.self.view_is bare_then in
-    let is : c.in_ok-block.block ≡ record { rest = None; set = bare false; marking = None } = search rules in
+    let is : c.in_ok-block.block ≡ record { rest = None; set = bare_noted false; marking = None } = search rules in
     block_only c.self.inside.list.items (vec_capacity c.self.inside.list) c.args.t c.index_mut.result.now (Some c.in_ok-block.block) there0 c.args.self.now c.self.view_is
     (ap (λ (h : TaskSlot). h.rest) is ∙ sym (ap rest_in none)) (ap (λ (h : TaskSlot). h.set) is ∙ sym (ap set_in none)) (ap (λ (h : TaskSlot). h.marking) is ∙ sym (ap marking_in none))
 

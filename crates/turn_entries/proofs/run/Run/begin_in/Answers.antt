@@ -1,11 +1,11 @@
-use Rattle.turn_entries.proofs.Common.{ap, sym, subst, ◌∙◌, Some, Begin, Private, Enters, IsCaused, refused, Fits, MayCopy}
+use Rattle.turn_entries.proofs.Common.{ap, sym, subst, ◌∙◌, Some, Begin, Private, Enters, IsCaused, refused, WorkerPartFits, MayCopy}
 use Rattle.turn_entries.proofs.Free.{begin_free, only_memory}
 use Rattle.turn_entries.proofs.Paying.{pays_nothing}
 use Rattle.turn_entries.proofs.Turning.{not_over, one, unchanged}
 use Rattle.turn_entries.proofs.run.Run.begin_in.Goals as goal
 
 pub leaf_begin-requires-clause-fits : goal.leaf_begin-requires-clause-fits
-leaf_begin-requires-clause-fits g c = subst (Fits (g.P.EntryCalls.value c.args.self.paced) c.args.worker) (sym c.get_mut.ensures.value) c.requires.paused.may.fits
+leaf_begin-requires-clause-fits g c = subst (WorkerPartFits (g.P.EntryCalls.value c.args.self.paced) c.args.worker) (sym c.get_mut.ensures.value) c.requires.paused.may.fits
 
 pub out_of_memory-requires : goal.out_of_memory-requires
 out_of_memory-requires g c =

@@ -1,9 +1,9 @@
-use Rattle.turn_entries.proofs.Common.{Some, ap, sym, subst, true, false, Begin, PutOff, Fits, due_kind}
+use Rattle.turn_entries.proofs.Common.{Some, ap, sym, subst, true, false, Begin, PutOff, WorkerPartFits, due_kind}
 use Rattle.turn_entries.proofs.Coming.{acts_same, due_begins, due_waits, enough_is}
 use Rattle.turn_entries.proofs.run.Run.collect.Goals as goal
 
 pub pool_enough-requires-clause-out : goal.pool_enough-requires-clause-out
-pool_enough-requires-clause-out g c = (c.args.worker, subst (Fits (g.P.EntryCalls.value c.args.self.paced) c.args.worker) (sym c.get.ensures) c.requires.paused.may.fits)
+pool_enough-requires-clause-out g c = (c.args.worker, subst (WorkerPartFits (g.P.EntryCalls.value c.args.self.paced) c.args.worker) (sym c.get.ensures) c.requires.paused.may.fits)
 
 pub begin_leaf-requires-clause-enough : goal.begin_leaf-requires-clause-enough
 begin_leaf-requires-clause-enough g c = enough_is (g.P.EntryCalls.value c.args.self.paced) c.args.part c.get.result.now c.pool_enough.result true c.get.ensures c.pool_enough.ensures c.if-pool_enough.true

@@ -1,4 +1,4 @@
-use Rattle.turn_entries.proofs.Common.{◌≡◌, Some, sym, subst, Chunk, Private, Enters, IsCaused, refused, Fits}
+use Rattle.turn_entries.proofs.Common.{◌≡◌, Some, sym, subst, Chunk, Private, Enters, IsCaused, refused, WorkerPartFits}
 use Rattle.turn_entries.proofs.Free.{chunk_free, only_memory}
 use Rattle.turn_entries.proofs.Going.{may_heap}
 use Rattle.turn_entries.proofs.Paying.{pays_nothing}
@@ -6,7 +6,7 @@ use Rattle.turn_entries.proofs.Turning.{not_over, one, unchanged}
 use Rattle.turn_entries.proofs.run.Run.enter_chunk.Goals as goal
 
 pub chunk-requires-clause-fits : goal.chunk-requires-clause-fits
-chunk-requires-clause-fits g c = subst (Fits (g.P.EntryCalls.value c.args.self.paced) c.args.worker) (sym c.get_mut.ensures.value) c.requires.paused.may.fits
+chunk-requires-clause-fits g c = subst (WorkerPartFits (g.P.EntryCalls.value c.args.self.paced) c.args.worker) (sym c.get_mut.ensures.value) c.requires.paused.may.fits
 
 pub out_of_memory-requires : goal.out_of_memory-requires
 out_of_memory-requires g c =

@@ -1,4 +1,4 @@
-use Rattle.turn_entries.proofs.Common.{◌≡◌, ◌<◌, ap, sym, subst, ◌∙◌, Kind, Ran, not_refused, Private, Enters, refused, Fits}
+use Rattle.turn_entries.proofs.Common.{◌≡◌, ◌<◌, ap, sym, subst, ◌∙◌, Kind, Ran, not_refused, Private, Enters, refused, WorkerPartFits}
 use Rattle.turn_entries.proofs.Free.{private_free}
 use Rattle.turn_entries.proofs.Going.{may_cleared}
 use Rattle.turn_entries.proofs.Paying.{pays_nothing}
@@ -9,7 +9,7 @@ pub ran_private-requires-clause-room : goal.ran_private-requires-clause-room
 ran_private-requires-clause-room g c = c.requires.enter.room
 
 pub ran_private-requires-clause-fits : goal.ran_private-requires-clause-fits
-ran_private-requires-clause-fits g c = subst (Fits (g.P.EntryCalls.value c.args.self.paced) c.args.worker) (sym c.get_mut.ensures.value) c.requires.may.fits
+ran_private-requires-clause-fits g c = subst (WorkerPartFits (g.P.EntryCalls.value c.args.self.paced) c.args.worker) (sym c.get_mut.ensures.value) c.requires.may.fits
 
 pub ran_private-requires-clause-fresh : goal.ran_private-requires-clause-fresh
 ran_private-requires-clause-fresh g c = subst (λ (q : Private). 0 < q.fresh) (sym c.get_mut.ensures.value) c.requires.fresh

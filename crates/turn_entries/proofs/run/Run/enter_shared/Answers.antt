@@ -1,4 +1,4 @@
-use Rattle.turn_entries.proofs.Common.{◌≡◌, ℕ, ◌+◌, Option, Some, ap, sym, subst, ◌∙◌, is_some, Kind, Ran, Nothing, RunEnd, Private, Shared, IsCaused, refused, Fits, SharedValue, GoesAlone, HaltsAlone, IsShared, alone_entry, alone_free, LeavesBy, LeavesPart, LentTo, IsPaused, MayEnter}
+use Rattle.turn_entries.proofs.Common.{◌≡◌, ℕ, ◌+◌, Option, Some, ap, sym, subst, ◌∙◌, is_some, Kind, Ran, Nothing, RunEnd, Private, Shared, IsCaused, refused, WorkerPartFits, SharedValue, GoesAlone, HaltsAlone, IsShared, alone_entry, alone_free, LeavesBy, LeavesPart, LentTo, IsPaused, MayEnter}
 use Rattle.turn_entries.specs.declared.between_turns.Ready.TheVariants.{Paused as HasPaused}
 use Rattle.turn_entries.proofs.Free.{only_memory}
 use Rattle.turn_entries.proofs.Going.{may_alone, stands_shared}
@@ -10,7 +10,7 @@ pub ran_lent-requires-clause-room : goal.ran_lent-requires-clause-room
 ran_lent-requires-clause-room g c = c.requires.enter.room
 
 pub ran_lent-requires-clause-fits : goal.ran_lent-requires-clause-fits
-ran_lent-requires-clause-fits g c = subst (Fits (g.P.EntryCalls.value c.args.self.paced) c.args.worker) (sym c.get_mut.ensures.value) c.requires.paused.may.fits
+ran_lent-requires-clause-fits g c = subst (WorkerPartFits (g.P.EntryCalls.value c.args.self.paced) c.args.worker) (sym c.get_mut.ensures.value) c.requires.paused.may.fits
 
 pub ran_lent-requires-clause-shared : goal.ran_lent-requires-clause-shared
 ran_lent-requires-clause-shared g c = subst (IsShared (g.P.EntryCalls.value c.args.self.paced)) (sym c.get_mut.ensures.value) (stands_shared (g.P.EntryCalls.value c.args.self.paced) c.args.worker c.args.part c.requires.paused)

@@ -1,4 +1,4 @@
-use Rattle.turn_entries.proofs.Common.{◌≡◌, ap, sym, subst, ◌∙◌, PutOff, not_refused, Private, refusal_of_result, Enters, refused, Fits}
+use Rattle.turn_entries.proofs.Common.{◌≡◌, ap, sym, subst, ◌∙◌, PutOff, not_refused, Private, refusal_of_result, Enters, refused, WorkerPartFits}
 use Rattle.turn_entries.proofs.Free.{put_off_free}
 use Rattle.turn_entries.proofs.Going.{may_heap}
 use Rattle.turn_entries.proofs.Paying.{pays_nothing}
@@ -6,7 +6,7 @@ use Rattle.turn_entries.proofs.Turning.{one}
 use Rattle.turn_entries.proofs.run.Run.put_off_leaf.Goals as goal
 
 pub put_off-requires-clause-fits : goal.put_off-requires-clause-fits
-put_off-requires-clause-fits g c = subst (Fits (g.P.EntryCalls.value c.args.self.paced) c.args.worker) (sym c.get_mut.ensures.value) c.requires.paused.may.fits
+put_off-requires-clause-fits g c = subst (WorkerPartFits (g.P.EntryCalls.value c.args.self.paced) c.args.worker) (sym c.get_mut.ensures.value) c.requires.paused.may.fits
 
 pub unreachable-requires : goal.unreachable-requires
 unreachable-requires g c =

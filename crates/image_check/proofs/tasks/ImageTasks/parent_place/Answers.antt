@@ -1,6 +1,6 @@
 use Rattle.image_check.proofs.Common.{◌≡◌, sym, subst, true, HasParent, IsParentAt}
 use Rattle.image_check.proofs.Linked.{parent_answer}
-use Rattle.image_check.proofs.tasks.Tasks.parent_place.Goals as goal
+use Rattle.image_check.proofs.tasks.ImageTasks.parent_place.Goals as goal
 
 pub returns-in-Some : goal.returns-in-Some
 returns-in-Some c =

@@ -28,21 +28,21 @@ pub record FitsFor (w : SharedValue) (l : Ledger) (worker : ℕ) (p : Private) :
   pub field_limit : p.field_limit ≡ field_limit w.settings.version
 
 -- THE PART FITS
-abbrev pub Fits : SharedValue → ℕ → Private → Type 0
-Fits w worker p = FitsFor w (accounts w) worker p
+abbrev pub WorkerPartFits : SharedValue → ℕ → Private → Type 0
+WorkerPartFits w worker p = FitsFor w (accounts w) worker p
 
 -- the part of every other worker that fitted the value fits the new one
 abbrev pub OthersFit : SharedValue → SharedValue → ℕ → Type 0
-OthersFit w after worker = (k : ℕ) (p : Private) → k ≢ worker → Fits w k p → Fits after k p
+OthersFit w after worker = (k : ℕ) (p : Private) → k ≢ worker → WorkerPartFits w k p → WorkerPartFits after k p
 
 -- and so does the part of each worker
-abbrev pub AllFit : SharedValue → SharedValue → Type 0
-AllFit w after = (k : ℕ) (p : Private) → Fits w k p → Fits after k p
+abbrev pub EachPartStillFits : SharedValue → SharedValue → Type 0
+EachPartStillFits w after = (k : ℕ) (p : Private) → WorkerPartFits w k p → WorkerPartFits after k p
 
 -- the task has frames to go on with
-abbrev pub IsAtWork : Work → Type 0
-IsAtWork (Calls s) = Unit {0}
-IsAtWork (Result k r) = ⊥
+abbrev pub HasFrames : Work → Type 0
+HasFrames (Calls s) = Unit {0}
+HasFrames (Result k r) = ⊥
 
 -- the part of a task that no worker held, without fresh steps
 abbrev pub taken_part : ℕ → ℕ → ℕ → ParkedTask → FramesValue → Private

@@ -1,5 +1,5 @@
 -- A write of another task's object is a store of a reference or of a number.
-use Rattle.ledger_step_laws.proofs.Common.{◌≡◌, ℕ, pos, true, Some, None, slice_get, length, inl, inr, ap, sym, subst, ◌∙◌, option_flatten, cases_eq, got_same, Putr, Puti, Cas, Line, ProgramText, Task, MachineState, place_in, int_in, ref_in, same_name, is_waiting, waiting_stops, place_within, Ledger, heap_of, or_fresh, let_go, touched, heap_machine, Rests, rested, WritesOne, StoresOne, StoresNumber, IdleRest, TaskIsAt, Wrote, WritesOther}
+use Rattle.ledger_step_laws.proofs.Common.{◌≡◌, ℕ, pos, true, Some, None, slice_get, length, inl, inr, ap, sym, subst, ◌∙◌, option_flatten, cases_eq, got_same, Putr, Puti, Cas, Line, ProgramText, Task, MachineState, place_in, int_in, ref_in, same_name, is_waiting, waiting_stops, place_within, Ledger, heap_of, or_fresh, let_go, touched, heap_machine, Rests, rested, WritesOne, StoresOne, StoresNumber, IdleRest, TaskIsAt, ChangesByWrite, WritesOther}
 use Rattle.ledger_step_laws.proofs.Ahead.{with_off}
 use Rattle.ledger_step_laws.proofs.Rested.{rested_worker}
 
@@ -19,7 +19,7 @@ module _ (p : ProgramText) (l l' : Ledger) (t : ℕ) (x : Task) (line : Line) (i
 
   pub is_store : (o k v : ℕ) → line.instr ≡ Putr o k v → (i : ℕ) × (place_in (length W.object.refs) (int_in x.top k) ≡ Some i) × StoresOne (rested l t) (rested l' t) t x W.name W.object o v i None
   is_store o k v e =
-      let how : Wrote x (Putr o k v) W.object W.written W.frame = subst (λ j. Wrote x j W.object W.written W.frame) e W.wrote in (
+      let how : ChangesByWrite x (Putr o k v) W.object W.written W.frame = subst (λ j. ChangesByWrite x j W.object W.written W.frame) e W.wrote in (
         how.0,
         how.1,
         record {
@@ -37,7 +37,7 @@ module _ (p : ProgramText) (l l' : Ledger) (t : ℕ) (x : Task) (line : Line) (i
   pub is_swap : (d o k e v : ℕ) → line.instr ≡ Cas d o k e v
       → (i : ℕ) × (place_in (length W.object.refs) (int_in x.top k) ≡ Some i) × (same_name (option_flatten (slice_get W.object.refs i)) (ref_in x.top e) ≡ true) × StoresOne (rested l t) (rested l' t) t x W.name W.object o v i (Some (d, pos 1))
   is_swap d o k e v is =
-      let how : Wrote x (Cas d o k e v) W.object W.written W.frame = subst (λ j. Wrote x j W.object W.written W.frame) is W.wrote in (
+      let how : ChangesByWrite x (Cas d o k e v) W.object W.written W.frame = subst (λ j. ChangesByWrite x j W.object W.written W.frame) is W.wrote in (
         how.0,
         how.1,
         how.5,
@@ -55,7 +55,7 @@ module _ (p : ProgramText) (l l' : Ledger) (t : ℕ) (x : Task) (line : Line) (i
 
   pub is_number : (o k v : ℕ) → line.instr ≡ Puti o k v → (i : ℕ) × (place_in (length W.object.ints) (int_in x.top k) ≡ Some i) × StoresNumber (rested l t) (rested l' t) t x W.name W.object o v i
   is_number o k v e =
-      let how : Wrote x (Puti o k v) W.object W.written W.frame = subst (λ j. Wrote x j W.object W.written W.frame) e W.wrote in (
+      let how : ChangesByWrite x (Puti o k v) W.object W.written W.frame = subst (λ j. ChangesByWrite x j W.object W.written W.frame) e W.wrote in (
         how.0,
         how.1,
         record {

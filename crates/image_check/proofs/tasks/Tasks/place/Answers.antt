@@ -1,8 +1,0 @@
-use Rattle.image_check.proofs.Common.{◌≡◌, subst, None, MatchOption, found, Tasks, StandsAt}
-use Rattle.image_check.proofs.Linked.{place_answer}
-use Rattle.image_check.proofs.tasks.Tasks.place.Goals as goal
-
-pub returns : goal.returns
-returns c =
-    subst (λ (es : Tasks). MatchOption c.get_index_of.result (found es c.args.number ≡ None) (λ i. StandsAt es i c.args.number)) c.self.view_is
-    (place_answer c.self.inside.table.entries c.args.number c.get_index_of.result c.get_index_of.ensures.index c.get_index_of.ensures.found)
