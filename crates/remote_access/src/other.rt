@@ -76,13 +76,11 @@ fn reading_reference(
     ensures { result ≡ or_range (place_in (length (object_of heap.now.chunks object).refs) (int_of part.now.frames.top index)) (λ i. reads_into tree.now pool.now part.now.task register (unwrap_or (slice_get (object_of heap.now.chunks object).refs i) None)) }
 {
     let count = heap.own_header(object).nrefs;
-    match field_index(count, part.int(index)) {
-        None => OtherStep::Traps(Trap::Range),
-        Some(field) => {
-            let held = heap.own_ref(object, field);
-            yielded(tree, pool, part.task, register, held)
-        }
-    }
+    let Some(field) = field_index(count, part.int(index)) else {
+        return OtherStep::Traps(Trap::Range);
+    };
+    let held = heap.own_ref(object, field);
+    yielded(tree, pool, part.task, register, held)
 }
 
 fn reading_number(
@@ -113,16 +111,13 @@ fn writing_reference(
     ensures { result ≡ or_range (place_in (length (object_of heap.now.chunks object).refs) (int_of part.now.frames.top index)) (λ i. or_frozen (object_of heap.now.chunks object) (OtherStep.StoresReference object i (ref_of part.now.frames.top value))) }
 {
     let header = heap.own_header(object);
-    match field_index(header.nrefs, part.int(index)) {
-        None => OtherStep::Traps(Trap::Range),
-        Some(field) => {
-            if header.mutable {
-                OtherStep::StoresReference(object, field, part.reference(value))
-            } else {
-                OtherStep::Traps(Trap::Frozen)
-            }
-        }
+    let Some(field) = field_index(header.nrefs, part.int(index)) else {
+        return OtherStep::Traps(Trap::Range);
+    };
+    if !header.mutable {
+        return OtherStep::Traps(Trap::Frozen);
     }
+    OtherStep::StoresReference(object, field, part.reference(value))
 }
 
 fn writing_number(
@@ -136,16 +131,13 @@ fn writing_number(
     ensures { result ≡ or_range (place_in (length (object_of heap.now.chunks object).ints) (int_of part.now.frames.top index)) (λ i. or_frozen (object_of heap.now.chunks object) (OtherStep.StoresNumber object i (int_of part.now.frames.top value))) }
 {
     let header = heap.own_header(object);
-    match field_index(header.nints, part.int(index)) {
-        None => OtherStep::Traps(Trap::Range),
-        Some(field) => {
-            if header.mutable {
-                OtherStep::StoresNumber(object, field, part.int(value))
-            } else {
-                OtherStep::Traps(Trap::Frozen)
-            }
-        }
+    let Some(field) = field_index(header.nints, part.int(index)) else {
+        return OtherStep::Traps(Trap::Range);
+    };
+    if !header.mutable {
+        return OtherStep::Traps(Trap::Frozen);
     }
+    OtherStep::StoresNumber(object, field, part.int(value))
 }
 
 // The step of a compare and swap, if the field holds this.
