@@ -1,5 +1,6 @@
 -- A line that is written is read again.
 use Rattle.log_lines.proofs.Common.{◌≡◌, ◌<◌, ◌≤◌, ◌+◌, ◌*◌, ◌^◌, ◌==◌, ℕ, zero, suc, Bool, true, false, not, List, [], ◌∷◌, ◌++◌, length, get_or, cond, arith, refl, ap, sym, ◌∙◌, Option, Some, None, Result, Ok, Err, nat_lt, nat_le, inl, inr, ◌&&◌, codes, digit_value, is_ascii_digit, decimal, All, AllByRecursion, slice_split, all_ascii_digits, AllDigits, digits_value, cases_lt, nat_tests, decimal_is_IsNumeral, decimal_digit, decimal_nonempty, length-decimal-le, first_decimal, mul_comm, le-mul_of_pos_right, All-from_recursion, slice_split_at, slice_split_none, LogCause, LogPlace, AccessKind, Access, Reference, Act, LogLine, is_space, words_of, has_length, has_leading_zero, digits_number, numeral_value, is_site, site_at, IsLogNumber, IsLogPlace, IsSite, IsAccess, IsLogReference, IsAct, IsLine, access_limit, location_limit, place_end, is_small, place_at, act_of_access, reference_of, line_of_words, line_of, spaced, site_words, place_words, reference_words, access_word, act_words, line_words, line_bytes}
+use Rattle.log_lines.proofs.Within.{one_below}
 use Rattle.log_lines.specs.declared.line.AccessKind.TheVariants as kinds
 use Rattle.log_lines.specs.declared.line.Act.TheVariants as acts
 use Rattle.log_lines.specs.declared.line.LogLine.TheVariants as lines
@@ -172,11 +173,8 @@ act_again acts.Finish h = as_words 46 [] [] refl (refl, tt) tt
 strand_number : (s : ℕ) → s < 2 ^ 31 → IsLogNumber s
 strand_number s h = omega (arith, h)
 
-one : IsLogNumber 1
-one = omega arith
-
 pub line_again : (l : LogLine) → IsLine l → line_of (line_bytes l) ≡ Ok l
-line_again lines.Version h = as_words 104 (codes "hlog") (decimal 1 ∷ []) refl (refl, (refl, (refl, (refl, (refl, tt))))) (clear 1 one, tt) ∙ rw (number_again 1 one) refl
+line_again lines.Version h = as_words 104 (codes "hlog") (decimal 1 ∷ []) refl (refl, (refl, (refl, (refl, (refl, tt))))) (clear 1 one_below, tt) ∙ rw (number_again 1 one_below) refl
 line_again (lines.Strand t s) h =
     as_words 115 [] (decimal t ∷ decimal s ∷ []) refl (refl, tt) (clear t (task_number t h.0), (clear s (strand_number s h.1), tt))
     ∙ rw (number_again t (task_number t h.0), number_again s (strand_number s h.1), task_passes t h.0, strand_passes s h.1) refl

@@ -117,7 +117,7 @@ length_below block offset ws b o =
     bind_ok IsFirst IsFirstPlace (number_at ws) _ (next_below ws)
     (λ x l. if_ok IsFirstPlace (goes_on x.1) (place_of_runs block offset x.0 x.1) (place_of_run block offset x.0 x.1) (runs_below block offset x.0 x.1 b o) (run_below block offset x.0 x.1 b o l))
 
-one_below : IsLogNumber 1
+pub one_below : IsLogNumber 1
 one_below = omega arith
 
 place_below : (ws : List (List ℕ)) → IfOk (place_at ws) IsFirstPlace

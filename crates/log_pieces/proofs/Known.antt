@@ -1,7 +1,7 @@
 -- What is known when one thing more has happened.
 use Rattle.log_pieces.proofs.Common.{◌≡◌, ◌==◌, ℕ, Bool, true, false, List, [], ◌∷◌, ◌++◌, cond, not, refl, ap, sym, ◌∙◌, nat_eq, ◌||◌, ◌&&◌, list_any, contains, Act, GraphStrand, strand, Event, event, is_on, is_last, has_ended, spawns, bears, releases, is_born, is_released, Claims, ClaimsHold, is_pair, is_that}
 
-or_false : (b : Bool) → b ≡ (b || false)
+pub or_false : (b : Bool) → b ≡ (b || false)
 or_false true = refl
 or_false false = refl
 
@@ -19,7 +19,7 @@ cond_or true false = refl
 cond_or false true = refl
 cond_or false false = refl
 
-or_assoc : (a b c : Bool) → (a || (b || c)) ≡ ((a || b) || c)
+pub or_assoc : (a b c : Bool) → (a || (b || c)) ≡ ((a || b) || c)
 or_assoc true b c = refl
 or_assoc false b c = refl
 

@@ -3,6 +3,7 @@ use Rattle.log_pieces.proofs.Common.{◌≡◌, ◌<◌, ◌≤◌, ◌+◌, ◌
 use Rattle.log_lines.specs.declared.cause.LogCause.TheVariants as causes
 use Rattle.log_lines.specs.declared.line.LogLine.TheVariants as lines
 use Rattle.log_form.specs.declared.fault.LogFault.TheVariants as faults
+use Rattle.log_pieces.proofs.Known.{or_assoc, or_false}
 use Rattle.log_pieces.proofs.Whole.{lines_from}
 
 -- A FILE
@@ -92,10 +93,6 @@ pub record Has (walk : LineWalk) (cut : Bool) (texts : List (List ℕ)) (file : 
 pub has_none : (walk : LineWalk) (texts : List (List ℕ)) → ClaimsHold walk.claims [] → walk.pieces ≡ [] → Has walk false texts 0
 has_none walk texts k e = record { before = []; knows = k; faults = refl; ends = refl; cuts = refl; pieces = ap (events_of_pieces texts) e }
 
-or_assoc : (a b c : Bool) → (a || (b || c)) ≡ ((a || b) || c)
-or_assoc true b c = refl
-or_assoc false b c = refl
-
 module _ (walk : LineWalk) (cut : Bool) (texts : List (List ℕ)) (file : ℕ) (text : List ℕ) (h : Has walk cut texts file) (lt : file < length texts) (t : text_at texts file ≡ text) where
   rest_is : drop file texts ≡ text ∷ drop (file + 1) texts
   rest_is = drop-cons texts file [] lt ∙ ap (λ x. x ∷ drop (suc file) texts) t ∙ ap (λ k. text ∷ drop k texts) (let s : suc file ≡ file + 1 = omega arith in s)
@@ -121,17 +118,13 @@ module _ (walk : LineWalk) (cut : Bool) (texts : List (List ℕ)) (file : ℕ) (
     pieces = p;
   }
 
-or_none : (b : Bool) → b ≡ (b || false)
-or_none true = refl
-or_none false = refl
-
 -- no file is left
 module _ (walk : LineWalk) (cut : Bool) (texts : List (List ℕ)) (file : ℕ) (h : Has walk cut texts file) (le : length texts ≤ file) where
   pub no_fault : log_fault texts ≡ None
   no_fault = sym h.faults ∙ ap (fault_behind file h.before) (drop_all file texts le)
 
   pub cut_is : cut ≡ is_cut texts
-  cut_is = or_none cut ∙ sym (ap (λ ts. cut || is_cut_behind h.before ts) (drop_all file texts le)) ∙ h.cuts
+  cut_is = or_false cut ∙ sym (ap (λ ts. cut || is_cut_behind h.before ts) (drop_all file texts le)) ∙ h.cuts
 
   pub all_pieces : events_of_pieces texts walk.pieces ≡ events_of texts
   all_pieces = h.pieces ∙ sym (ap (events_behind h.before) (drop_all file texts le)) ∙ h.ends

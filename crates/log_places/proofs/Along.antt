@@ -1,6 +1,6 @@
 -- What pages have once the runs of a region are marked.
 use Rattle.log_places.proofs.Common.{◌≡◌, ℕ, ◌+◌, ◌-◌, ◌*◌, ◌/◌, ◌<◌, ◌≤◌, ◌==◌, Bool, true, false, List, [], ◌∷◌, ◌++◌, min, ◌⊎◌, inl, inr, refl, ap, sym, subst, ◌∙◌, arith, cases_lt, eqb-true, eq-eqb, false≢true, In, in_append_left, in_append_right, in_append_cases, below_next, Stretch, PageKey, Region, marked, at, found, page_key, run_start, same_page, Covers, IsRegionCut, PlacesValue, first_on, end_on, IsRunMarked, IsAccessed, IsEdge, HasEdge, AreCutAlong, AreMarked, AreDifferent}
-use Rattle.log_places.proofs.Finding.{same_keys}
+use Rattle.log_places.proofs.Finding.{is_not, same_keys}
 use Rattle.log_places.proofs.Bordering.{has_too, edge_too, marked_along, cut_by}
 
 -- A RUN ON ITS PAGES
@@ -26,10 +26,6 @@ all_marked old new block start end page past m = record {
   none = m.none;
   others = m.others;
 }
-
-is_not : (b : Bool) → (b ≡ true → ⊥) → b ≡ false
-is_not true never = absurd (never refl)
-is_not false never = refl
 
 -- one page more
 pub marked_below : (old v new : PlacesValue) (block start end page : ℕ) → start < end → start / 4096 ≤ page → page * 4096 < end → AreMarkedBelow old v block start end page

@@ -1,7 +1,7 @@
 -- The slots of a block, page after page.
 use Rattle.log_places.proofs.Common.{◌≡◌, ◌<◌, ◌≤◌, ◌+◌, ◌-◌, ◌*◌, ◌/◌, ◌==◌, ◌++◌, ◌∷◌, ◌∙◌, ℕ, zero, suc, Bool, true, false, cond, List, [], length, drop, get_or, slice_get, append-nil, Some, None, inl, inr, refl, sym, ap, subst, arith, sum_by, eqb-true, eq-eqb, append_assoc, length-drop, same_Some, slice_get_within, In, got_in, in_append_left, in_append_right, in_append_cases, none_some, in_got, Stretch, PageKey, Region, LocationSlot, Ascending, at, found, page_key, same_page, IsFirstPage, PlacesValue, firsts_from, stretch_count, stretches_before, IsSlot, AreDifferent, AreMarked, slots_of_page, slots_on, slots_of_block, next_page, SlotsDiffer}
 use Rattle.log_places.proofs.Marking.{ascending_in}
-use Rattle.log_places.proofs.Finding.{places, same_keys, same_itself}
+use Rattle.log_places.proofs.Finding.{is_not, places, same_keys, same_itself}
 use Rattle.log_places.proofs.Numbering.{below_all, found_got, item_got, number_is}
 
 -- PAGE AFTER PAGE
@@ -321,10 +321,6 @@ slots_are_counted v block t i =
     omega (arith, e, lt, all)
 
 -- THEY ARE THOSE OF THE BLOCK'S LOCATIONS
-
-is_not : (b : Bool) → (b ≡ true → ⊥) → b ≡ false
-is_not true never = absurd (never refl)
-is_not false never = refl
 
 first_of : (ks : List PageKey) (i : ℕ) (k : PageKey) → AreDifferent ks → slice_get ks i ≡ Some k → IsFirstPage ks k i
 first_of [] i k d e = none_some (sym (none_there i) ∙ e)

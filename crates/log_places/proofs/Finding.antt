@@ -2,6 +2,10 @@
 use Rattle.log_places.proofs.Common.{◌≡◌, ℕ, zero, suc, ◌+◌, ◌<◌, ◌==◌, ◌||◌, not, Bool, true, false, cond, List, [], ◌∷◌, ◌++◌, length, set, get_or, Result, Ok, Err, OnOk, OnErr, refl, ap, sym, subst, ◌∙◌, arith, list_any, position_or_len, prefix_len, eqb-true, eq-eqb, and_parts, and_from, false≢true, insert_key, Stretch, PageKey, marked, Ascending, at, found, same_page, IsFirstPage, PlacesValue}
 use Rattle.log_places.proofs.Marking.{marked_ascends}
 
+pub is_not : (b : Bool) → (b ≡ true → ⊥) → b ≡ false
+is_not true never = absurd (never refl)
+is_not false never = refl
+
 pub same_keys : (k x : PageKey) → same_page k x ≡ true → k ≡ x
 same_keys k x e =
     let both = and_parts (k.block == x.block) (k.page == x.page) e in

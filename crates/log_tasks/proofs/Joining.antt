@@ -1,5 +1,6 @@
 -- Joins of what is unjoined.
 use Rattle.log_tasks.proofs.Common.{◌≡◌, ◌<◌, ◌≤◌, ◌+◌, ◌-◌, ◌==◌, ◌++◌, ◌∷◌, ◌∙◌, ℕ, zero, suc, Bool, true, false, not, List, [], length, drop, take, get_or, map, reverse, refl, sym, ap, Option, Some, None, arith, append_assoc, append-nil, drop-cons, nat_eq, ◌||◌, filter, slice_get, if◌then◌else◌, fun_ext, reverse_onto, map-append, take_more, filter-append, got_front, GraphTurn, Spawn, Join, spawned_by, joins, completed, left_by, joins_of, joins_for}
+use Rattle.log_tasks.proofs.Acts.{or_assoc}
 
 module _ (joined : ℕ → Bool) where
   one_join : (c : ℕ) (b : Bool) → joined c ≡ b → map Join (filter (λ d. not (joined d)) (c ∷ [])) ≡ joins_of (if b then None else Some c)
@@ -36,14 +37,10 @@ completed_by joined row turns same e = e ∙ ap (λ (f : ℕ → Bool). row ++ j
 
 -- JOINED CHILDREN
 
-or_third : (a b c : Bool) → (a || (b || c)) ≡ ((a || b) || c)
-or_third true b c = refl
-or_third false b c = refl
-
 pub joins_both : (xs ys : List GraphTurn) (c : ℕ) → joins (xs ++ ys) c ≡ (joins xs c || joins ys c)
 joins_both [] ys c = refl
 joins_both (Spawn d ∷ xs) ys c = joins_both xs ys c
-joins_both (Join d ∷ xs) ys c = ap (λ (b : Bool). (d == c) || b) (joins_both xs ys c) ∙ or_third (d == c) (joins xs c) (joins ys c)
+joins_both (Join d ∷ xs) ys c = ap (λ (b : Bool). (d == c) || b) (joins_both xs ys c) ∙ or_assoc (d == c) (joins xs c) (joins ys c)
 
 -- one turn more
 pub joined_more : (turns : List GraphTurn) (i : ℕ) (d turn : GraphTurn) (c : ℕ) → i < length turns → turn ≡ get_or turns i d → joins (take (i + 1) turns) c ≡ (joins (take i turns) c || joins (turn ∷ []) c)

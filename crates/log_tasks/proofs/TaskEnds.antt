@@ -1,7 +1,7 @@
 -- What is wrong with a task after its last turn, by what is known and by what happens.
 use Rattle.log_tasks.proofs.Common.{◌≡◌, ◌≢◌, ◌<◌, ◌≤◌, ◌==◌, ◌∷◌, ◌∙◌, ◌⊎◌, inl, inr, ℕ, Bool, true, false, List, [], length, get_or, refl, sym, ap, ap₂, subst, Option, Some, None, arith, ◌&&◌, max, nat_lt, nat_tests, cases_lt, Act, GraphTurn, GraphStrand, Extent, Whole, tasks_in, strand, last_of, Event, is_on, acts_on, StrandEnd, TaskCause, HasNoEnd, GoesOnAfterEnd, TaskFault, Told, end_of, DoesSomething, log_strand, KnowsEvents, greater, number_if, index_of, top_of, end_told, top_told, HasCause, goes_past, end_cause_by, end_cause, end_cause_of}
 use Rattle.log_tasks.proofs.Puts.{number_same}
-use Rattle.log_tasks.proofs.Spawning.{on_same}
+use Rattle.log_tasks.proofs.Spawning.{on_same, same_number}
 
 -- THE GREATEST NUMBER
 
@@ -54,9 +54,6 @@ greater_right : (a b : Option ℕ) (i : ℕ) → (j : ℕ) × (b ≡ Some j) × 
 greater_right None b i r = r
 greater_right (Some k) None i r = absurd (let z : None ≡ Some r.0 = r.1 in cc)
 greater_right (Some k) (Some l) i r = (max k l, refl, let same : l ≡ r.0 = (let z : Some l ≡ Some r.0 = r.1 in cc) in let le = r.2 in omega (arith, same, le))
-
-same_number : (n : ℕ) → (n == n) ≡ true
-same_number n = grind (arith, nat_tests)
 
 index_here : (u : GraphStrand) (n i : ℕ) → u ≡ strand n i → index_of u n ≡ Some i
 index_here u n i e = ap (λ (v : GraphStrand). index_of v n) e ∙ ap (λ (b : Bool). number_if b i) (same_number n)

@@ -1,11 +1,8 @@
 -- A release is one plain write of each location of its block that is accessed, however many regions have it.
 use Rattle.race_scan.proofs.Common.{◌≡◌, ◌==◌, ℕ, ◌+◌, ◌*◌, ◌/◌, ◌%◌, ◌<◌, ◌≤◌, true, Option, Some, None, List, [], ◌∷◌, ◌++◌, length, get_or, filter, is_some, fold, inl, inr, refl, ap, sym, subst, ◌∙◌, append-nil, arith, eq-eqb, if◌then◌else◌, option_or, eqb-true, false≢true, append_assoc, In, any_from_in, in_from_any, in_kept, in_from_kept, in_map, in_read, map_in, LocationSlot, Region, page_key, Covers, PlacesValue, stretch_count, slots_of_block, AreMarked, IsAccessed, found_on, marked_whole, slot_each, slot_some, slots_are_counted, slots_differ, CellAccess, CellRace, Stacks, StrandOrder, entry_of, after, no_stacks, race_among, race_at, reported, scanned, scans_go_on, Touch, accesses_at, covers, is_accessed, plain_write, touch_of, touches_of_release, AreSlots, ScanValue, visited, HasScanned, ReleasesWriteWhatIsAccessed}
 use Rattle.race_scan.proofs.Covering.{run_covers, run_of}
-use Rattle.race_scan.proofs.Scanning.{AreOneAccess, DoesOnce, scanned_more}
-
-or_none : {A : Type 0} (o : Option A) → option_or o None ≡ o
-or_none None = refl
-or_none (Some x) = refl
+use Rattle.race_scan.proofs.Scanning.{AreOneAccess, DoesOnce, same_upto, scanned_more}
+use Rattle.race_scan.proofs.Visiting.{or_none}
 
 -- A PLAIN WRITE THAT COMES AGAIN
 
@@ -147,9 +144,6 @@ from_accessed rs block x h =
     let m = in_from_any (λ (r : Region). covers r block x) rs h in
     let c = run_of m.0 block x m.2 in
     (m.0, m.1, record { of_block = c.0; run = c.1.run; there = c.1.there; from = c.1.from; below = c.1.below })
-
-same_upto : (n : ℕ) → n ≤ n
-same_upto n = omega arith
 
 pub block_slots : (rs : List Region) (v : PlacesValue) → AreMarked rs v → (block : ℕ) → AreSlots v block (is_accessed rs block) (slots_of_block v block)
 block_slots rs v are block = record {

@@ -27,7 +27,7 @@ pub record AreOneAccess (o : StrandOrder) (ts : List Touch) (block : ℕ) (a : C
 
 -- ONE ACCESS MORE
 
-same_upto : (n : ℕ) → n ≤ n
+pub same_upto : (n : ℕ) → n ≤ n
 same_upto n = omega arith
 
 none_is_some : {A : Type 0} (o : Option A) → is_some o ≡ false → o ≡ None

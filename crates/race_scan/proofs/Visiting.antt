@@ -1,7 +1,7 @@
 -- What accesses of stretches do to the cells, and which races they find.
 use Rattle.race_scan.proofs.Common.{◌≡◌, ◌==◌, ℕ, Bool, true, false, Option, Some, None, List, [], ◌∷◌, ◌++◌, length, slice_get, is_some, fold, ◌⊎◌, inl, inr, refl, ap, sym, subst, ◌∙◌, eq-eqb, if◌then◌else◌, option_or, ne_eqb, length-set, In, got_same, got_other, in_append_cases, none_some, LocationSlot, CellAccess, CellRace, Stacks, StrandOrder, after, race_at, SlotsDiffer, FoundRace, AreOnce, ScanValue, found_race, with_race, visit_cell, visited, race_of}
 
-or_none : {A : Type 0} (o : Option A) → option_or o None ≡ o
+pub or_none : {A : Type 0} (o : Option A) → option_or o None ≡ o
 or_none None = refl
 or_none (Some x) = refl
 

@@ -128,11 +128,8 @@ pub record IsSpot (o : Outline) (s : LineContext) (w : LinesAbove) : Type 0 wher
 -- ---- a line
 
 module _ (o : Outline) (s : LineContext) (w : LinesAbove) (at : IsSpot o s w) (line : List ℕ) where
-  same_head : head_of (placed_words line) ≡ head_of_line line
-  same_head = head_is line
-
   form_is : form_of (placed_words line) ≡ head_form (head_of_line line)
-  form_is = ap head_form same_head
+  form_is = ap head_form (head_is line)
 
   words_are : texts (behind_first (placed_words line)) ≡ operands_of_line line
   words_are = texts_behind (placed_words line) ∙ ap operands_of (texts_of line)
@@ -149,20 +146,20 @@ module _ (o : Outline) (s : LineContext) (w : LinesAbove) (at : IsSpot o s w) (l
   unreadable_is : cause_in (operand_wrong (misplaced w.inside (head_of (placed_words line))) (placed_words line)) ≡ cond (is_misplaced s.inside (head_of_line line)) (Some reads.Word) (cause_if (has_wrong_operand (sense_of o s.labels (head_of_line line) (operands_of_line line))) reads.Operand)
   unreadable_is =
       ap (λ b. cause_in (operand_wrong (misplaced b (head_of (placed_words line))) (placed_words line))) at.inside
-      ∙ ap (λ h. cause_in (operand_wrong (misplaced s.inside h) (placed_words line))) same_head
+      ∙ ap (λ h. cause_in (operand_wrong (misplaced s.inside h) (placed_words line))) (head_is line)
       ∙ operand_cause s.inside (head_of_line line) (placed_words line) _ wrong_operand
 
   nested_is : cause_in (nested w (placed_words line)) ≡ cause_if (s.inside && is_begin (head_of_line line)) reads.NoEnd
   nested_is =
       if_wrong (w.inside && is_begin (head_of (placed_words line))) (first_placed_word (placed_words line)) InsideFunction
       ∙ ap (λ b. cause_if (b && is_begin (head_of (placed_words line))) reads.NoEnd) at.inside
-      ∙ ap (λ h. cause_if (s.inside && is_begin h) reads.NoEnd) same_head
+      ∙ ap (λ h. cause_if (s.inside && is_begin h) reads.NoEnd) (head_is line)
 
   open_is_left : cause_in (left_open w s.last (placed_words line)) ≡ cause_if (s.last && is_open_after (head_of_line line) s.inside) reads.NoEnd
   open_is_left =
       if_wrong (s.last && is_open_after (head_of (placed_words line)) w.inside) (word_place (first_placed_word (placed_words line))) OpenFunction
       ∙ ap (λ b. cause_if (s.last && is_open_after (head_of (placed_words line)) b) reads.NoEnd) at.inside
-      ∙ ap (λ h. cause_if (s.last && is_open_after h s.inside) reads.NoEnd) same_head
+      ∙ ap (λ h. cause_if (s.last && is_open_after h s.inside) reads.NoEnd) (head_is line)
 
   main_is_missing : cause_in (main_missing w s.last (placed_words line)) ≡ cause_if (lacks_main o s) reads.NoMain
   main_is_missing =
@@ -171,7 +168,7 @@ module _ (o : Outline) (s : LineContext) (w : LinesAbove) (at : IsSpot o s w) (l
 
   too_many_are : cause_in (too_many w (head_of (placed_words line)) (first_placed_word (placed_words line))) ≡ cause_if (is_too_many s (head_of_line line)) reads.TooMany
   too_many_are =
-      ap (λ h. cause_in (too_many w h (first_placed_word (placed_words line)))) same_head
+      ap (λ h. cause_in (too_many w h (first_placed_word (placed_words line)))) (head_is line)
       ∙ too_many_is w s (head_of_line line) (first_placed_word (placed_words line)) at.begun at.orders
 
   names_are : KnowsLoop o (head_of_line line) (operands_of_line line) → is_misplaced s.inside (head_of_line line) ≡ false → has_wrong_operand (sense_of o s.labels (head_of_line line) (operands_of_line line)) ≡ false
