@@ -2,7 +2,6 @@
 
 ghost use Rattle.std.specs.Prelude.{◌≡◌, ◌++◌, ℕ, OnOk, codes};
 ghost use Rattle.run_trace.specs.Settings.{field_limit};
-ghost use Rattle.run_ledger.specs.Text.{trap_word};
 ghost use Rattle.hh_model.specs.Step.{start};
 ghost use Rattle.page_data.specs.Deltas.{word, more_number};
 ghost use Rattle.page_data.specs.Run.{word_with_number, limits_text, settings_text, start_text, settings_and_start, machine_end, end_text, end_data};
@@ -10,9 +9,10 @@ ghost use Rattle.page_data.specs.Run.{word_with_number, limits_text, settings_te
 use crate::act::{add_count, more_number, more_word};
 use crate::delta::{add_bytes, add_tasks};
 use hh_lang::Program;
-use hh_model::{End, MachineState, Trap};
+use hh_model::{End, MachineState};
 use run_deltas::start_tasks;
 use run_ledger::RunEnd;
+use run_report::trap_name;
 use run_trace::Settings;
 use std::alloc::{AllocError, Global};
 
@@ -97,19 +97,6 @@ pub fn add_settings_and_start(
     add_start(alloc, text, program, state)
 }
 
-fn trap_word(trap: Trap) -> &'static str
-    ensures { result.now ≡ trap_word trap }
-{
-    match trap {
-        Trap::Nil => "nil",
-        Trap::Range => "range",
-        Trap::Frozen => "frozen",
-        Trap::Div => "div",
-        Trap::Size => "size",
-        Trap::Depth => "depth",
-    }
-}
-
 // Adds a word in quotes.
 fn add_word(text: &mut Vec<u8>, of: &[u8]) -> Result<(), AllocError>
     ensures { OnOk result (text.new.items ≡ text.old.items ++ word of.now) }
@@ -128,7 +115,7 @@ fn add_machine_end(alloc: Global, text: &mut Vec<u8>, end: End) -> Result<(), Al
         End::Done => add_word(text, b"done"),
         End::Trapped(trap, task, line) => {
             add_word(text, b"trap")?;
-            more_word(text, trap_word(trap).as_bytes())?;
+            more_word(text, trap_name(trap).as_bytes())?;
             more_number(alloc, text, task as u64)?;
             more_number(alloc, text, line as u64)
         }

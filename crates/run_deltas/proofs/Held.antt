@@ -1,5 +1,5 @@
 -- Names that are added one after the other.
-use Rattle.run_deltas.proofs.Common.{◌≡◌, ℕ, ◌+◌, ◌<◌, Bool, true, false, ◌||◌, cond, Option, Some, None, List, [], ◌∷◌, ◌++◌, length, take, get_or, refl, ap, sym, ◌∙◌, append_assoc, append-nil, take_more, Name, Frame, names_of_references, registers, with_root, with_roots}
+use Rattle.run_deltas.proofs.Common.{◌≡◌, ℕ, ◌+◌, ◌<◌, Option, Some, None, List, [], ◌∷◌, ◌++◌, length, take, get_or, refl, ap, sym, ◌∙◌, append_assoc, append-nil, take_more, Name, Frame, names_of_references, registers, with_root, with_roots}
 
 pub roots_append : (found a b : List Name) → with_roots found (a ++ b) ≡ with_roots (with_roots found a) b
 roots_append found [] b = refl

@@ -17,6 +17,7 @@ pub use Rattle.run_ledger.specs.Heaps.{begun_in, marked_in}
 pub use Rattle.run_ledger.specs.Reachable.{holds_name}
 pub use Rattle.run_ledger.specs.declared.data.Heap.{Heap}
 pub use Rattle.run_ledger.specs.declared.data.Ledger.{Ledger}
+pub use Rattle.run_names.specs.Names.{line_number}
 pub use Rattle.run_trace.specs.Entry.{EntryValue}
 pub use Rattle.run_trace.specs.declared.entry.Kind.{Kind}
 pub use Rattle.run_trace.specs.declared.entry.Kind.TheVariants.{Took, Ran, Chunk, Begin, End, PutOff, Mark, More, Sweep, Fuel}

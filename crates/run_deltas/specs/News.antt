@@ -1,6 +1,6 @@
 -- What an entry tells of the heap of its task: of its chunks, of what a collection keeps, and of a marking.
 use Rattle.std.specs.Prelude.{ℕ, ◌==◌, Bool, Option, Some, None, List, slice_get, if◌then◌else◌, is_some}
-use Rattle.run_deltas.specs.Common.{Name, Kind, Took, Ran, Chunk, Begin, End, PutOff, Mark, More, Sweep, Fuel, Heap, Ledger, begun_in, marked_in}
+use Rattle.run_deltas.specs.Common.{Name, Kind, Chunk, Begin, End, Mark, More, Sweep, Heap, Ledger, begun_in, marked_in}
 
 pub data News : Type 0 where
   -- nothing that doesn't follow from tasks and objects

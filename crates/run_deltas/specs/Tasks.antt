@@ -1,21 +1,17 @@
 -- Where the tasks stand that an entry moves, and what they hold.
 use Rattle.std.specs.Prelude.{ℕ, ◌+◌, ◌-◌, ◌==◌, Bool, true, false, Option, Some, None, List, [], ◌∷◌, ◌++◌, slice_get, if◌then◌else◌, unwrap_or}
-use Rattle.run_deltas.specs.Common.{Line, ProgramText, line_at, Frame, TaskStatus, Running, Waiting, Ended, Joined, Task, MachineState, fetched, is_left}
+use Rattle.run_deltas.specs.Common.{line_number, ProgramText, line_at, Frame, TaskStatus, Running, Waiting, Ended, Joined, Task, MachineState, fetched, is_left}
 use Rattle.run_deltas.specs.declared.data.Standing.{Standing}
 use Rattle.run_deltas.specs.declared.data.Standing.TheVariants.{Ready, Out, Waits, HasEnded, HasJoined}
 use Rattle.run_deltas.specs.declared.data.TaskNow.{TaskNow}
 use Rattle.run_deltas.specs.declared.data.NewTask.{NewTask}
 use Rattle.run_deltas.specs.Roots.{roots}
 
-abbrev pub number_of : Option Line → ℕ
-number_of None = 0
-number_of (Some l) = l.number
-
 -- the line of a task by where it stands: of one that runs its next step's, of one that waits its fork's, which lies in
 -- front of the next instruction, else none
 abbrev pub line_for : ProgramText → Frame → TaskStatus → ℕ
-line_for p f Running = number_of (fetched p f)
-line_for p f Waiting = number_of (line_at p f.function (f.next - 1))
+line_for p f Running = line_number (fetched p f)
+line_for p f Waiting = line_number (line_at p f.function (f.next - 1))
 line_for p f (Ended k n) = 0
 line_for p f Joined = 0
 

@@ -3,31 +3,23 @@
 ghost use Rattle.std.specs.Prelude.{◌≡◌, ◌<◌, ◌≤◌, ◌+◌, ◌-◌, ◌^◌, ◌++◌, IfOk, OnOk, true, false, length, slice_get, if◌then◌else◌};
 ghost use Rattle.hh_model.specs.Step.{is_left};
 ghost use Rattle.run_deltas.specs.Roots.{roots};
-ghost use Rattle.run_deltas.specs.Tasks.{number_of, line_for, standing_for, now_of, now_out, now_free, joined_now, moved, child_of, children};
+ghost use Rattle.run_deltas.specs.Tasks.{line_for, standing_for, now_of, now_out, now_free, joined_now, moved, child_of, children};
 
 use crate::data::{NewTask, Standing, TaskNow};
 use crate::roots::roots;
-use hh_lang::{Line, Program};
+use hh_lang::Program;
 use hh_model::{Frame, MachineState, Task, TaskStatus};
 use plain_vec::Listed;
+use run_names::line_number;
 use std::alloc::{AllocError, Global};
-
-fn number_of(line: Option<Line>) -> u32
-    ensures { result ≡ number_of line }
-{
-    match line {
-        None => 0,
-        Some(line) => line.number,
-    }
-}
 
 // The line of a task by where it stands.
 fn line_for(program: &Program, top: &Frame, status: TaskStatus) -> u32
     ensures { result ≡ line_for program.now top.now status }
 {
     match status {
-        TaskStatus::Running => number_of(program.line(top.function, top.next)),
-        TaskStatus::Waiting => number_of(program.line(top.function, top.next.saturating_sub(1))),
+        TaskStatus::Running => line_number(program.line(top.function, top.next)),
+        TaskStatus::Waiting => line_number(program.line(top.function, top.next.saturating_sub(1))),
         TaskStatus::Ended(_, _) => 0,
         TaskStatus::Joined => 0,
     }

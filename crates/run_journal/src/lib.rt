@@ -2,6 +2,7 @@
 #![tactic(auto)]
 
 mod book;
+mod joins;
 mod reads;
 mod replay;
 
@@ -10,6 +11,7 @@ pub use hh_lang::{Instr, IntReg, Line, PROGRAM_LIMIT, Program, RefReg};
 pub use hh_model::{
     End, Frame, Machine, MachineState, Name, Object, StepError, Strand, Task, TaskStatus, is_same,
 };
+pub use joins::joins_of;
 pub use plain_vec::Listed;
 pub use replay::{ReplayError, model_replay, replayed};
 pub use run_accounts::{ApplyError, Held};

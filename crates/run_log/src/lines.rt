@@ -7,12 +7,13 @@ ghost use Rattle.run_log.specs.Writing.{all_written};
 ghost use Rattle.run_log.specs.Lines.{deed_lines, lines_of_deed, step_lines, steps_lines, strand_lines, entry_lines, lines_from};
 
 use crate::act::act_of_deed;
-use crate::turn::{add_act, add_moved, joins_of, strand_behind};
+use crate::turn::{add_act, add_moved, strand_behind};
 use crate::write::add_line;
 use hh_lang::Program;
 use hh_model::{Machine, MachineState};
 use log_lines::{Act, LogLine};
 use run_deltas::{Deed, StepDeed, step_deed, take, tasks_made};
+use run_journal::joins_of;
 use run_trace::{Entry, Kind};
 use std::alloc::{AllocError, Global};
 

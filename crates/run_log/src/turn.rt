@@ -1,7 +1,6 @@
 // What a step makes of tasks: forks, ends and joins.
 
 ghost use Rattle.std.specs.Prelude.{◌≡◌, ◌<◌, ◌+◌, ◌-◌, ◌*◌, ◌^◌, ◌++◌, ◌∷◌, [], OnOk, IfOk, option_copied, slice_get};
-ghost use Rattle.hh_model.specs.Tree.{joins_in};
 ghost use Rattle.log_lines.specs.declared.line.Act.{Act};
 ghost use Rattle.log_lines.specs.declared.line.LogLine.TheVariants as lines;
 ghost use Rattle.run_log.specs.Writing.{written, all_written};
@@ -10,6 +9,7 @@ ghost use Rattle.run_log.specs.Lines.{strand_behind, left_of, join_lines, turn_l
 use crate::write::add_line;
 use hh_model::{MachineState, Task, TaskStatus};
 use log_lines::{Act, LogLine};
+use run_journal::joins_of;
 use std::alloc::{AllocError, Global};
 
 // Adds the line of an act.
@@ -24,16 +24,6 @@ pub(crate) fn strand_behind(joins: u32) -> Result<u32, AllocError>
     ensures { IfOk result (λ strand. strand ≡ strand_behind joins) }
 {
     joins.checked_mul(4).ok_or(AllocError)
-}
-
-/// How many forks of a task have joined.
-pub(crate) fn joins_of(state: &MachineState, t: u32) -> u32
-    ensures { result ≡ joins_in state.now.tasks t }
-{
-    match state.tasks.get(t as usize) {
-        Some(task) => task.joins,
-        None => 0,
-    }
 }
 
 // The left one of a task and its sibling.

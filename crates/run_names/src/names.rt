@@ -1,10 +1,10 @@
-// What kinds of entries and functions are called.
+// What kinds of entries and functions are called, and the numbers of lines.
 
 ghost use Rattle.std.specs.Prelude.{◌≡◌};
 ghost use Rattle.run_trace.specs.Line.{kind_name};
-ghost use Rattle.run_names.specs.Names.{function_name};
+ghost use Rattle.run_names.specs.Names.{function_name, line_number};
 
-use hh_lang::Program;
+use hh_lang::{Line, Program};
 use run_trace::Kind;
 
 /// The word of an entry's kind, as a trace has it.
@@ -32,5 +32,15 @@ pub fn function_name(program: &Program, function: u32) -> &[u8]
     match program.functions().get(function as usize) {
         None => &[],
         Some(fun) => fun.name.as_slice(),
+    }
+}
+
+/// The number of a line of a program; 0 for none.
+pub fn line_number(line: Option<Line>) -> u32
+    ensures { result ≡ line_number line }
+{
+    match line {
+        None => 0,
+        Some(line) => line.number,
     }
 }

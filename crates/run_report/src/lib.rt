@@ -7,6 +7,6 @@ mod totals;
 mod whole;
 
 pub use counting::cleared_words;
-pub use texts::{end_text, outputs_text, refused_text, report_text};
+pub use texts::{end_text, outputs_text, refused_text, report_text, trap_name};
 pub use totals::Totals;
 pub use whole::{Extras, WholeRun, whole_run};

@@ -11,8 +11,8 @@ use hh_model::{End, Trap};
 use run_ledger::{Refused, RefusedAt, Report, RunEnd};
 use std::alloc::{AllocError, Global};
 
-// The word for a trap.
-fn trap_name(trap: Trap) -> &'static str
+/// The word for a trap.
+pub fn trap_name(trap: Trap) -> &'static str
     ensures { result.now ≡ trap_word trap }
 {
     match trap {

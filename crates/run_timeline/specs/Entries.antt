@@ -2,21 +2,17 @@
 use Rattle.std.specs.Prelude.{ℕ, ◌+◌, ◌-◌, ◌==◌, Option, Some, None, List, [], ◌∷◌, ◌++◌, codes, length, slice_get, if◌then◌else◌}
 use Rattle.std.specs.List.{join_with_byte}
 use Rattle.std.specs.Fmt.{decimal}
-use Rattle.run_timeline.specs.Common.{ProgramText, line_at, Line, TaskStatus, Ended, Joined, Entangled, Task, MachineState, Kind, Took, Ran, Chunk, Begin, End, PutOff, Mark, More, Sweep, Fuel, EntryValue, kind_name, RunEnd, Machine, Ledger, in_use, end_words, function_name, task_name, Json, Members, Number, Word, NoMember, Member}
+use Rattle.run_timeline.specs.Common.{line_number, ProgramText, line_at, TaskStatus, Ended, Joined, Entangled, Task, MachineState, Kind, Took, Ran, Chunk, Begin, End, PutOff, Mark, More, Sweep, Fuel, EntryValue, kind_name, RunEnd, Machine, Ledger, in_use, end_words, function_name, task_name, Json, Members, Number, Word, NoMember, Member}
 use Rattle.run_timeline.specs.declared.words.AccountCounts.{AccountCounts}
 use Rattle.run_timeline.specs.Words.{words_held}
 use Rattle.run_timeline.specs.Events.{event, arguments, one_number, two_numbers, end_time, span, arrow_begins, arrow_ends}
 
 -- THE STATUS OF A TASK
 
-abbrev pub number_of : Option Line → ℕ
-number_of None = 0
-number_of (Some l) = l.number
-
 -- the line of the instruction that comes next
 abbrev pub next_line : ProgramText → Option Task → ℕ
 next_line p None = 0
-next_line p (Some x) = number_of (line_at p x.top.function x.top.next)
+next_line p (Some x) = line_number (line_at p x.top.function x.top.next)
 
 -- THE ENTRY ITSELF
 
@@ -68,7 +64,7 @@ task_ends t n w = span (codes "e") (task_name t) (codes "task") t n w NoMember
 -- the line of a waiting task's fork, which stands in front of the instruction that comes next
 abbrev pub fork_line : ProgramText → Option Task → ℕ
 fork_line p None = 0
-fork_line p (Some x) = number_of (line_at p x.top.function (x.top.next - 1))
+fork_line p (Some x) = line_number (line_at p x.top.function (x.top.next - 1))
 
 -- a task is taken first: its span begins, and the arrow from its fork ends
 abbrev pub first_taken : ProgramText → MachineState → ℕ → ℕ → ℕ → Option ℕ → List Json

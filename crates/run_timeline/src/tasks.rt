@@ -5,11 +5,12 @@ ghost use Rattle.std.specs.List.{flat_map};
 ghost use Rattle.json_text.specs.Json.{further, more_members};
 ghost use Rattle.run_timeline.specs.Events.{arguments, two_numbers};
 ghost use Rattle.json_text.specs.below.quoted_text.{task_name};
-ghost use Rattle.run_timeline.specs.Entries.{task_ends, number_of, fork_line, next_line, first_taken, taken, fork_events, join_events, task_end_events, collection, marking, begins_and_ends, counter, counter_events, end_members, run_end, run_ended};
+ghost use Rattle.run_timeline.specs.Entries.{task_ends, fork_line, next_line, first_taken, taken, fork_events, join_events, task_end_events, collection, marking, begins_and_ends, counter, counter_events, end_members, run_end, run_ended};
 
 use crate::events::{EventWriter, Label, Place};
 use json_text::{first_number, more_number, more_word};
-use run_journal::{End, Kind, Line, MachineState, Program, RunEnd, Task, TaskStatus};
+use run_journal::{End, Kind, MachineState, Program, RunEnd, Task, TaskStatus};
+use run_names::line_number;
 use run_report::end_text;
 use std::alloc::{AllocError, Global};
 
@@ -19,22 +20,13 @@ fn task_name(alloc: Global, task: u32) -> Result<String, AllocError>
     format!(in alloc; "task {task}")
 }
 
-fn number_of(line: Option<Line>) -> u32
-    ensures { result ≡ number_of line }
-{
-    match line {
-        None => 0,
-        Some(line) => line.number,
-    }
-}
-
 /// The line of a waiting task's fork.
 pub fn fork_line(program: &Program, task: Option<&Task>) -> u32
     ensures { result ≡ fork_line program.now (option_copied task.entry) }
 {
     match task {
         None => 0,
-        Some(task) => number_of(program.line(task.top.function, task.top.next.saturating_sub(1))),
+        Some(task) => line_number(program.line(task.top.function, task.top.next.saturating_sub(1))),
     }
 }
 
@@ -44,7 +36,7 @@ pub(crate) fn next_line(program: &Program, task: Option<&Task>) -> u32
 {
     match task {
         None => 0,
-        Some(task) => number_of(program.line(task.top.function, task.top.next)),
+        Some(task) => line_number(program.line(task.top.function, task.top.next)),
     }
 }
 
