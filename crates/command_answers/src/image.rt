@@ -8,7 +8,7 @@ use crate::answer::{Answer, CommandStatus};
 use crate::refusals::{bytes_alone, refused, trace_short};
 use journal_replay::{ReplayStop, Shared, replay};
 use race_report::{Listed, Settings};
-use refusal_lines::{InputError, Refusal, TraceInput, read_trace_input};
+use refusal_lines::{OrNoMemory, Refusal, TraceInput, read_trace_input};
 use shared_image::image_text;
 use std::alloc::{AllocError, Global};
 
@@ -58,7 +58,7 @@ pub fn answer_image(alloc: Global, settings: Settings, input: &[u8]) -> Result<A
 {
     match read_trace_input(alloc, input) {
         Ok(read) => answer_trace(alloc, settings, &read),
-        Err(InputError::Fault(fault)) => refused(alloc, Refusal::of_input(fault)),
-        Err(InputError::NoMemory) => Err(AllocError),
+        Err(OrNoMemory::Refused(fault)) => refused(alloc, Refusal::of_input(fault)),
+        Err(OrNoMemory::NoMemory) => Err(AllocError),
     }
 }

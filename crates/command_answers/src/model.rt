@@ -8,7 +8,7 @@ use crate::ended::extras_of;
 use crate::refusals::{bytes_alone, refused};
 use command_line::Options;
 use race_report::ReplayError;
-use refusal_lines::{InputError, Refusal, TraceInput, read_trace_input, whole_run};
+use refusal_lines::{OrNoMemory, Refusal, TraceInput, read_trace_input, whole_run};
 use std::alloc::{AllocError, Global};
 
 // Replays a trace on the machine that never collects.
@@ -31,7 +31,7 @@ pub fn answer_model(alloc: Global, options: Options, input: &[u8]) -> Result<Ans
 {
     match read_trace_input(alloc, input) {
         Ok(read) => answer_trace(alloc, options, &read),
-        Err(InputError::Fault(fault)) => refused(alloc, Refusal::of_input(fault)),
-        Err(InputError::NoMemory) => Err(AllocError),
+        Err(OrNoMemory::Refused(fault)) => refused(alloc, Refusal::of_input(fault)),
+        Err(OrNoMemory::NoMemory) => Err(AllocError),
     }
 }

@@ -7,7 +7,7 @@ ghost use Rattle.command_answers.specs.Answers.{IsText, IsRaceAnswer, AnswersRac
 use crate::answer::{Answer, CommandStatus};
 use crate::refusals::{bytes_alone, refused};
 use race_report::{Listed, Race, ReplayError, Settings, races_of_run, races_text};
-use refusal_lines::{InputError, Refusal, TraceInput, read_trace_input};
+use refusal_lines::{OrNoMemory, Refusal, TraceInput, read_trace_input};
 use std::alloc::{AllocError, Global};
 
 // The status for these races.
@@ -49,7 +49,7 @@ pub fn answer_races(alloc: Global, settings: Settings, input: &[u8]) -> Result<A
 {
     match read_trace_input(alloc, input) {
         Ok(read) => answer_trace(alloc, settings, &read),
-        Err(InputError::Fault(fault)) => refused(alloc, Refusal::of_input(fault)),
-        Err(InputError::NoMemory) => Err(AllocError),
+        Err(OrNoMemory::Refused(fault)) => refused(alloc, Refusal::of_input(fault)),
+        Err(OrNoMemory::NoMemory) => Err(AllocError),
     }
 }

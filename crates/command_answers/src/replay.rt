@@ -14,7 +14,7 @@ use crate::refusals::{refused, trace_short};
 use crate::wanted::Wanted;
 use command_line::Options;
 use journal_replay::{Counted, ReplayStop, World, replay};
-use refusal_lines::{Extras, InputError, Refusal, TraceInput, read_trace_input};
+use refusal_lines::{Extras, OrNoMemory, Refusal, TraceInput, read_trace_input};
 use std::alloc::{AllocError, Global};
 
 // The answer once all entries are made, if the run has no end.
@@ -76,7 +76,7 @@ pub fn answer_replay(alloc: Global, options: Options, input: &[u8]) -> Result<An
 {
     match read_trace_input(alloc, input) {
         Ok(read) => answer_trace(alloc, options, &read),
-        Err(InputError::Fault(fault)) => Ok(refused(alloc, Refusal::of_input(fault))?),
-        Err(InputError::NoMemory) => Err(Wanted::Before),
+        Err(OrNoMemory::Refused(fault)) => Ok(refused(alloc, Refusal::of_input(fault))?),
+        Err(OrNoMemory::NoMemory) => Err(Wanted::Before),
     }
 }

@@ -9,7 +9,7 @@ ghost use Rattle.command_answers.specs.Answers.{AnswersVerify};
 use crate::answer::{Answer, CommandStatus};
 use crate::refusals::{refused, text_alone};
 use refusal_lines::Refusal;
-use shared_image::{VerifyError, verify};
+use shared_image::{OrNoMemory, verify};
 use std::alloc::{AllocError, Global};
 
 // The end line of an image with this number of objects.
@@ -28,7 +28,7 @@ pub fn answer_verify(alloc: Global, input: &[u8]) -> Result<Answer, AllocError>
             let text = verified_line(alloc, objects)?;
             Ok(text_alone(alloc, CommandStatus::Done, text))
         }
-        Err(VerifyError::Refused(fault)) => refused(alloc, Refusal::Image(fault)),
-        Err(VerifyError::NoMemory) => Err(AllocError),
+        Err(OrNoMemory::Refused(fault)) => refused(alloc, Refusal::Image(fault)),
+        Err(OrNoMemory::NoMemory) => Err(AllocError),
     }
 }

@@ -3,7 +3,7 @@
 ghost use Rattle.std.specs.Prelude.{◌≡◌, ◌++◌, [], None, OnOk, IfOk, IfErr};
 ghost use Rattle.std.specs.List.{flat_map};
 ghost use Rattle.text_lines.specs.Lines.{lines_of};
-ghost use Rattle.image_check.specs.ImageFault.{image_fault, Fails};
+ghost use Rattle.image_check.specs.ImageFault.{Reports, image_fault};
 ghost use Rattle.image_check.specs.Sound.{all_read};
 ghost use Rattle.heap_graph.specs.HeapTotals.{held_by};
 ghost use Rattle.heap_graph.specs.Graph.{settings, overview, is_large, statements_of, graph_of};
@@ -14,7 +14,7 @@ use crate::links::DrawnLinks;
 use crate::overview::{add_heaps, add_links, count_links};
 use crate::{draw, held};
 use dot_text::{begin_graph, end_braces, set_attribute};
-use image_check::{ImageTable, Read, VerifyError, read_image};
+use image_check::{ImageFault, ImageTable, OrNoMemory, Read, read_image};
 use std::alloc::{AllocError, Global};
 
 // Adds what all graphs have.
@@ -96,10 +96,10 @@ pub fn graph_text(
     path: Option<u64>,
     limit: u64,
     text: &[u8],
-) -> Result<Vec<u8>, VerifyError>
+) -> Result<Vec<u8>, OrNoMemory<ImageFault>>
     ensures sound { OnOk result (image_fault text.now ≡ None) }
     ensures graph { IfOk result (λ graph. graph.items ≡ graph_of path limit text.now) }
-    ensures fault { IfErr result (Fails (image_fault text.now)) }
+    ensures fault { IfErr result (Reports (image_fault text.now)) }
 {
     let read = read_image(alloc, text)?;
     Ok(graph_from(alloc, &read, path, limit, text)?)

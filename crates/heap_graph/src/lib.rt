@@ -20,6 +20,6 @@ mod names;
 mod words;
 
 pub use graph::graph_text;
-pub use image_check::VerifyError;
+pub use image_check::OrNoMemory;
 pub use laws::references_are_edges;
 pub use text_lines::MOST_BYTES;

@@ -14,8 +14,7 @@ use Rattle.image_check.specs.declared.whole.Whole.{Whole}
 use Rattle.image_check.specs.declared.cause.ImageCause.{ImageCause}
 use Rattle.image_check.specs.declared.cause.ImageCause.TheVariants.{TooLong, Line, Twice, NoTask, NoChunk, Place, Running, Ref, Cross, Down, Field, Count}
 use Rattle.image_check.specs.declared.cause.ImageFault.{ImageFault}
-use Rattle.image_check.specs.declared.check.VerifyError.{VerifyError}
-use Rattle.image_check.specs.declared.check.VerifyError.TheVariants.{Refused, NoMemory}
+pub use Rattle.or_no_memory.specs.Refusals.{Reports}
 use Rattle.image_check.specs.Line.{line_meaning}
 use Rattle.image_check.specs.ImageTable.{found, has}
 use Rattle.image_check.specs.Sets.{is_among, same_birth, same_field}
@@ -207,8 +206,3 @@ objects_in text = length (after_lines nothing_read (lines_of text)).objects
 abbrev pub Verifies : Option ImageFault → ℕ → Result ℕ ImageFault → Type 0
 Verifies fault objects (Ok count) = (fault ≡ None) × (count ≡ objects)
 Verifies fault objects (Err f) = fault ≡ Some f
-
--- the verifier fails at the first fault, or if out of memory
-abbrev pub Fails : Option ImageFault → VerifyError → Type 0
-Fails fault (Refused f) = fault ≡ Some f
-Fails fault NoMemory = Unit {0}

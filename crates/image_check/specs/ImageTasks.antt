@@ -1,5 +1,5 @@
 -- Tasks, and the chunks that they own, in what was read.
-use Rattle.std.specs.Prelude.{◌≡◌, ◌<◌, ◌↔◌, ℕ, zero, suc, ◌==◌, ◌||◌, Bool, true, false, Option, Some, None, List, length, if◌then◌else◌}
+use Rattle.std.specs.Prelude.{◌≡◌, ◌↔◌, ℕ, zero, suc, ◌==◌, ◌||◌, Bool, true, false, Option, Some, None, List, length, if◌then◌else◌}
 use Rattle.image_check.specs.declared.line.ImageState.{ImageState}
 use Rattle.image_check.specs.declared.line.ImageState.TheVariants.{Running}
 use Rattle.image_check.specs.declared.line.ImageTask.{ImageTask}

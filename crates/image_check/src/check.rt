@@ -4,13 +4,14 @@ ghost use Rattle.std.specs.Prelude.{◌≡◌, ◌≤◌, length, IfOk, IfErr, I
 ghost use Rattle.text_lines.specs.Lines.{lines_of, most_bytes};
 ghost use Rattle.image_check.specs.Line.{line_meaning};
 ghost use Rattle.image_check.specs.Read.{after_line, nothing_had, nothing_read, whole_of};
-ghost use Rattle.image_check.specs.ImageFault.{cause_on, fault_from_line, after_lines, lines_fault, image_fault, objects_in, Verifies, Fails};
+ghost use Rattle.image_check.specs.ImageFault.{cause_on, fault_from_line, after_lines, lines_fault, image_fault, objects_in, Reports, Verifies};
 
 use crate::cause::{ImageCause, ImageFault};
 use crate::faults::first_cause;
 use crate::line::read_line;
 use crate::read::Read;
 use crate::whole::Whole;
+use or_no_memory::OrNoMemory;
 use std::alloc::{AllocError, Global};
 use text_lines::{MOST_BYTES, next_line};
 
@@ -19,26 +20,6 @@ const TOO_LONG: ImageFault = ImageFault {
     line: 0,
     cause: ImageCause::TooLong,
 };
-
-/// Why an image isn't verified.
-#[derive(Clone, Copy)]
-pub enum VerifyError {
-    /// Its first fault.
-    Refused(ImageFault),
-    /// Out of memory.
-    NoMemory,
-}
-
-impl From<AllocError> for VerifyError {
-    ghost use Rattle.std.specs.Prelude.{◌≡◌};
-    ghost use Rattle.image_check.specs.declared.check.VerifyError.TheVariants.{NoMemory};
-
-    ghost from_gives = { λ _ e. e ≡ NoMemory };
-
-    fn from(_: AllocError) -> VerifyError {
-        VerifyError::NoMemory
-    }
-}
 
 // The first cause on a line, given what was read before; a line without one is read too.
 fn check_line(
@@ -92,16 +73,16 @@ fn check_lines(
 }
 
 // Checks an image from its first line, given what the whole text says.
-fn read_within(alloc: Global, whole: &Whole, text: &[u8]) -> Result<Read, VerifyError>
+fn read_within(alloc: Global, whole: &Whole, text: &[u8]) -> Result<Read, OrNoMemory<ImageFault>>
     requires sized { length text.now ≤ most_bytes }
     requires whole { whole.now ≡ whole_of text.now }
     ensures read { IfOk result (λ read. (lines_fault text.now ≡ None) × (read ≡ after_lines nothing_read (lines_of text.now))) }
-    ensures fault { IfErr result (Fails (lines_fault text.now)) }
+    ensures fault { IfErr result (Reports (lines_fault text.now)) }
 {
     let mut read = Read::new(alloc);
     match check_lines(alloc, whole, &mut read, text)? {
         None => Ok(read),
-        Some(fault) => Err(VerifyError::Refused(fault)),
+        Some(fault) => Err(OrNoMemory::Refused(fault)),
     }
 }
 
@@ -157,24 +138,24 @@ fn check_text(alloc: Global, text: &[u8]) -> Result<Result<u64, ImageFault>, All
 }
 
 /// Checks the text of an image: returns the number of objects, or the first fault.
-pub fn verify(alloc: Global, text: &[u8]) -> Result<u64, VerifyError>
+pub fn verify(alloc: Global, text: &[u8]) -> Result<u64, OrNoMemory<ImageFault>>
     ensures verified { IfOk result (λ count. (image_fault text.now ≡ None) × (count ≡ objects_in text.now)) }
-    ensures fault { IfErr result (Fails (image_fault text.now)) }
+    ensures fault { IfErr result (Reports (image_fault text.now)) }
 {
     if text.len() > MOST_BYTES {
-        return Err(VerifyError::Refused(TOO_LONG));
+        return Err(OrNoMemory::Refused(TOO_LONG));
     }
     match check_text(alloc, text)? {
         Ok(count) => Ok(count),
-        Err(fault) => Err(VerifyError::Refused(fault)),
+        Err(fault) => Err(OrNoMemory::Refused(fault)),
     }
 }
 
 // Reads an image that isn't too long.
-fn read_text(alloc: Global, text: &[u8]) -> Result<Read, VerifyError>
+fn read_text(alloc: Global, text: &[u8]) -> Result<Read, OrNoMemory<ImageFault>>
     requires { length text.now ≤ most_bytes }
     ensures read { IfOk result (λ read. (lines_fault text.now ≡ None) × (read ≡ after_lines nothing_read (lines_of text.now))) }
-    ensures fault { IfErr result (Fails (lines_fault text.now)) }
+    ensures fault { IfErr result (Reports (lines_fault text.now)) }
 {
     let mut whole = Whole::new(alloc);
     whole.add_lines(alloc, text)?;
@@ -182,12 +163,12 @@ fn read_text(alloc: Global, text: &[u8]) -> Result<Read, VerifyError>
 }
 
 /// Checks the text of an image: returns all that its lines say, or the first fault.
-pub fn read_image(alloc: Global, text: &[u8]) -> Result<Read, VerifyError>
+pub fn read_image(alloc: Global, text: &[u8]) -> Result<Read, OrNoMemory<ImageFault>>
     ensures read { IfOk result (λ read. (image_fault text.now ≡ None) × (read ≡ after_lines nothing_read (lines_of text.now))) }
-    ensures fault { IfErr result (Fails (image_fault text.now)) }
+    ensures fault { IfErr result (Reports (image_fault text.now)) }
 {
     if text.len() > MOST_BYTES {
-        return Err(VerifyError::Refused(TOO_LONG));
+        return Err(OrNoMemory::Refused(TOO_LONG));
     }
     read_text(alloc, text)
 }

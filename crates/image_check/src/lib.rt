@@ -22,13 +22,14 @@ mod cause;
 mod faults;
 
 pub use cause::{ImageCause, ImageFault};
-pub use check::{VerifyError, read_image, verify};
+pub use check::{read_image, verify};
 pub use laws::{faultless_is_sound, objects_are_counted, tasks_are_related};
 pub use line::{
     ImageBirth, ImageChunk, ImageLine, ImageObject, ImageRemembered, ImageState, ImageTask,
     read_line,
 };
 pub use number::read_short;
+pub use or_no_memory::OrNoMemory;
 pub use owners::{chunk_of_address, owner_of};
 pub use read::Read;
 pub use table::ImageTable;

@@ -9,6 +9,7 @@ mod piece;
 mod text;
 mod walk;
 
-pub use log::{CutLog, LogError, cut_log};
+pub use log::{CutLog, cut_log};
+pub use or_no_memory::OrNoMemory;
 pub use piece::LogPiece;
 pub use text::{act_in, piece_text};

@@ -4,13 +4,14 @@ ghost use Rattle.std.specs.Prelude.{◌≡◌, IfOk, IfErr, None};
 ghost use Rattle.log_form.specs.Events.{events_of, is_cut};
 ghost use Rattle.log_form.specs.Faults.{log_fault};
 ghost use Rattle.log_pieces.specs.Pieces.{events_of_pieces};
-ghost use Rattle.log_pieces.specs.Log.{IsRefusedLog};
+ghost use Rattle.or_no_memory.specs.Refusals.{Reports};
 
 use crate::piece::LogPiece;
 use crate::walk::LineWalk;
 use log_form::LocatedFault;
+use or_no_memory::OrNoMemory;
 use plain_vec::Listed;
-use std::alloc::{AllocError, Global};
+use std::alloc::Global;
 
 /// A log that has no faulty line.
 #[derive(Drop)]
@@ -21,32 +22,12 @@ pub struct CutLog {
     pub is_cut: bool,
 }
 
-/// Why a log wasn't read.
-#[derive(Clone, Copy)]
-pub enum LogError {
-    /// This line is its first faulty one.
-    Refused(LocatedFault),
-    /// Out of memory.
-    NoMemory,
-}
-
-impl From<AllocError> for LogError {
-    ghost use Rattle.std.specs.Prelude.{◌≡◌};
-    ghost use Rattle.log_pieces.specs.declared.log.LogError.TheVariants.{NoMemory};
-
-    ghost from_gives = { λ _ e. e ≡ NoMemory };
-
-    fn from(_: AllocError) -> LogError {
-        LogError::NoMemory
-    }
-}
-
 /// Cuts the texts of a log's files into pieces.
-pub fn cut_log(alloc: Global, texts: &[Listed<u8>]) -> Result<CutLog, LogError>
+pub fn cut_log(alloc: Global, texts: &[Listed<u8>]) -> Result<CutLog, OrNoMemory<LocatedFault>>
     ensures whole { IfOk result (λ log. log_fault texts.now ≡ None) }
     ensures cut { IfOk result (λ log. log.is_cut ≡ is_cut texts.now) }
     ensures pieces { IfOk result (λ log. events_of_pieces texts.now log.pieces ≡ events_of texts.now) }
-    ensures refused { IfErr result (IsRefusedLog (log_fault texts.now)) }
+    ensures refused { IfErr result (Reports (log_fault texts.now)) }
 {
     let mut walk = LineWalk::new(alloc);
     match walk.take_files(texts)? {
@@ -54,6 +35,6 @@ pub fn cut_log(alloc: Global, texts: &[Listed<u8>]) -> Result<CutLog, LogError>
             pieces: walk.into_pieces(),
             is_cut,
         }),
-        Err(found) => Err(LogError::Refused(found)),
+        Err(found) => Err(OrNoMemory::Refused(found)),
     }
 }

@@ -9,10 +9,10 @@ ghost use Rattle.log_replies.specs.Shown.{extent_of, log_extent, RefusesSize, Re
 use crate::report::show_report;
 use crate::size::size_refusal;
 use log_findings::{Extent, ReportError, report_log};
-use log_pieces::{CutLog, LogError, LogPiece, cut_log};
+use log_pieces::{CutLog, LogPiece, OrNoMemory, cut_log};
 use log_refusals::{line_refusal, task_refusal};
 use log_request::LogView;
-use log_tasks::{LogTasks, TasksError, log_tasks};
+use log_tasks::{LogTasks, log_tasks};
 use plain_vec::Listed;
 use std::alloc::{AllocError, Global};
 use whole_call::Reply;
@@ -62,8 +62,8 @@ fn show_pieces(
 {
     match log_tasks(alloc, texts, pieces, extent_of(cut)) {
         Ok(tasks) => show_tasks(alloc, texts, pieces, &tasks, cut, view),
-        Err(TasksError::Refused(fault)) => task_refusal(alloc, names, texts, fault),
-        Err(TasksError::NoMemory) => Err(AllocError),
+        Err(OrNoMemory::Refused(fault)) => task_refusal(alloc, names, texts, fault),
+        Err(OrNoMemory::NoMemory) => Err(AllocError),
     }
 }
 
@@ -80,7 +80,7 @@ pub fn show_log(
         Ok(CutLog { pieces, is_cut }) => {
             show_pieces(alloc, names, texts, pieces.as_slice(), is_cut, view)
         }
-        Err(LogError::Refused(found)) => line_refusal(alloc, names, found),
-        Err(LogError::NoMemory) => Err(AllocError),
+        Err(OrNoMemory::Refused(found)) => line_refusal(alloc, names, found),
+        Err(OrNoMemory::NoMemory) => Err(AllocError),
     }
 }

@@ -1,12 +1,10 @@
--- The tasks of a log, or why there are none.
+-- The tasks of a log.
 use Rattle.std.specs.Prelude.{◌≡◌, ℕ, List, length, map}
 use Rattle.log_tasks.specs.Common.{GraphTurn, Extent, Event}
 use Rattle.log_tasks.specs.declared.tasks.LogTasks.{LogTasks}
-use Rattle.log_tasks.specs.declared.tasks.TasksError.{TasksError}
-use Rattle.log_tasks.specs.declared.tasks.TasksError.TheVariants.{Refused, NoMemory}
 use Rattle.log_tasks.specs.Numbers.{AreNumbers}
 use Rattle.log_tasks.specs.Rows.{AreRows, AreNestedTasks, graph_of}
-use Rattle.log_tasks.specs.Faults.{HasNoneBelow, IsFirstTaskFault}
+use Rattle.log_tasks.specs.Faults.{HasNoneBelow}
 
 -- the tasks are those of the log, no task of which has a fault; they make a nested run
 pub record IsLog (events : List Event) (extent : Extent) (log : LogTasks) : Type 0 where
@@ -18,8 +16,3 @@ pub record IsLog (events : List Event) (extent : Extent) (log : LogTasks) : Type
   pub turns_are : log.turns ≡ graph_of extent rows
   pub known_are : log.known ≡ map length rows
   pub nested : AreNestedTasks log.turns
-
--- a log that was refused has that fault of a task first
-abbrev pub IsRefusedTask : List Event → Extent → TasksError → Type 0
-IsRefusedTask events extent (Refused fault) = IsFirstTaskFault events extent fault
-IsRefusedTask events extent NoMemory = Unit {0}

@@ -6,7 +6,9 @@ ghost use Rattle.log_form.specs.Faults.{log_fault};
 ghost use Rattle.log_pieces.specs.Pieces.{events_of_pieces};
 ghost use Rattle.log_tasks.specs.Told.{KnowsEvents};
 ghost use Rattle.log_tasks.specs.Faults.{in_log};
-ghost use Rattle.log_tasks.specs.Log.{IsLog, IsRefusedTask};
+ghost use Rattle.log_tasks.specs.Faults.{IsFirstTaskFault};
+ghost use Rattle.log_tasks.specs.Log.{IsLog};
+ghost use Rattle.or_no_memory.specs.Refusals.{OnRefused};
 
 use crate::fault::{TaskFault, first_task_fault};
 use crate::graph::{graph_of, lengths};
@@ -15,6 +17,7 @@ use crate::rows::rows_of;
 use crate::told::Told;
 use fork_graph::{Extent, GraphStrand, GraphTurn};
 use log_pieces::LogPiece;
+use or_no_memory::OrNoMemory;
 use plain_vec::Listed;
 use std::alloc::{AllocError, Global};
 
@@ -27,26 +30,6 @@ pub struct LogTasks {
     pub turns: Listed<Listed<GraphTurn>>,
     /// How many turns the log tells of each task; its strands past these do nothing.
     pub known: Listed<usize>,
-}
-
-/// Why there is no graph of a log.
-#[derive(Clone, Copy)]
-pub enum TasksError {
-    /// The lowest task that is at fault has this fault; its strand is that of the log.
-    Refused(TaskFault),
-    /// Out of memory.
-    NoMemory,
-}
-
-impl From<AllocError> for TasksError {
-    ghost use Rattle.std.specs.Prelude.{◌≡◌};
-    ghost use Rattle.log_tasks.specs.declared.tasks.TasksError.TheVariants.{NoMemory};
-
-    ghost from_gives = { λ _ e. e ≡ NoMemory };
-
-    fn from(_: AllocError) -> TasksError {
-        TasksError::NoMemory
-    }
 }
 
 // What the pieces tell.
@@ -78,17 +61,17 @@ pub fn log_tasks(
     texts: &[Listed<u8>],
     pieces: &[LogPiece],
     extent: Extent,
-) -> Result<LogTasks, TasksError>
+) -> Result<LogTasks, OrNoMemory<TaskFault>>
     requires whole { log_fault texts.now ≡ None }
     requires pieces { events_of_pieces texts.now pieces.now ≡ events_of texts.now }
     ensures tasks { IfOk result (IsLog (events_of texts.now) extent) }
-    ensures refused { IfErr result (IsRefusedTask (events_of texts.now) extent) }
+    ensures refused { IfErr result (OnRefused (IsFirstTaskFault (events_of texts.now) extent)) }
 {
     let told = told_of(alloc, texts, pieces)?;
     let numbers = numbers_of(alloc, &told.tasks)?;
     let rows = rows_of(alloc, &told, numbers.as_slice())?;
     if let Some(fault) = first_task_fault(alloc, &told, &numbers, &rows, extent)? {
-        return Err(TasksError::Refused(in_log(&numbers, fault)));
+        return Err(OrNoMemory::Refused(in_log(&numbers, fault)));
     }
     let known = lengths(alloc, &rows)?;
     let turns = graph_of(alloc, rows, extent)?;

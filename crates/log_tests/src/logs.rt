@@ -2,7 +2,7 @@
 
 use log_form::{LocatedFault, LogFault, LogPosition};
 use log_lines::LogCause;
-use log_pieces::{LogError, cut_log};
+use log_pieces::{OrNoMemory, cut_log};
 use plain_vec::Listed;
 use std::alloc::{AllocError, Global};
 
@@ -147,14 +147,14 @@ fn outcome_of(alloc: Global, texts: &[&[u8]]) -> Option<Outcome> {
             Ok(log) if log.is_cut => Some(Outcome::CutOff),
             Ok(_) => Some(Outcome::Whole),
             Err(
-                LogError::Refused(
+                OrNoMemory::Refused(
                     LocatedFault {
                         at: LogPosition { file, line },
                         fault,
                     },
                 ),
             ) => Some(Outcome::Faulty(file, line, fault)),
-            Err(LogError::NoMemory) => None,
+            Err(OrNoMemory::NoMemory) => None,
         },
     }
 }

@@ -1,8 +1,8 @@
 // The tasks of whole and of cut logs.
 
 use fork_graph::{Extent, GraphTurn};
-use log_pieces::{CutLog, cut_log};
-use log_tasks::{LogTasks, TaskCause, TasksError, log_tasks};
+use log_pieces::{CutLog, OrNoMemory, cut_log};
+use log_tasks::{LogTasks, TaskCause, TaskFault, log_tasks};
 use plain_vec::Listed;
 use std::alloc::{AllocError, Global};
 
@@ -135,14 +135,14 @@ fn same_rows(rows: &Listed<Listed<GraphTurn>>, expected: &[&[GraphTurn]]) -> boo
 }
 
 // Whether tasks, or a fault, are what they should be.
-fn is_outcome(found: &Result<LogTasks, TasksError>, outcome: Outcome) -> bool {
+fn is_outcome(found: &Result<LogTasks, OrNoMemory<TaskFault>>, outcome: Outcome) -> bool {
     match (found, outcome) {
         (Ok(tasks), Outcome::Tasks(numbers, rows, known)) => {
             tasks.numbers.as_slice() == numbers
                 && same_rows(&tasks.turns, rows)
                 && tasks.known.as_slice() == known
         }
-        (Err(TasksError::Refused(fault)), Outcome::Refused(task, strand, cause)) => {
+        (Err(OrNoMemory::Refused(fault)), Outcome::Refused(task, strand, cause)) => {
             fault.strand.task == task && fault.strand.index == strand && fault.cause == cause
         }
         _ => false,
@@ -150,7 +150,7 @@ fn is_outcome(found: &Result<LogTasks, TasksError>, outcome: Outcome) -> bool {
 }
 
 // The tasks of a text.
-fn tasks_of(alloc: Global, text: &[u8]) -> Option<Result<LogTasks, TasksError>> {
+fn tasks_of(alloc: Global, text: &[u8]) -> Option<Result<LogTasks, OrNoMemory<TaskFault>>> {
     let mut texts = Listed::new(alloc);
     let copy = text.to_vec(alloc).ok()?;
     texts.push(Listed::from_vec(copy)).ok()?;

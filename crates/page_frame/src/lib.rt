@@ -5,4 +5,4 @@ mod frame;
 mod program;
 
 pub use frame::{add_head, add_tail};
-pub use trace_input::{InputError, TraceInput, read_trace_input};
+pub use trace_input::{OrNoMemory, TraceInput, read_trace_input};

@@ -8,4 +8,4 @@ pub use program_reader::{TextFault, read_program};
 pub use refusal::Refusal;
 pub use run_report::{Extras, end_text, outputs_text, report_text, whole_run};
 pub use text::refusal_text;
-pub use trace_input::{InputError, TOO_LONG, TraceInput, read_trace_input};
+pub use trace_input::{OrNoMemory, TOO_LONG, TraceInput, read_trace_input};

@@ -5,5 +5,5 @@ mod page;
 
 pub use hh_lang::Program;
 pub use page::page_of;
-pub use page_frame::{InputError, TraceInput, read_trace_input};
+pub use page_frame::{OrNoMemory, TraceInput, read_trace_input};
 pub use run_trace::{Entry, Settings};

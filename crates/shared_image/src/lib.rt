@@ -5,6 +5,6 @@ mod picture;
 mod text;
 
 pub use heap_image::MOST_BYTES;
-pub use image_check::{VerifyError, verify};
+pub use image_check::{OrNoMemory, verify};
 pub use picture::draw;
 pub use text::image_text;

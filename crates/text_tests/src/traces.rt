@@ -5,7 +5,7 @@ use heap_image::{
 };
 use program_reader::Cause;
 use std::alloc::Global;
-use trace_input::{InputError, InputFault, read_trace_input};
+use trace_input::{InputFault, OrNoMemory, read_trace_input};
 
 const TEXT: &[u8] =
     b"trace 2 # versions\n\n0 took 0\r\n\t63 ran 007 257 #no word\n0 chunk 1\n0 begin 1\n0 end 1 2 3 4\n0 putoff 1\n1 mark 0 # #\n1 some 0 1024\n1 sweep 0 5\n0 fuel";
@@ -115,11 +115,11 @@ fn told(alloc: Global, input: &[u8]) -> Told {
     }
     match read_trace_input(alloc, input) {
         Ok(read) => Ok((read.program.functions().len(), read.trace.entries.len())),
-        Err(InputError::Fault(InputFault::Source(refused))) => {
+        Err(OrNoMemory::Refused(InputFault::Source(refused))) => {
             Err((refused.line, Some(refused.cause)))
         }
-        Err(InputError::Fault(InputFault::BadLine(line))) => Err((line, None)),
-        Err(InputError::NoMemory) => Err((0, None)),
+        Err(OrNoMemory::Refused(InputFault::BadLine(line))) => Err((line, None)),
+        Err(OrNoMemory::NoMemory) => Err((0, None)),
     }
 }
 

@@ -11,5 +11,7 @@ pub use Rattle.std.specs.List.{join_with_byte}
 pub use Rattle.std.specs.Prelude.{◌==◌, Option, Some, None, Ok, IfErr}
 pub use Rattle.text_lines.specs.Lines.{lines_of}
 pub use Rattle.trace_input.specs.Cut.{is_trace_line, lines_above, trace_lines, with_feeds, program_part, trace_number}
-pub use Rattle.trace_input.specs.Input.{trace_bad, bad_line, as_bad_line, parts_fault, FailsAt, FailsTrace}
-pub use Rattle.trace_input.specs.declared.input.InputError.{InputError}
+pub use Rattle.trace_input.specs.Input.{trace_bad, bad_line, as_bad_line, parts_fault, FailsTrace}
+pub use Rattle.or_no_memory.specs.declared.OrNoMemory.{OrNoMemory}
+pub use Rattle.or_no_memory.specs.Refusals.{Reports}
+pub use Rattle.trace_input.specs.declared.input.InputFault.{InputFault}

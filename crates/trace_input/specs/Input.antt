@@ -16,8 +16,8 @@ use Rattle.program_reader.specs.Fault.{first_fault}
 use Rattle.program_reader.specs.Program.{program_of}
 use Rattle.trace_input.specs.declared.input.InputFault.{InputFault}
 use Rattle.trace_input.specs.declared.input.InputFault.TheVariants.{Source, BadLine}
-use Rattle.trace_input.specs.declared.input.InputError.{InputError}
-use Rattle.trace_input.specs.declared.input.InputError.TheVariants.{Fault, NoMemory}
+use Rattle.or_no_memory.specs.declared.OrNoMemory.{OrNoMemory}
+use Rattle.or_no_memory.specs.Refusals.{Reports}
 use Rattle.trace_input.specs.declared.input.TraceInput.{TraceInput}
 use Rattle.trace_input.specs.Cut.{program_part, trace_lines, trace_number}
 
@@ -95,10 +95,6 @@ pub record IsInput (input : List ℕ) (t : TraceInput) : Type 0 where
 abbrev pub settings_for : SettingsValue → TraceInput → SettingsValue
 settings_for s t = record s { version = t.trace.version }
 
--- a reader fails at the first fault, or if out of memory
-abbrev pub FailsAt : Option InputFault → InputError → Type 0
-FailsAt fault (Fault f) = fault ≡ Some f
-FailsAt fault NoMemory = Unit {0}
-
-abbrev pub FailsTrace : Option ℕ → InputError → Type 0
-FailsTrace bad e = FailsAt (as_bad_line bad) e
+-- a trace that isn't read has its first bad line there
+abbrev pub FailsTrace : Option ℕ → OrNoMemory InputFault → Type 0
+FailsTrace bad e = Reports (as_bad_line bad) e

@@ -5,11 +5,13 @@ ghost use Rattle.text_lines.specs.Lines.{lines_of, most_bytes};
 ghost use Rattle.run_trace.specs.Trace.{AreTraceLines};
 ghost use Rattle.program_reader.specs.Program.{program_of};
 ghost use Rattle.trace_input.specs.Cut.{program_part, trace_lines};
-ghost use Rattle.trace_input.specs.Input.{IsInput, FailsAt, FailsTrace, input_fault, parts_fault, trace_bad};
+ghost use Rattle.or_no_memory.specs.Refusals.{Reports};
+ghost use Rattle.trace_input.specs.Input.{IsInput, FailsTrace, input_fault, parts_fault, trace_bad};
 
 use crate::cut::cut;
 use crate::newer::is_newer;
 use hh_lang::Program;
+use or_no_memory::OrNoMemory;
 use program_reader::{Cause, TextFault, read_program};
 use run_trace::{Trace, TraceError, Version, read_trace, read_version};
 use std::alloc::{AllocError, Global};
@@ -37,31 +39,11 @@ pub enum InputFault {
     BadLine(u32),
 }
 
-/// Why an input couldn't be read.
-#[derive(Clone, Copy)]
-pub enum InputError {
-    /// Its first fault.
-    Fault(InputFault),
-    /// Out of memory.
-    NoMemory,
-}
-
-impl From<AllocError> for InputError {
-    ghost use Rattle.std.specs.Prelude.{◌≡◌};
-    ghost use Rattle.trace_input.specs.declared.input.InputError.TheVariants.{NoMemory};
-
-    ghost from_gives = { λ _ e. e ≡ NoMemory };
-
-    fn from(_: AllocError) -> InputError {
-        InputError::NoMemory
-    }
-}
-
 // The answer at a bad line.
-fn bad_line_error(line: u32) -> InputError
-    ensures { result ≡ InputError.Fault (InputFault.BadLine line) }
+fn bad_line_error(line: u32) -> OrNoMemory<InputFault>
+    ensures { result ≡ OrNoMemory.Refused (InputFault.BadLine line) }
 {
-    InputError::Fault(InputFault::BadLine(line))
+    OrNoMemory::Refused(InputFault::BadLine(line))
 }
 
 // The number of lines of a text.
@@ -81,7 +63,12 @@ fn count_lines(text: &[u8]) -> u32
 }
 
 // Reads a trace for a program; n is the number of the trace line.
-fn read_for(alloc: Global, program: &Program, number: u32, text: &[u8]) -> Result<Trace, InputError>
+fn read_for(
+    alloc: Global,
+    program: &Program,
+    number: u32,
+    text: &[u8],
+) -> Result<Trace, OrNoMemory<InputFault>>
     requires sized { length text.now ≤ most_bytes }
     requires numbered { number ≤ most_bytes + 1 }
     ensures read { IfOk result (λ t. AreTraceLines (lines_of text.now) t × (trace_bad number program.now (lines_of text.now) ≡ None)) }
@@ -93,21 +80,21 @@ fn read_for(alloc: Global, program: &Program, number: u32, text: &[u8]) -> Resul
     }
     match read_trace(alloc, text, number) {
         Ok(trace) => Ok(trace),
-        Err(TraceError::NoMemory) => Err(InputError::NoMemory),
+        Err(TraceError::NoMemory) => Err(OrNoMemory::NoMemory),
         Err(TraceError::BadLine(line)) => Err(bad_line_error(line)),
     }
 }
 
 // Reads an input that isn't too long.
-fn read_parts(alloc: Global, input: &[u8]) -> Result<TraceInput, InputError>
+fn read_parts(alloc: Global, input: &[u8]) -> Result<TraceInput, OrNoMemory<InputFault>>
     requires { length input.now ≤ most_bytes }
     ensures read { IfOk result (λ t. (parts_fault input.now ≡ None) × (t.program ≡ program_of (program_part input.now)) × AreTraceLines (trace_lines (lines_of input.now)) t.trace) }
-    ensures fault { IfErr result (FailsAt (parts_fault input.now)) }
+    ensures fault { IfErr result (Reports (parts_fault input.now)) }
 {
     let (above, trace) = cut(input);
     let program = match read_program(alloc, above)? {
         Ok(program) => program,
-        Err(refused) => return Err(InputError::Fault(InputFault::Source(refused))),
+        Err(refused) => return Err(OrNoMemory::Refused(InputFault::Source(refused))),
     };
     match trace {
         None => Err(bad_line_error(count_lines(input))),
@@ -120,12 +107,12 @@ fn read_parts(alloc: Global, input: &[u8]) -> Result<TraceInput, InputError>
 
 /// Reads an input: the program before the first line whose first word is `trace`, and the trace from there on. A
 /// program with `freeze`, `cas` or a parallel loop has no trace of version 1: its trace line is then bad.
-pub fn read_trace_input(alloc: Global, input: &[u8]) -> Result<TraceInput, InputError>
+pub fn read_trace_input(alloc: Global, input: &[u8]) -> Result<TraceInput, OrNoMemory<InputFault>>
     ensures read { IfOk result (IsInput input.now) }
-    ensures fault { IfErr result (FailsAt (input_fault input.now)) }
+    ensures fault { IfErr result (Reports (input_fault input.now)) }
 {
     if input.len() > MOST_BYTES {
-        return Err(InputError::Fault(InputFault::Source(TOO_LONG)));
+        return Err(OrNoMemory::Refused(InputFault::Source(TOO_LONG)));
     }
     read_parts(alloc, input)
 }

@@ -7,4 +7,5 @@ mod input;
 mod newer;
 
 pub use cut::begins_trace;
-pub use input::{InputError, InputFault, TOO_LONG, TraceInput, read_trace_input};
+pub use input::{InputFault, TOO_LONG, TraceInput, read_trace_input};
+pub use or_no_memory::OrNoMemory;

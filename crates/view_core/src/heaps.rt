@@ -3,7 +3,7 @@
 ghost use Rattle.std.specs.Prelude.{IfOk};
 ghost use Rattle.view_core.specs.Shown.{ShowsHeaps};
 
-use heap_graph::{VerifyError, graph_text};
+use heap_graph::{OrNoMemory, graph_text};
 use refusal_replies::{AnswerStatus, Refusal, Reply, refused};
 use std::alloc::{AllocError, Global};
 
@@ -18,7 +18,7 @@ pub(crate) fn show_heaps(
 {
     match graph_text(alloc, path, limit, input) {
         Ok(graph) => Ok(Reply::of_bytes(AnswerStatus::Done, graph)),
-        Err(VerifyError::Refused(fault)) => refused(alloc, Refusal::Image(fault)),
-        Err(VerifyError::NoMemory) => Err(AllocError),
+        Err(OrNoMemory::Refused(fault)) => refused(alloc, Refusal::Image(fault)),
+        Err(OrNoMemory::NoMemory) => Err(AllocError),
     }
 }

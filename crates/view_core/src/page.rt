@@ -5,7 +5,7 @@ ghost use Rattle.refusal_replies.specs.below.whole_call.{Says};
 ghost use Rattle.view_core.specs.Page.{ShowsJournalPage, ShowsPage, ShowsPageOf, ShowsShortPage, most_entries, title_of, trace_too_long};
 
 use refusal_replies::{AnswerStatus, Refusal, Reply, refused};
-use run_page::{Entry, InputError, Program, Settings, TraceInput, page_of, read_trace_input};
+use run_page::{Entry, OrNoMemory, Program, Settings, TraceInput, page_of, read_trace_input};
 use std::alloc::{AllocError, Global};
 use task_table::ReplayError;
 use view_arguments::{InputFile, PageTitle};
@@ -102,8 +102,8 @@ fn show_titled(
 {
     match read_trace_input(alloc, input) {
         Ok(read) => show_page_of(alloc, title, settings, input, &read),
-        Err(InputError::Fault(fault)) => refused(alloc, Refusal::of_input(fault)),
-        Err(InputError::NoMemory) => Err(AllocError),
+        Err(OrNoMemory::Refused(fault)) => refused(alloc, Refusal::of_input(fault)),
+        Err(OrNoMemory::NoMemory) => Err(AllocError),
     }
 }
 

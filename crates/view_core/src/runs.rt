@@ -10,7 +10,7 @@ use crate::races::show_races;
 use crate::schedules::show_schedules;
 use refusal_replies::{AnswerStatus, Refusal, Reply, refused};
 use run_log::log_text;
-use run_page::{Entry, InputError, Program, Settings, TraceInput, read_trace_input};
+use run_page::{Entry, OrNoMemory, Program, Settings, TraceInput, read_trace_input};
 use std::alloc::{AllocError, Global};
 use task_table::{ReplayError, table_text, timeline_text};
 use view_arguments::RunView;
@@ -75,7 +75,7 @@ pub(crate) fn show_run(
 {
     match read_trace_input(alloc, input) {
         Ok(read) => show_trace(alloc, view, settings, input, &read),
-        Err(InputError::Fault(fault)) => refused(alloc, Refusal::of_input(fault)),
-        Err(InputError::NoMemory) => Err(AllocError),
+        Err(OrNoMemory::Refused(fault)) => refused(alloc, Refusal::of_input(fault)),
+        Err(OrNoMemory::NoMemory) => Err(AllocError),
     }
 }

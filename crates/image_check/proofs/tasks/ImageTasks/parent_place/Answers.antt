@@ -1,4 +1,4 @@
-use Rattle.image_check.proofs.Common.{◌≡◌, sym, subst, true, HasParent, IsParentAt}
+use Rattle.image_check.proofs.Common.{sym, subst, HasParent, IsParentAt}
 use Rattle.image_check.proofs.Linked.{parent_answer}
 use Rattle.image_check.proofs.tasks.ImageTasks.parent_place.Goals as goal
 
