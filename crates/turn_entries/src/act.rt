@@ -8,9 +8,9 @@ ghost use Rattle.turn_entries.specs.Parts.{BringsTo};
 ghost use Rattle.turn_entries.specs.Values.{MayEnter};
 
 use crate::between_turns::{Next, Ready};
+use crate::part_block::BlockSource;
 use crate::run::Run;
 use entry_calls::{EntryCalls, NotEntered, Owed};
-use std::alloc::Global;
 
 /// The outcome of a turn.
 #[derive(Drop)]
@@ -56,7 +56,7 @@ impl<P: EntryCalls + Drop> Run<P> {
     }
 
     // Makes the entry that comes next.
-    fn act_on(self, alloc: Global, worker: u32, ready: Ready) -> TurnOutcome<P>
+    fn act_on(self, blocks: &mut BlockSource, worker: u32, ready: Ready) -> TurnOutcome<P>
         requires room { 0 < (P.value self.paced).journal.room }
         requires worker { worker < (P.value self.paced).settings.workers }
         requires goes { (accounts (P.value self.paced)).end ≡ None }
@@ -68,12 +68,12 @@ impl<P: EntryCalls + Drop> Run<P> {
         self.paced.stands();
         match self.paced.refused_first(worker) {
             Some(_) => self.end_for_fuel(worker),
-            None => self.act_free(alloc, worker, ready),
+            None => self.act_free(blocks, worker, ready),
         }
     }
 
     // Makes the entry that comes next, if fuel is left.
-    fn act_free(self, alloc: Global, worker: u32, ready: Ready) -> TurnOutcome<P>
+    fn act_free(self, blocks: &mut BlockSource, worker: u32, ready: Ready) -> TurnOutcome<P>
         requires enter { MayEnter (P.value self.paced) worker (owed_by (P.value self.paced) worker) }
         requires worker { worker < (P.value self.paced).settings.workers }
         requires met { is_out_of_memory ready ≡ false }
@@ -81,7 +81,7 @@ impl<P: EntryCalls + Drop> Run<P> {
         ensures { ActsFor P.value (P.value self.paced) worker ready (owing_kind (P.value self.paced) (owed_by (P.value self.paced) worker) ready) result }
     {
         match self.paced.owed(worker) {
-            Owed::Nothing => self.enter(alloc, worker, ready),
+            Owed::Nothing => self.enter(blocks, worker, ready),
             Owed::Mark(task) => self.pay_mark(worker, ready, task),
             Owed::More(task) => self.pay_more(worker, ready, task),
             Owed::Sweep(task) => self.pay_sweep(worker, ready, task),
@@ -89,7 +89,7 @@ impl<P: EntryCalls + Drop> Run<P> {
     }
 
     // Reserves capacity for the entry, and makes it.
-    fn act_next(self, alloc: Global, worker: u32, ready: Ready) -> TurnOutcome<P>
+    fn act_next(self, blocks: &mut BlockSource, worker: u32, ready: Ready) -> TurnOutcome<P>
         requires worker { worker < (P.value self.paced).settings.workers }
         requires goes { (accounts (P.value self.paced)).end ≡ None }
         requires on { (P.value self.paced).halted ≡ false }
@@ -99,7 +99,7 @@ impl<P: EntryCalls + Drop> Run<P> {
     {
         let mut run = self;
         match run.paced.reserve() {
-            Ok(()) => run.act_on(alloc, worker, ready),
+            Ok(()) => run.act_on(blocks, worker, ready),
             Err(_) => {
                 drop(ready);
                 run.halted()
@@ -108,9 +108,9 @@ impl<P: EntryCalls + Drop> Run<P> {
     }
 
     /// What the worker does in its turn: if the run isn't over it ends it without fuel, or makes the entry that it
-    /// owes, or otherwise the one that it came for. It makes a block for the part of a task that it takes, and for the
-    /// new chunks of a collection that begins.
-    pub fn act(self, alloc: Global, worker: u32, ready: Ready) -> TurnOutcome<P>
+    /// owes, or otherwise the one that it came for. The part of a task that it takes, and the new chunks of a collection
+    /// that begins, get blocks.
+    pub fn act(self, blocks: &mut BlockSource, worker: u32, ready: Ready) -> TurnOutcome<P>
         requires worker { worker < (P.value self.paced).settings.workers }
         requires brings { BringsTo (P.value self.paced) worker ready }
         ensures { Acts P.value (P.value self.paced) worker ready result }
@@ -123,6 +123,6 @@ impl<P: EntryCalls + Drop> Run<P> {
             drop(ready);
             return self.halted();
         }
-        self.act_next(alloc, worker, ready)
+        self.act_next(blocks, worker, ready)
     }
 }

@@ -11,7 +11,7 @@ ghost use Rattle.turn_entries.specs.Values.{MayEnter};
 
 use crate::act::TurnOutcome;
 use crate::between_turns::{Collecting, Copied, Next};
-use crate::part_block::PartInBlock;
+use crate::part_block::{BlockSource, PartInBlock};
 use crate::run::Run;
 use entry_calls::{Addr, BoxedSlot, EntryCalls, Moved, Paused, ToChunks};
 use std::alloc::{AllocError, Global};
@@ -93,14 +93,14 @@ impl<P: EntryCalls + Drop> Run<P> {
     }
 
     // The collection of the part begins, given memory for what it takes along.
-    fn begin_leaf(self, alloc: Global, worker: u32, part: PartInBlock) -> TurnOutcome<P>
+    fn begin_leaf(self, blocks: &mut BlockSource, worker: u32, part: PartInBlock) -> TurnOutcome<P>
         requires enter { MayEnter (P.value self.paced) worker OwedOf.Nothing }
         requires paused { IsPaused (P.value self.paced) worker part Paused.Due }
         requires enough { is_pool_enough (P.value self.paced).settings (accounts (P.value self.paced)) part.task ≡ true }
         requires fresh { part.fresh ≡ 0 }
         ensures { ActsAnyhow P.value (P.value self.paced) worker (KindOf.Begin part.task) result }
     {
-        match CollectionBlocks::new(alloc) {
+        match CollectionBlocks::new(blocks.alloc()) {
             Ok(blocks) => self.begin_in(worker, part, blocks),
             Err(_) => self.halted(),
         }
@@ -124,14 +124,19 @@ impl<P: EntryCalls + Drop> Run<P> {
     }
 
     /// The due collection of the part begins, or is put off if too few chunks are free.
-    pub(crate) fn collect(self, alloc: Global, worker: u32, part: PartInBlock) -> TurnOutcome<P>
+    pub(crate) fn collect(
+        self,
+        blocks: &mut BlockSource,
+        worker: u32,
+        part: PartInBlock,
+    ) -> TurnOutcome<P>
         requires enter { MayEnter (P.value self.paced) worker OwedOf.Nothing }
         requires paused { IsPaused (P.value self.paced) worker part Paused.Due }
         requires fresh { part.fresh ≡ 0 }
         ensures { ActsAnyhow P.value (P.value self.paced) worker (due_kind (P.value self.paced) part.task) result }
     {
         if self.paced.pool_enough(part.get()) {
-            self.begin_leaf(alloc, worker, part)
+            self.begin_leaf(blocks, worker, part)
         } else {
             self.put_off_leaf(worker, part)
         }

@@ -15,6 +15,6 @@ pub use between_turns::{Collecting, Copied, Next, Ready};
 pub use entry_calls::{
     EntryCalls, PRIVATE_LIMIT, Paused, Private, Program, RunEnd, Settings, copy, run_local,
 };
-pub use part_block::{PartBlock, PartInBlock};
+pub use part_block::{BlockSource, PartBlock, PartInBlock};
 pub use run::{Run, Setup};
 pub use turn_lock::{Seat, Turn};

@@ -48,6 +48,38 @@ impl PartBlock {
     }
 }
 
+/// Where a worker's blocks come from: the allocator, and the block of the part that it gave up last.
+#[derive(Drop)]
+pub struct BlockSource {
+    alloc: Global,
+    spare: Option<PartBlock>,
+}
+
+impl BlockSource {
+    /// Nothing but the allocator.
+    pub fn new(alloc: Global) -> BlockSource {
+        BlockSource { alloc, spare: None }
+    }
+
+    /// The allocator.
+    pub(crate) fn alloc(&self) -> Global {
+        self.alloc
+    }
+
+    /// A block for a part.
+    pub(crate) fn take(&mut self) -> Result<PartBlock, AllocError> {
+        match self.spare.take() {
+            Some(block) => Ok(block),
+            None => PartBlock::new(self.alloc),
+        }
+    }
+
+    /// Keeps a block for the next part.
+    pub(crate) fn keep(&mut self, block: PartBlock) {
+        self.spare = Some(block);
+    }
+}
+
 impl PartInBlock {
     ghost use Rattle.std.specs.Prelude.{◌≡◌};
     ghost use Rattle.std.specs.Borrow.{sem};

@@ -10,10 +10,9 @@ ghost use Rattle.turn_entries.specs.Values.{MayEnter};
 
 use crate::act::TurnOutcome;
 use crate::between_turns::{Next, Ready};
-use crate::part_block::{PartBlock, PartInBlock};
+use crate::part_block::{BlockSource, PartBlock, PartInBlock};
 use crate::run::Run;
 use entry_calls::{EntryCalls, Leaving, Lent, Paused, Private, Ran};
-use std::alloc::Global;
 
 // How a worker goes on whose task has ended.
 fn after_end(resumed: Option<u32>) -> Next
@@ -39,23 +38,28 @@ impl<P: EntryCalls + Drop> Run<P> {
     }
 
     // The worker takes a task that it has found, given memory for a block.
-    fn take_task(self, alloc: Global, worker: u32, task: u32) -> TurnOutcome<P>
+    fn take_task(self, blocks: &mut BlockSource, worker: u32, task: u32) -> TurnOutcome<P>
         requires enter { MayEnter (P.value self.paced) worker OwedOf.Nothing }
         ensures { ActsAnyhow P.value (P.value self.paced) worker (KindOf.Took task) result }
     {
-        match PartBlock::new(alloc) {
+        match blocks.take() {
             Ok(block) => self.take_in(worker, task, block),
             Err(_) => self.halted(),
         }
     }
 
     // The worker takes the task that it has found, if it has.
-    fn enter_found(self, alloc: Global, worker: u32, found: Option<u32>) -> TurnOutcome<P>
+    fn enter_found(
+        self,
+        blocks: &mut BlockSource,
+        worker: u32,
+        found: Option<u32>,
+    ) -> TurnOutcome<P>
         requires enter { MayEnter (P.value self.paced) worker OwedOf.Nothing }
         ensures { ActsFor P.value (P.value self.paced) worker (Ready.Found found) (brought_kind (P.value self.paced) (Ready.Found found)) result }
     {
         match found {
-            Some(task) => self.take_task(alloc, worker, task),
+            Some(task) => self.take_task(blocks, worker, task),
             None => TurnOutcome::Same(self, Next::Waits),
         }
     }
@@ -94,21 +98,32 @@ impl<P: EntryCalls + Drop> Run<P> {
         }
     }
 
-    // Like `ran_in`, after the part is taken out of its block.
-    fn enter_leaving(self, worker: u32, part: PartInBlock, leaving: Leaving) -> TurnOutcome<P>
+    // Like `ran_in`, after the part is taken out of its block, which is kept for the next one.
+    fn enter_leaving(
+        self,
+        blocks: &mut BlockSource,
+        worker: u32,
+        part: PartInBlock,
+        leaving: Leaving,
+    ) -> TurnOutcome<P>
         requires enter { MayEnter (P.value self.paced) worker OwedOf.Nothing }
         requires paused { IsPaused (P.value self.paced) worker part Paused.Shared }
         requires leaves { LeavesBy (P.value self.paced) part leaving }
         ensures { ActsFor P.value (P.value self.paced) worker (Ready.Paused part Paused.Shared) (Some (KindOf.Ran part.task (part.fresh + 1))) result }
     {
         let (part, block) = part.take_out();
-        drop(block);
+        blocks.keep(block);
         self.ran_in(worker, part, leaving)
     }
 
     // Commits the fresh steps of the part with its next one, which isn't private. The part stays in its block, unless
     // that step gives it up.
-    fn enter_shared(self, worker: u32, part: PartInBlock) -> TurnOutcome<P>
+    fn enter_shared(
+        self,
+        blocks: &mut BlockSource,
+        worker: u32,
+        part: PartInBlock,
+    ) -> TurnOutcome<P>
         requires enter { MayEnter (P.value self.paced) worker OwedOf.Nothing }
         requires paused { IsPaused (P.value self.paced) worker part Paused.Shared }
         ensures { ActsFor P.value (P.value self.paced) worker (Ready.Paused part Paused.Shared) (Some (KindOf.Ran part.task (part.fresh + 1))) result }
@@ -119,7 +134,7 @@ impl<P: EntryCalls + Drop> Run<P> {
         match run.paced.ran_lent(worker, part.get_mut()) {
             Ok(Lent::Goes) => run.entered(Next::Running(part)),
             Ok(Lent::Over) => run.entered(Next::Stop),
-            Ok(Lent::Leaves(leaving)) => run.enter_leaving(worker, part, leaving),
+            Ok(Lent::Leaves(leaving)) => run.enter_leaving(blocks, worker, part, leaving),
             Err(cause) => run.out_of_memory(cause),
         }
     }
@@ -143,7 +158,7 @@ impl<P: EntryCalls + Drop> Run<P> {
     // The entry for which the part's steps have paused; its fresh steps come before a chunk or a collection.
     fn enter_part(
         self,
-        alloc: Global,
+        blocks: &mut BlockSource,
         worker: u32,
         part: PartInBlock,
         why: Paused,
@@ -153,13 +168,13 @@ impl<P: EntryCalls + Drop> Run<P> {
         ensures { ActsFor P.value (P.value self.paced) worker (Ready.Paused part why) (Some (paused_kind (P.value self.paced) part why)) result }
     {
         match why {
-            Paused::Shared => self.enter_shared(worker, part),
+            Paused::Shared => self.enter_shared(blocks, worker, part),
             Paused::Spent => self.enter_private(worker, part),
             Paused::Due => {
                 if part.fresh() > 0 {
                     return self.enter_private(worker, part);
                 }
-                self.collect(alloc, worker, part)
+                self.collect(blocks, worker, part)
             }
             Paused::NeedChunk => {
                 if part.fresh() > 0 {
@@ -171,7 +186,7 @@ impl<P: EntryCalls + Drop> Run<P> {
     }
 
     /// The entry for which the worker comes, if it owes none.
-    pub(crate) fn enter(self, alloc: Global, worker: u32, ready: Ready) -> TurnOutcome<P>
+    pub(crate) fn enter(self, blocks: &mut BlockSource, worker: u32, ready: Ready) -> TurnOutcome<P>
         requires enter { MayEnter (P.value self.paced) worker OwedOf.Nothing }
         requires met { is_out_of_memory ready ≡ false }
         requires brings { BringsTo (P.value self.paced) worker ready }
@@ -179,9 +194,9 @@ impl<P: EntryCalls + Drop> Run<P> {
     {
         self.paced.stands();
         match ready {
-            Ready::Paused(part, why) => self.enter_part(alloc, worker, part, why),
+            Ready::Paused(part, why) => self.enter_part(blocks, worker, part, why),
             Ready::Copied(copied) => self.end_leaf(worker, copied),
-            Ready::Found(found) => self.enter_found(alloc, worker, found),
+            Ready::Found(found) => self.enter_found(blocks, worker, found),
             Ready::OutOfMemory => unreachable!(),
         }
     }

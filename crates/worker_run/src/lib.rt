@@ -23,7 +23,7 @@ pub use parking::Parker;
 pub use run_context::RunContext;
 pub use turn::take_turn;
 pub use turn_entries::{
-    Collecting, Copied, EntryCalls, Next, Ready, Run, Setup, Turn, TurnOutcome,
+    BlockSource, Collecting, Copied, EntryCalls, Next, Ready, Run, Setup, Turn, TurnOutcome,
 };
 pub use worker_state::WorkerState;
 pub use workers::{all_work, close, opened, run_on_workers};

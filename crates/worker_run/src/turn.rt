@@ -9,7 +9,7 @@ use crate::run_context::RunContext;
 use crate::worker_state::WorkerState;
 use std::snapshot::Snapshot;
 use std::sync::Wait;
-use turn_entries::{EntryCalls, Next, Private, Ready, Run, Turn, TurnOutcome};
+use turn_entries::{BlockSource, EntryCalls, Next, Private, Ready, Run, Turn, TurnOutcome};
 
 // Gives the value back with the entry that was made; the worker keeps the part.
 fn give_entry<P: EntryCalls + Drop>(
@@ -76,6 +76,7 @@ pub fn take_turn<R: Wait, P: EntryCalls + Drop, G>(
     rt: &R,
     shop: &RunContext<P, G>,
     worker_state: &mut WorkerState<P>,
+    blocks: &mut BlockSource,
     ready: Ready,
 ) -> Next
     requires worker_state { IsWorkerState (identity shop.now.turn.now) shop.now.program.now worker_state.old }
@@ -86,7 +87,7 @@ pub fn take_turn<R: Wait, P: EntryCalls + Drop, G>(
     ensures turn { TakesTurn P.value worker_state.old worker_state.new ready result }
 {
     let run = shop.turn.take(rt, &mut worker_state.seat);
-    match run.act(worker_state.alloc, worker_state.worker, ready) {
+    match run.act(blocks, worker_state.worker, ready) {
         TurnOutcome::Entered(run, next) => give(shop.turn, worker_state, run, next),
         TurnOutcome::Same(run, next) => {
             shop.turn.release_unchanged(&mut worker_state.seat, run);

@@ -14,7 +14,7 @@ use crate::turn::take_turn;
 use crate::worker_state::WorkerState;
 use io_traits::{Gate, Point};
 use std::sync::Wait;
-use turn_entries::{EntryCalls, Next, Ready};
+use turn_entries::{BlockSource, EntryCalls, Next, Ready};
 
 // The worker looks for a task.
 fn look<R: Wait, P: EntryCalls>(rt: &R, parker: &Parker, worker_state: &mut WorkerState<P>) -> Ready
@@ -129,6 +129,7 @@ pub fn work<R: Wait, P: EntryCalls + Drop, G: Gate>(
     ensures rounds { GoesRound P.value shop.now.program.now worker_state.old Next.Idle worker_state.new Next.Stop }
     ensures over { HasStopped P.value worker_state.new }
 {
+    let mut blocks = BlockSource::new(worker_state.alloc);
     let mut next = Next::Idle;
     for _ in rt.forever() {
         let Some(ready) = prepare(rt, shop, worker_state, next) else {
@@ -136,7 +137,7 @@ pub fn work<R: Wait, P: EntryCalls + Drop, G: Gate>(
         };
         let task = task_of(&ready);
         shop.gate.pass(worker_state.worker, task, Point::BeforeTurn);
-        next = take_turn(rt, shop, worker_state, ready);
+        next = take_turn(rt, shop, worker_state, &mut blocks, ready);
         shop.gate.pass(worker_state.worker, task, Point::AfterTurn);
     }
     unreachable!()

@@ -15,7 +15,8 @@ use std::alloc::Global;
 use std::sync::Wait;
 use trace_input::read_trace_input;
 use worker_run::{
-    Next, Parker, Ready, Run, RunContext, Turn, WorkerState, opened, prepare, take_turn,
+    BlockSource, Next, Parker, Ready, Run, RunContext, Turn, WorkerState, opened, prepare,
+    take_turn,
 };
 
 const COLLECTS: &str =
@@ -74,7 +75,10 @@ fn goes_on<R: Wait>(
     ensures goes { GoesWith shop.now.program.now worker_state.new.worker (view worker_state.new.seat).part result }
 {
     match makes_ready(rt, shop, other, worker_state, next) {
-        Some(ready) => take_turn(rt, shop, worker_state, ready),
+        Some(ready) => {
+            let mut blocks = BlockSource::new(worker_state.alloc);
+            take_turn(rt, shop, worker_state, &mut blocks, ready)
+        }
         None => Next::Stop,
     }
 }
