@@ -61,9 +61,9 @@ pub enum Next {
     Copied(Copied),
     /// It takes this task, which it has found.
     Found(u32),
-    /// It puts these two tasks on its deque, the left one on top.
+    /// It puts the right one of these tasks on its deque, and takes the left one.
     Forked { left: u32, right: u32 },
-    /// It puts this task on its deque.
+    /// It takes this task, which runs again.
     Resumed(u32),
     /// It looks for a task.
     Idle,

@@ -49,7 +49,7 @@ pub use Rattle.turn_entries.specs.declared.run.Run.{Run}
 pub use Rattle.turn_entries.specs.declared.run.Setup.{Setup}
 pub use Rattle.worker_run.specs.Outcomes.{IsRunOf, WasGivenBack, finish_of}
 pub use Rattle.worker_run.specs.Rounds.{GoesRound, MakesRound, AllGoRound}
-pub use Rattle.worker_run.specs.Tasks.{Finds, HaveRoot, Looks, Puts, PutsBoth, PutsFewer, Shares, SharesBoth, TriedBefore, after_it, Prepares}
+pub use Rattle.worker_run.specs.Tasks.{Finds, HaveRoot, Looks, Puts, SharesRight, TriedBefore, after_it, Prepares}
 pub use Rattle.worker_run.specs.WorkerStates.{AreHands, HasEntry, IsWorkerState, DoesOnce, HasStopped, TakesTurn, AreAllWorkerStates, AreNewWorkerStates, AreOpened, HasOfEach, HaveSeen, HaveStopped, SameWorkerState, entries_of}
 pub use Rattle.worker_run.specs.declared.end.Finish.{Finish}
 pub use Rattle.worker_run.specs.declared.worker_state.WorkerState.{WorkerState}

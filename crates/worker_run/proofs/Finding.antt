@@ -1,5 +1,5 @@
 -- How a worker's hand finds and puts tasks.
-use Rattle.worker_run.proofs.Common.{◌≡◌, ◌≢◌, ◌⊎◌, inl, inr, ℕ, zero, suc, ◌+◌, ◌-◌, ◌*◌, ◌/◌, ◌%◌, ◌<◌, ◌≤◌, List, [], ◌∷◌, length, slice_get, slice_index_or, slice_set, get_or, refl, sym, ap, ◌∙◌, subst, arith, Option, Some, None, Snapshot, mul-le-mul_left, cases_order, slice_get_within, slice_get-get_or, ProgramText, Private, Hand, Theft, AreNewHands, ChangesAt, KeepsOwn, SameHand, TookNone, empty_pops, thefts, SameTheft, StoleNone, Ready, Paused as HasPaused, Copied as IsCopied, Found, OutOfMemory, ComesWith, AreHands, Finds, HaveRoot, Looks, Puts, PutsBoth, PutsFewer, Shares, SharesBoth, TriedBefore, after_it}
+use Rattle.worker_run.proofs.Common.{◌≡◌, ◌≢◌, ◌⊎◌, inl, inr, ℕ, zero, suc, ◌+◌, ◌-◌, ◌*◌, ◌/◌, ◌%◌, ◌<◌, ◌≤◌, List, [], ◌∷◌, length, slice_get, slice_index_or, slice_set, get_or, refl, sym, ap, ◌∙◌, subst, arith, Option, Some, None, Snapshot, mul-le-mul_left, cases_order, slice_get_within, slice_get-get_or, ProgramText, Private, Hand, Theft, AreNewHands, ChangesAt, KeepsOwn, SameHand, TookNone, empty_pops, thefts, SameTheft, StoleNone, Ready, Paused as HasPaused, Copied as IsCopied, Found, OutOfMemory, ComesWith, AreHands, Finds, HaveRoot, Looks, Puts, SharesRight, TriedBefore, after_it}
 
 -- ---- GOING ROUND
 
@@ -68,42 +68,17 @@ finds_same k a b (Some task) (inl f) = f.same
 finds_same k a b (Some task) (inr s) = s.same
 finds_same k a b None f = f.same
 
-pub both_same : (a b : Hand) (left right : ℕ) → PutsBoth a b left right → length (thefts b) ≡ length (thefts a)
-both_same a b left right P = P.2.same.workers ∙ P.1.same.workers
-
-pub fewer_same : (a b : Hand) (right : ℕ) → PutsFewer a b right → length (thefts b) ≡ length (thefts a)
-fewer_same a b right (inl K) = K.same.workers
-fewer_same a b right (inr P) = P.2.same.workers ∙ P.1.same.workers
-
-pub looks_then_both : (k left right : ℕ) (a b c : Hand) (ready : Ready) → PutsBoth a b left right → Looks k b c ready → SharesBoth k left right a c ready
-looks_then_both k left right a b c (HasPaused part why) P h = absurd h
-looks_then_both k left right a b c (IsCopied d) P h = absurd h
-looks_then_both k left right a b c (Found o) P h = (b, P, h)
-looks_then_both k left right a b c OutOfMemory P h = absurd h
-
-pub looks_then : (k task : ℕ) (a b c : Hand) (ready : Ready) → Puts a b task → Looks k b c ready → Shares k task a c ready
-looks_then k task a b c (HasPaused part why) P h = absurd h
-looks_then k task a b c (IsCopied d) P h = absurd h
-looks_then k task a b c (Found o) P h = (b, P, h)
-looks_then k task a b c OutOfMemory P h = absurd h
-
 pub comes_looking : (p : ProgramText) (k : ℕ) (kept : Option (Snapshot Private)) (a b : Hand) (ready : Ready) → Looks k a b ready → ComesWith p k kept ready
 comes_looking p k kept a b (HasPaused part why) h = absurd h
 comes_looking p k kept a b (IsCopied c) h = absurd h
 comes_looking p k kept a b (Found o) h = tt
 comes_looking p k kept a b OutOfMemory h = absurd h
 
-pub comes_sharing_both : (p : ProgramText) (k left right : ℕ) (kept : Option (Snapshot Private)) (a b : Hand) (ready : Ready) → SharesBoth k left right a b ready → ComesWith p k kept ready
-comes_sharing_both p k left right kept a b (HasPaused part why) h = absurd h
-comes_sharing_both p k left right kept a b (IsCopied c) h = absurd h
-comes_sharing_both p k left right kept a b (Found o) h = tt
-comes_sharing_both p k left right kept a b OutOfMemory h = tt
-
-pub comes_sharing : (p : ProgramText) (k task : ℕ) (kept : Option (Snapshot Private)) (a b : Hand) (ready : Ready) → Shares k task a b ready → ComesWith p k kept ready
-comes_sharing p k task kept a b (HasPaused part why) h = absurd h
-comes_sharing p k task kept a b (IsCopied c) h = absurd h
-comes_sharing p k task kept a b (Found o) h = tt
-comes_sharing p k task kept a b OutOfMemory h = tt
+pub comes_sharing : (p : ProgramText) (k left right : ℕ) (kept : Option (Snapshot Private)) (a b : Hand) (ready : Ready) → SharesRight left right a b ready → ComesWith p k kept ready
+comes_sharing p k left right kept a b (HasPaused part why) h = absurd h
+comes_sharing p k left right kept a b (IsCopied c) h = absurd h
+comes_sharing p k left right kept a b (Found o) h = tt
+comes_sharing p k left right kept a b OutOfMemory h = tt
 
 -- ---- THE FIRST HANDS
 

@@ -20,14 +20,6 @@ pub record Puts (old new : Hand) (task : ℕ) : Type 0 where
   pub counted : empty_pops new ≡ empty_pops old
   pub thieves : thefts new ≡ thefts old
 
--- the right child was put, and then the left one on top
-abbrev pub PutsBoth : Hand → Hand → ℕ → ℕ → Type 0
-PutsBoth old new left right = (between : Hand) × Puts old between right × Puts between new left
-
--- an allocation failed for the first, or for the second
-abbrev pub PutsFewer : Hand → Hand → ℕ → Type 0
-PutsFewer old new right = KeepsHand old new ⊎ ((between : Hand) × Puts old between right × KeepsHand between new)
-
 -- the hands of n workers: new ones, which reach each other's deques, and the first has put the root
 pub record HaveRoot (n : ℕ) (hands : List Hand) : Type 0 where
   pub count : length hands ≡ n
@@ -87,19 +79,12 @@ Looks k old new (IsCopied c) = ⊥
 Looks k old new (Found o) = Finds k old new o
 Looks k old new OutOfMemory = ⊥
 
--- it has put both children of its fork, and looked; or an allocation has failed
-abbrev pub SharesBoth : ℕ → ℕ → ℕ → Hand → Hand → Ready → Type 0
-SharesBoth k left right old new (HasPaused part why) = ⊥
-SharesBoth k left right old new (IsCopied c) = ⊥
-SharesBoth k left right old new (Found o) = (between : Hand) × PutsBoth old between left right × Finds k between new o
-SharesBoth k left right old new OutOfMemory = PutsFewer old new right
-
--- it has put the task that runs again, and looked; or an allocation has failed
-abbrev pub Shares : ℕ → ℕ → Hand → Hand → Ready → Type 0
-Shares k task old new (HasPaused part why) = ⊥
-Shares k task old new (IsCopied c) = ⊥
-Shares k task old new (Found o) = (between : Hand) × Puts old between task × Finds k between new o
-Shares k task old new OutOfMemory = KeepsHand old new
+-- it has put the right child of its fork, and goes on with the left one; or an allocation has failed
+abbrev pub SharesRight : ℕ → ℕ → Hand → Hand → Ready → Type 0
+SharesRight left right old new (HasPaused part why) = ⊥
+SharesRight left right old new (IsCopied c) = ⊥
+SharesRight left right old new (Found o) = (o ≡ Some left) × Puts old new right
+SharesRight left right old new OutOfMemory = KeepsHand old new
 
 -- the heap of the part was copied
 abbrev pub CopiesTo : ProgramText → ℕ → Collecting → Ready → Type 0
@@ -108,15 +93,14 @@ CopiesTo p k c (IsCopied d) = (d.begun.value ≡ c.part) × WasCopied p k d
 CopiesTo p k c (Found o) = ⊥
 CopiesTo p k c OutOfMemory = ⊥
 
--- WHAT A WORKER BRINGS: a part has taken steps of its own, or its heap was copied; a task is at hand, was put, or was
--- found
+-- WHAT A WORKER BRINGS: a part has taken steps of its own, or its heap was copied; a task is at hand, or was found
 abbrev pub Prepares : ProgramText → ℕ → Next → Hand → Hand → Ready → Type 0
 Prepares p k (Running part) old new ready = (new ≡ old) × GrowsTo p k part ready
 Prepares p k (Collects c) old new ready = (new ≡ old) × CopiesTo p k c ready
 Prepares p k (HasCopied c) old new ready = (new ≡ old) × (ready ≡ IsCopied c)
 Prepares p k (GoesFor task) old new ready = (new ≡ old) × (ready ≡ Found (Some task))
-Prepares p k (Forked left right) old new ready = SharesBoth k left right old new ready
-Prepares p k (Resumed task) old new ready = Shares k task old new ready
+Prepares p k (Forked left right) old new ready = SharesRight left right old new ready
+Prepares p k (Resumed task) old new ready = (new ≡ old) × (ready ≡ Found (Some task))
 Prepares p k Idle old new ready = Looks k old new ready
 Prepares p k Waits old new ready = Looks k old new ready
 Prepares p k Stop old new ready = ⊥

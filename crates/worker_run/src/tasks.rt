@@ -1,21 +1,30 @@
 //! How a worker finds a task, and where it puts those that are ready.
 ghost use Rattle.std.specs.Prelude.{◌<◌, ◌^◌, length, IfErr, OnOk};
 ghost use Rattle.steal_scheduler.specs.Hands.{thefts};
-ghost use Rattle.worker_run.specs.Tasks.{Finds, KeepsHand, Puts, PutsBoth, PutsFewer};
+ghost use Rattle.worker_run.specs.Tasks.{Finds, KeepsHand, Puts};
 
+use crate::parking::Parker;
 use std::alloc::AllocError;
 use std::sync::Wait;
 use steal_scheduler::Hand;
 
 /// The newest own task; otherwise one stolen from the others, which are tried in ascending order of their numbers from
-/// the own one on, cyclically.
-pub(crate) fn find<R: Wait>(rt: &R, hand: &mut Hand, worker: u32) -> Option<u32>
+/// the own one on, cyclically. Before these are tried, the signals so far are counted in `heard`: nobody else puts a
+/// task where the own ones are.
+pub(crate) fn find<R: Wait>(
+    rt: &R,
+    parker: &Parker,
+    hand: &mut Hand,
+    heard: &mut u64,
+    worker: u32,
+) -> Option<u32>
     requires { length (thefts hand.old) < 2 ^ 32 }
     ensures { Finds worker hand.old hand.new result }
 {
     if let Some(task) = hand.next_own() {
         return Some(task);
     }
+    *heard = parker.rings(rt);
     let workers = hand.workers() as u64;
     for k in 1..workers {
         let victim = (u64::from(worker) + k) % workers;
@@ -33,14 +42,4 @@ pub(crate) fn put(hand: &mut Hand, task: u32) -> Result<(), AllocError>
 {
     hand.put(task)?;
     Ok(())
-}
-
-/// Puts both children of a fork on the own deque, the left one on top. If an allocation fails the right one may have
-/// been put.
-pub(crate) fn put_both(hand: &mut Hand, left: u32, right: u32) -> Result<(), AllocError>
-    ensures ok { OnOk result (PutsBoth hand.old hand.new left right) }
-    ensures err { IfErr result (λ _. PutsFewer hand.old hand.new right) }
-{
-    put(hand, right)?;
-    put(hand, left)
 }

@@ -15,7 +15,7 @@ pub struct WorkerState<P: EntryCalls> {
     pub settings: Settings,
     /// How many entries it gave back.
     pub given: u64,
-    /// How many signals the worker had seen when it last looked for a task.
+    /// How many signals the worker had seen when it last looked for a task of others.
     pub heard: u64,
     /// Padding: it keeps the counts of two workers from sharing a cache line.
     pub apart: [u64; 16],

@@ -4,12 +4,12 @@ ghost use Rattle.turn_entries.specs.below.turn_lock.{view, identity};
 ghost use Rattle.turn_entries.specs.Parts.{ComesWith, GoesWith};
 ghost use Rattle.worker_run.specs.WorkerStates.{ChangesHand, FewThefts, HasStopped, IsWorkerState, SameWorkerState};
 ghost use Rattle.worker_run.specs.Rounds.{GoesRound};
-ghost use Rattle.worker_run.specs.Tasks.{Looks, Prepares, Shares, SharesBoth};
+ghost use Rattle.worker_run.specs.Tasks.{Looks, Prepares, SharesRight};
 
 use crate::local::{copy_part, run_part};
 use crate::parking::Parker;
 use crate::run_context::RunContext;
-use crate::tasks::{find, put, put_both};
+use crate::tasks::{find, put};
 use crate::turn::take_turn;
 use crate::worker_state::WorkerState;
 use io_traits::{Gate, Point};
@@ -22,44 +22,31 @@ fn look<R: Wait, P: EntryCalls>(rt: &R, parker: &Parker, worker_state: &mut Work
     ensures hand { ChangesHand worker_state.old worker_state.new }
     ensures found { Looks worker_state.old.worker worker_state.old.hand worker_state.new.hand result }
 {
-    worker_state.heard = parker.rings(rt);
-    Ready::Found(find(rt, &mut worker_state.hand, worker_state.worker))
+    Ready::Found(find(
+        rt,
+        parker,
+        &mut worker_state.hand,
+        &mut worker_state.heard,
+        worker_state.worker,
+    ))
 }
 
-// The worker puts both children of a fork where others find them, and looks for a task. Others may take one of the two.
-fn share_both<R: Wait, P: EntryCalls>(
+// The worker puts the right child of a fork where others find it, and goes on with the left one.
+fn share_right<R: Wait, P: EntryCalls>(
     rt: &R,
     parker: &Parker,
     worker_state: &mut WorkerState<P>,
     left: u32,
     right: u32,
 ) -> Ready
-    requires { FewThefts worker_state.old }
     ensures hand { ChangesHand worker_state.old worker_state.new }
-    ensures shared { SharesBoth worker_state.old.worker left right worker_state.old.hand worker_state.new.hand result }
+    ensures shared { SharesRight left right worker_state.old.hand worker_state.new.hand result }
 {
-    match put_both(&mut worker_state.hand, left, right) {
+    match put(&mut worker_state.hand, right) {
         Ok(()) => {
             parker.ring_once(rt);
-            look(rt, parker, worker_state)
+            Ready::Found(Some(left))
         }
-        Err(_) => Ready::OutOfMemory,
-    }
-}
-
-// The worker puts a task that runs again where others find it, and looks for one.
-fn share<R: Wait, P: EntryCalls>(
-    rt: &R,
-    parker: &Parker,
-    worker_state: &mut WorkerState<P>,
-    task: u32,
-) -> Ready
-    requires { FewThefts worker_state.old }
-    ensures hand { ChangesHand worker_state.old worker_state.new }
-    ensures shared { Shares worker_state.old.worker task worker_state.old.hand worker_state.new.hand result }
-{
-    match put(&mut worker_state.hand, task) {
-        Ok(()) => look(rt, parker, worker_state),
         Err(_) => Ready::OutOfMemory,
     }
 }
@@ -87,14 +74,14 @@ pub fn prepare<R: Wait, P: EntryCalls, G: Gate>(
         ))),
         Next::Copied(copied) => Some(Ready::Copied(copied)),
         Next::Found(task) => Some(Ready::Found(Some(task))),
-        Next::Forked { left, right } => Some(share_both(
+        Next::Forked { left, right } => Some(share_right(
             rt,
             shop.parker,
             worker_state,
             left,
             right,
         )),
-        Next::Resumed(task) => Some(share(rt, shop.parker, worker_state, task)),
+        Next::Resumed(task) => Some(Ready::Found(Some(task))),
         Next::Idle => Some(look(rt, shop.parker, worker_state)),
         Next::Waits => {
             shop.parker.wait_past(rt, worker_state.heard);

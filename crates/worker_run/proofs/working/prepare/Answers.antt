@@ -1,5 +1,5 @@
 use Rattle.worker_run.proofs.Common.{sym, subst, refl, view, Next, Copied as IsCopied, Prepares}
-use Rattle.worker_run.proofs.Finding.{comes_looking, comes_sharing, comes_sharing_both}
+use Rattle.worker_run.proofs.Finding.{comes_looking, comes_sharing}
 use Rattle.worker_run.proofs.Giving.{comes_copied}
 use Rattle.worker_run.proofs.working.prepare.Goals as goal
 
@@ -14,11 +14,7 @@ returns-in-Collecting-clause-tasks g c =
 
 pub returns-in-Forked-clause-comes : goal.returns-in-Forked-clause-comes
 returns-in-Forked-clause-comes g c =
-    comes_sharing_both c.args.shop.now.program.now c.args.worker_state.now.worker c.in-Forked.left c.in-Forked.right (view c.args.worker_state.now.seat).part c.args.worker_state.now.hand c.share_both.new.worker_state.hand c.share_both.result c.share_both.ensures.shared
-
-pub returns-in-Resumed-clause-comes : goal.returns-in-Resumed-clause-comes
-returns-in-Resumed-clause-comes g c =
-    comes_sharing c.args.shop.now.program.now c.args.worker_state.now.worker c.in-Resumed.task (view c.args.worker_state.now.seat).part c.args.worker_state.now.hand c.share.new.worker_state.hand c.share.result c.share.ensures.shared
+    comes_sharing c.args.shop.now.program.now c.args.worker_state.now.worker c.in-Forked.left c.in-Forked.right (view c.args.worker_state.now.seat).part c.args.worker_state.now.hand c.share_right.new.worker_state.hand c.share_right.result c.share_right.ensures.shared
 
 pub returns-in-Idle-clause-comes : goal.returns-in-Idle-clause-comes
 returns-in-Idle-clause-comes g c =
