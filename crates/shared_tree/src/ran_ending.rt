@@ -96,19 +96,14 @@ impl Shared {
         requires room { 0 < self.old.journal.room }
         requires fits { WorkerPartFits self.old worker part }
         requires ends { IsAtEnd self.old part }
-        ensures refused { RanAnswers result (refused self.old (alone_entry worker part)) }
+        requires free { refused self.old (alone_entry worker part) ≡ None }
+        ensures refused { RanAnswers result None }
         ensures same { IfErr result (λ e. IsUnchanged e.cause self.old self.new) }
         ensures still { OnErr result (EachPartStillFits self.old self.new) }
         ensures back { IfErr result (λ e. e.part ≡ part) }
         ensures answered { IfOk result (EndsChild self.old self.new worker part) }
         ensures task_out { OnOk result (self.new.tasks_out ≡ slice_set self.old.tasks_out worker None) }
     {
-        if let Some(cause) = self.alone_refused(worker, &part) {
-            return Err(NotRan {
-                cause: NotEntered::Refuses(cause),
-                part,
-            });
-        }
         self.stands();
         if !is_ended(self.tree.state(sibling_of(part.task))) {
             return self.ran_first(worker, part);

@@ -98,18 +98,13 @@ impl Shared {
         requires room { 0 < self.old.journal.room }
         requires fits { WorkerPartFits self.old worker part }
         requires forks { IsAtFork self.old part }
-        ensures refused { RanAnswers result (refused self.old (alone_entry worker part)) }
+        requires free { refused self.old (alone_entry worker part) ≡ None }
+        ensures refused { RanAnswers result None }
         ensures same { OnErr result (self.new ≡ self.old) }
         ensures back { IfErr result (λ e. e.part ≡ part) }
         ensures answered { IfOk result (ForkAnswered self.old self.new worker part) }
         ensures task_out { IfOk result (GivesTaskUp self.old.tasks_out self.new.tasks_out worker) }
     {
-        if let Some(cause) = self.alone_refused(worker, &part) {
-            return Err(NotRan {
-                cause: NotEntered::Refuses(cause),
-                part,
-            });
-        }
         self.stands();
         let (left, right, line) = self.fork_line(&part);
         if self.tree.depth(part.task) < DEPTH_LIMIT {

@@ -19,9 +19,7 @@ pub unreachable-requires : goal.unreachable-requires
 unreachable-requires c =
     let w : SharedValue = c.args.self.now in
     let p : Private = c.args.part in
-    let k : ℕ = c.args.worker in
-    let free : refused w (alone_entry k p) ≡ None = sym c.alone_refused.ensures ∙ c.in_default.is in
-    none_some (sym c.in_default-parent.is ∙ (c.parent.ensures ∙ (ap (λ (z : SharedValue). parent_of z.tree p.task) c.self.view_is ∙ tree_parent (record { I = c.stands.ensures; F = c.requires.fits; at_end = c.requires.ends; free = free }))))
+    none_some (sym c.in_default-parent.is ∙ (c.parent.ensures ∙ (ap (λ (z : SharedValue). parent_of z.tree p.task) c.self.view_is ∙ tree_parent (record { I = c.stands.ensures; F = c.requires.fits; at_end = c.requires.ends; free = c.requires.free }))))
 
 pub enter_join-requires-clause-fits : goal.enter_join-requires-clause-fits
 enter_join-requires-clause-fits c =
@@ -40,9 +38,7 @@ pub enter_join-requires-clause-free : goal.enter_join-requires-clause-free
 enter_join-requires-clause-free c =
     let w : SharedValue = c.args.self.now in
     let p : Private = c.args.part in
-    let k : ℕ = c.args.worker in
-    let free : refused w (alone_entry k p) ≡ None = sym c.alone_refused.ensures ∙ c.in_default.is in
-    places_same w c.make_join_places.new.self c.make_join_places.ensures.same (λ z. refused z (alone_entry k p) ≡ None) (λ hs ss g. g) free
+    places_same w c.make_join_places.new.self c.make_join_places.ensures.same (λ z. refused z (alone_entry c.args.worker p) ≡ None) (λ hs ss g. g) c.requires.free
 
 pub returns-in-Ok-clause-answered : goal.returns-in-Ok-clause-answered
 returns-in-Ok-clause-answered c =
@@ -67,14 +63,11 @@ not_yes e = cc
 state_is : {f g : ℕ → Option TaskState} {o : Option TaskState} {t u : ℕ} → o ≡ f t → f ≡ g → t ≡ u → o ≡ g u
 state_is {f = f} {u = u} e same at = e ∙ (ap f at ∙ ap (λ (h : ℕ → Option TaskState). h u) same)
 
-pub returns-in-Some-clause-refused : goal.returns-in-Some-clause-refused
-returns-in-Some-clause-refused c = sym c.alone_refused.ensures ∙ c.in-Some.is
-
 pub ran_first-requires-clause-alone : goal.ran_first-requires-clause-alone
 ran_first-requires-clause-alone c = λ e. not_yes (c.if-not-is_ended.ensures.1 (state_is c.state.ensures (ap (λ (z : SharedValue). state_of z.tree) c.self.view_is) c.sibling_of.ensures ∙ e))
 
 pub make_join_places-requires-clause-out : goal.make_join_places-requires-clause-out
-make_join_places-requires-clause-out c = record { worker = c.args.worker; fits = c.requires.fits; free = sym c.alone_refused.ensures ∙ c.in_default.is }
+make_join_places-requires-clause-out c = record { worker = c.args.worker; fits = c.requires.fits; free = c.requires.free }
 
 pub make_join_places-requires-clause-ended : goal.make_join_places-requires-clause-ended
 make_join_places-requires-clause-ended c = sym (state_is c.state.ensures (ap (λ (z : SharedValue). state_of z.tree) c.self.view_is) c.sibling_of.ensures) ∙ c.if-not-is_ended.ensures.0 refl
@@ -97,15 +90,6 @@ enter_join-requires-clause-room c = subst (λ (z : SharedValue). 0 < z.journal.r
 pub returns-in-Err-clause-same : goal.returns-in-Err-clause-same
 returns-in-Err-clause-same c = c.make_join_places.ensures.same
 
-pub returns-in-Err-clause-refused : goal.returns-in-Err-clause-refused
-returns-in-Err-clause-refused c = sym c.alone_refused.ensures ∙ c.in_default.is
-
-pub returns-in-Ok-clause-refused : goal.returns-in-Ok-clause-refused
-returns-in-Ok-clause-refused c = sym c.alone_refused.ensures ∙ c.in_default.is
-
-pub returns-then-not-is_ended-clause-refused : goal.returns-then-not-is_ended-clause-refused
-returns-then-not-is_ended-clause-refused c = subst (RanAnswers c.ran_first.result) (sym (sym c.alone_refused.ensures ∙ c.in_default.is)) c.ran_first.ensures.refused
-
 pub returns-then-not-is_ended-clause-same : goal.returns-then-not-is_ended-clause-same
 returns-then-not-is_ended-clause-same c = unchanged c.args.self.now c.ran_first.new.self c.ran_first.result c.ran_first.ensures.memory c.ran_first.ensures.same
 
@@ -121,24 +105,17 @@ returns-then-not-is_ended-clause-answered c = c.ran_first.ensures.answered
 pub returns-then-not-is_ended-clause-task_out : goal.returns-then-not-is_ended-clause-task_out
 returns-then-not-is_ended-clause-task_out c = c.ran_first.ensures.task_out
 
-pub alone_refused-requires-clause-shared : goal.alone_refused-requires-clause-shared
-alone_refused-requires-clause-shared c = end_shared c.args.self.now c.args.part c.requires.ends
-
 pub sibling_of-requires-clause-child : goal.sibling_of-requires-clause-child
 sibling_of-requires-clause-child c =
     let w : SharedValue = c.args.self.now in
     let p : Private = c.args.part in
-    let k : ℕ = c.args.worker in
-    let free : refused w (alone_entry k p) ≡ None = sym c.alone_refused.ensures ∙ c.in_default.is in
-    let low = parent_low (record { I = c.stands.ensures; F = c.requires.fits; at_end = c.requires.ends; free = free }) in
+    let low = parent_low (record { I = c.stands.ensures; F = c.requires.fits; at_end = c.requires.ends; free = c.requires.free }) in
     omega (arith, low)
 
 pub sibling_of-requires-clause-few : goal.sibling_of-requires-clause-few
 sibling_of-requires-clause-few c =
     let w : SharedValue = c.args.self.now in
     let p : Private = c.args.part in
-    let k : ℕ = c.args.worker in
-    let free : refused w (alone_entry k p) ≡ None = sym c.alone_refused.ensures ∙ c.in_default.is in
     let few = few_tasks w c.stands.ensures in
-    let made = own_made (record { I = c.stands.ensures; F = c.requires.fits; at_end = c.requires.ends; free = free }) in
+    let made = own_made (record { I = c.stands.ensures; F = c.requires.fits; at_end = c.requires.ends; free = c.requires.free }) in
     omega (arith, few, made)

@@ -5,31 +5,21 @@ pub depth-requires : goal.depth-requires
 depth-requires c =
     let w : SharedValue = c.args.self.now in
     let p : Private = c.args.part in
-    let k : ℕ = c.args.worker in
-    let free : refused w (alone_entry k p) ≡ None = sym c.alone_refused.ensures ∙ c.in_default.is in
-    subst (λ (z : SharedValue). p.task < length z.tree) (sym c.self.view_is) (node_there (record { I = c.stands.ensures; F = c.requires.fits; shared = (fork_shared w p c.requires.forks); free = free }))
+    subst (λ (z : SharedValue). p.task < length z.tree) (sym c.self.view_is) (node_there (record { I = c.stands.ensures; F = c.requires.fits; shared = (fork_shared w p c.requires.forks); free = c.requires.free }))
 
 pub enter_halt-requires-clause-ends : goal.enter_halt-requires-clause-ends
 enter_halt-requires-clause-ends c =
     let w : SharedValue = c.args.self.now in
     let p : Private = c.args.part in
-    let k : ℕ = c.args.worker in
-    let free : refused w (alone_entry k p) ≡ None = sym c.alone_refused.ensures ∙ c.in_default.is in
     let deep : 1000 ≤ depth_of w.tree p.task = subst (λ (z : SharedValue). 1000 ≤ depth_of z.tree p.task) c.self.view_is (subst (λ n. 1000 ≤ n) c.depth.ensures c.if-depth-lt-DEPTH_LIMIT.false) in
     let line = c.fork_line-left.result in
-    trap_is w p Depth line.2 (deep_traps (record { I = c.stands.ensures; F = c.requires.fits; at_fork = c.requires.forks; free = free }) line.0 line.1 line.2 c.fork_line-left.ensures deep)
+    trap_is w p Depth line.2 (deep_traps (record { I = c.stands.ensures; F = c.requires.fits; at_fork = c.requires.forks; free = c.requires.free }) line.0 line.1 line.2 c.fork_line-left.ensures deep)
 
 pub enter_halt-requires-clause-shared : goal.enter_halt-requires-clause-shared
 enter_halt-requires-clause-shared c = fork_shared c.args.self.now c.args.part c.requires.forks
 
-pub returns-in-Some-clause-refused : goal.returns-in-Some-clause-refused
-returns-in-Some-clause-refused c = sym c.alone_refused.ensures ∙ c.in-Some.is
-
 pub fork_line-left-requires-clause-out : goal.fork_line-left-requires-clause-out
-fork_line-left-requires-clause-out c = record { worker = c.args.worker; fits = c.requires.fits; free = sym c.alone_refused.ensures ∙ c.in_default.is }
-
-pub enter_fork-requires-clause-free : goal.enter_fork-requires-clause-free
-enter_fork-requires-clause-free c = sym c.alone_refused.ensures ∙ c.in_default.is
+fork_line-left-requires-clause-out c = record { worker = c.args.worker; fits = c.requires.fits; free = c.requires.free }
 
 pub enter_fork-requires-clause-by : goal.enter_fork-requires-clause-by
 enter_fork-requires-clause-by c = (c.fork_line-left.result.2, c.fork_line-left.ensures)
@@ -39,14 +29,8 @@ enter_fork-requires-clause-shallow c =
     let shallow = subst (λ n. n < 1000) c.depth.ensures c.if-depth-lt-DEPTH_LIMIT.true in
     subst (λ (z : SharedValue). depth_of z.tree c.args.part.task < 1000) c.self.view_is shallow
 
-pub enter_halt-requires-clause-free : goal.enter_halt-requires-clause-free
-enter_halt-requires-clause-free c = sym c.alone_refused.ensures ∙ c.in_default.is
-
 pub enter_halt-requires-clause-other : goal.enter_halt-requires-clause-other
 enter_halt-requires-clause-other c = λ e. cc
-
-pub returns-else-depth-lt-DEPTH_LIMIT-clause-refused : goal.returns-else-depth-lt-DEPTH_LIMIT-clause-refused
-returns-else-depth-lt-DEPTH_LIMIT-clause-refused c = sym c.alone_refused.ensures ∙ c.in_default.is
 
 pub returns-else-depth-lt-DEPTH_LIMIT-clause-answered : goal.returns-else-depth-lt-DEPTH_LIMIT-clause-answered
 returns-else-depth-lt-DEPTH_LIMIT-clause-answered c = c.enter_halt.ensures
@@ -59,6 +43,3 @@ returns-then-depth-lt-DEPTH_LIMIT-clause-task_out c = c.enter_fork.ensures.task_
 
 pub returns-else-depth-lt-DEPTH_LIMIT-clause-task_out : goal.returns-else-depth-lt-DEPTH_LIMIT-clause-task_out
 returns-else-depth-lt-DEPTH_LIMIT-clause-task_out c = tt
-
-pub alone_refused-requires-clause-shared : goal.alone_refused-requires-clause-shared
-alone_refused-requires-clause-shared c = fork_shared c.args.self.now c.args.part c.requires.forks

@@ -1,4 +1,4 @@
-use Rattle.shared_tree.proofs.Common.{Err, refl, subst, NotRan, SharedValue, IsCaused, Forking, EntersLeaving, IsAtRootEnd, LeavesBy, RanTo}
+use Rattle.shared_tree.proofs.Common.{Err, refl, subst, NotRan, SharedValue, Forking, EntersLeaving, IsAtRootEnd, LeavesBy, RanTo}
 use Rattle.shared_tree.proofs.HandedOn.{handed_on}
 use Rattle.shared_tree.proofs.Joints.{fit_by, forks_to, holds_none, ran_by, same_by}
 use Rattle.shared_tree.proofs.shared.Shared.ran_leaving.Goals as goal
@@ -12,7 +12,7 @@ returns-in_err-forking-in-Forks c =
     let v : SharedValue = c.ran_forking.new.self in
     let e : NotRan = c.in_err-forking-in-Forks.field-0.0 in
     let failed : EntersLeaving w v c.args.worker c.args.part (Err e) = record {
-      refused = subst (IsCaused e.cause) c.requires.free c.in_err-forking-in-Forks.ensures.refused;
+      refused = c.in_err-forking-in-Forks.ensures.refused;
       same = same_by w v e.cause c.in_err-forking-in-Forks.ensures.same;
       still = fit_by w v c.in_err-forking-in-Forks.ensures.same;
       back = c.in_err-forking-in-Forks.ensures.back;
@@ -55,7 +55,7 @@ returns-in_err-resumed-in-Ends c =
     let v : SharedValue = c.ran_ending.new.self in
     let e : NotRan = c.in_err-resumed-in-Ends.field-0.0 in
     let failed : EntersLeaving w v c.args.worker c.args.part (Err e) = record {
-      refused = subst (IsCaused e.cause) c.requires.free c.in_err-resumed-in-Ends.ensures.refused;
+      refused = c.in_err-resumed-in-Ends.ensures.refused;
       same = c.in_err-resumed-in-Ends.ensures.same;
       still = c.in_err-resumed-in-Ends.ensures.still;
       back = c.in_err-resumed-in-Ends.ensures.back;
