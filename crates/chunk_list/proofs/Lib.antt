@@ -1,3 +1,4 @@
+mod BareLevels
 mod Rows
 pub mod ViewLemmas
 mod Common

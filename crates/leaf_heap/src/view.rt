@@ -32,7 +32,7 @@ impl LeafHeap {
     {
         match &self.space.contents {
             Some(contents) => contents.get().view(above),
-            None => Contents::new(self.space.allocator()).view(above),
+            None => View::below_bare(above),
         }
     }
 }
