@@ -9,17 +9,27 @@ ghost use Rattle.core_invariant.specs.below.copying_gc.{HasReservedLists};
 ghost use Rattle.leaf_collections.specs.LeafBegin.{AreFalling};
 
 use core_invariant::{
-    Addr, Begun, Chunk, LeafHeap, Listed, NotTaken, Pool, Private, ReservedVec, ToChunks,
+    Addr, Begun, BoxedSlot, Chunk, LeafHeap, Listed, NotTaken, Pool, Private, ReservedVec, ToChunks,
 };
 use std::alloc::{AllocError, Global};
 
-// What a collection needs beside its chunks: a copy of its roots, a list for the numbers of the chunks, and the lists
-// reserved for copying.
+// What a collection needs beside its chunks: a copy of its roots, a list for the numbers of the chunks, a block for both,
+// and the lists reserved for copying.
 #[derive(Drop)]
 struct Prepared {
     roots: Listed<Addr>,
     numbers: ReservedVec<u32>,
+    block: BoxedSlot<Begun>,
     to: ToChunks,
+}
+
+// A block for what a collection records, without anything.
+fn begun_block(alloc: Global) -> Result<BoxedSlot<Begun>, AllocError> {
+    let nothing = Begun {
+        roots: Listed::new(alloc),
+        news: Listed::new(alloc),
+    };
+    Ok(BoxedSlot::new(alloc, nothing)?)
 }
 
 // Allocates all that a collection into `count` chunks needs.
@@ -36,11 +46,17 @@ fn prepare(
     ensures empty { IfOk result (λ q. q.to.chunks.items ≡ []) }
     ensures reserved { IfOk result (λ q. HasReservedLists heap.new count q.to) }
 {
+    let block = begun_block(alloc)?;
     let roots = Listed::from_vec(roots.to_vec(alloc)?);
     let mut numbers = ReservedVec::new(alloc);
     numbers.reserve(count as usize)?;
     let to = ToChunks::reserve(alloc, heap, count)?;
-    Ok(Prepared { roots, numbers, to })
+    Ok(Prepared {
+        roots,
+        numbers,
+        block,
+        to,
+    })
 }
 
 // Sorts chunks by their numbers, the greatest first.
@@ -108,6 +124,7 @@ pub fn begin_with(
     let Prepared {
         roots: kept,
         mut numbers,
+        block,
         mut to,
     } = prepared;
     match take_falling(pool, part.task, count, &mut to.chunks) {
@@ -116,9 +133,9 @@ pub fn begin_with(
         Err(NotTaken::Full) => unreachable!(),
     }
     note_numbers(&mut numbers, &to.chunks);
-    part.begin_collection(Begun {
+    part.begin_collection(block.put(Begun {
         roots: kept,
         news: numbers.into_listed(),
-    });
+    }));
     Ok(to)
 }

@@ -4,6 +4,7 @@ ghost use Rattle.std.specs.Prelude.{◌≡◌, None};
 ghost use Rattle.task_machine.specs.Ready.{FitsSome};
 
 use crate::parts::{AMPLE, Pause, Setup, pause, program_of, root_of};
+use boxed::BoxedSlot;
 use hh_lang::Program;
 use plain_vec::Listed;
 use std::alloc::Global;
@@ -19,23 +20,27 @@ const DUE_SOON: Setup = Setup {
 };
 
 // Ends the collection that has begun, and returns what it took.
-fn end_collection(part: &mut Private) -> Option<Begun>
+fn end_collection(part: &mut Private) -> Option<BoxedSlot<Begun>>
     ensures changed { part.new ≡ record part.old { begun = None } }
 {
     part.begun.take()
 }
 
 // A collection begins and ends, and another entry begins: what the collection took.
-fn collected(alloc: Global, program: &Program, part: &mut Private) -> Option<Begun>
+fn collected(alloc: Global, program: &Program, part: &mut Private) -> Option<BoxedSlot<Begun>>
     requires fits { FitsSome program.now part.old }
     requires idle { part.old.begun ≡ None }
     ensures fits { FitsSome program.now part.new }
     ensures idle { part.new.begun ≡ None }
 {
-    part.begin_collection(Begun {
+    let nothing = Begun {
         roots: Listed::new(alloc),
         news: Listed::new(alloc),
-    });
+    };
+    let Ok(block) = BoxedSlot::new(alloc, nothing) else {
+        return None;
+    };
+    part.begin_collection(block);
     let begun = end_collection(part);
     part.reset_since();
     part.begin_entry();
