@@ -118,7 +118,7 @@ join_children-rest-requires-clause-can c =
 
 pub remembering-set-requires : goal.remembering-set-requires
 remembering-set-requires c =
-    if_none c.into_parts-noted.result.1 _ _ c.join_children-rest.ensures.none c.into_parts-noted.ensures.bare
+    if_none c.into_parts-noted.result.1 _ _ c.join_children-rest.ensures.none c.into_parts-noted.ensures.bare_noted
 
 pub put_rest-requires : goal.put_rest-requires
 put_rest-requires c = record { block = ap (λ (z : TaskSlotsValue). slice_get z.blocks c.args.parent) c.take_set.ensures.task_slots ∙ c.take_rest-above.ensures.block }
