@@ -19,7 +19,7 @@ pub unreachable-requires : goal.unreachable-requires
 unreachable-requires c =
     let w : SharedValue = c.args.self.now in
     let p : Private = c.args.part in
-    none_some (sym c.in_default-parent.is ∙ (c.parent.ensures ∙ (ap (λ (z : SharedValue). parent_of z.tree p.task) c.self.view_is ∙ tree_parent (record { I = c.stands.ensures; F = c.requires.fits; at_end = c.requires.ends; free = c.requires.free }))))
+    none_some (sym c.in_default.is ∙ (c.parent.ensures ∙ (ap (λ (z : SharedValue). parent_of z.tree p.task) c.self.view_is ∙ tree_parent (record { I = c.stands.ensures; F = c.requires.fits; at_end = c.requires.ends; free = c.requires.free }))))
 
 pub enter_join-requires-clause-fits : goal.enter_join-requires-clause-fits
 enter_join-requires-clause-fits c =
@@ -73,13 +73,13 @@ pub make_join_places-requires-clause-ended : goal.make_join_places-requires-clau
 make_join_places-requires-clause-ended c = sym (state_is c.state.ensures (ap (λ (z : SharedValue). state_of z.tree) c.self.view_is) c.sibling_of.ensures) ∙ c.if-not-is_ended.ensures.0 refl
 
 pub make_join_places-requires-clause-parent : goal.make_join_places-requires-clause-parent
-make_join_places-requires-clause-parent c = ap (λ (z : SharedValue). parent_of z.tree c.args.part.task) (sym c.self.view_is) ∙ (sym c.parent.ensures ∙ c.in-Some-parent.is)
+make_join_places-requires-clause-parent c = ap (λ (z : SharedValue). parent_of z.tree c.args.part.task) (sym c.self.view_is) ∙ (sym c.parent.ensures ∙ c.in-Some.is)
 
 pub enter_join-requires-clause-ended : goal.enter_join-requires-clause-ended
 enter_join-requires-clause-ended c = ap (λ (z : SharedValue). state_of z.tree (sibling c.args.part.task)) c.make_join_places.ensures.same.rest ∙ (sym (state_is c.state.ensures (ap (λ (z : SharedValue). state_of z.tree) c.self.view_is) c.sibling_of.ensures) ∙ c.if-not-is_ended.ensures.0 refl)
 
 pub enter_join-requires-clause-parent : goal.enter_join-requires-clause-parent
-enter_join-requires-clause-parent c = ap (λ (z : SharedValue). parent_of z.tree c.args.part.task) c.make_join_places.ensures.same.rest ∙ (ap (λ (z : SharedValue). parent_of z.tree c.args.part.task) (sym c.self.view_is) ∙ (sym c.parent.ensures ∙ c.in-Some-parent.is))
+enter_join-requires-clause-parent c = ap (λ (z : SharedValue). parent_of z.tree c.args.part.task) c.make_join_places.ensures.same.rest ∙ (ap (λ (z : SharedValue). parent_of z.tree c.args.part.task) (sym c.self.view_is) ∙ (sym c.parent.ensures ∙ c.in-Some.is))
 
 pub enter_join-requires-clause-places : goal.enter_join-requires-clause-places
 enter_join-requires-clause-places c = c.in-Ok.ensures.places
