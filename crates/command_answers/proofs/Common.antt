@@ -23,7 +23,6 @@ pub use Rattle.journal_replay.specs.WorldValue.{WorldValue}
 pub use Rattle.journal_replay.specs.below.core_invariant.{SharedValue, IsSharedValue, accounts, value_of, without_journal}
 pub use Rattle.journal_replay.specs.below.ledger_step_laws.{Rests}
 pub use Rattle.journal_replay.specs.below.refinement.{BelongingsStand, In, Memory, object_name, handed}
-pub use Rattle.journal_replay.specs.below.run_statistics.{totals_of}
 pub use Rattle.journal_replay.specs.declared.replaying.ReplayStop.{ReplayStop}
 pub use Rattle.journal_replay.specs.declared.replaying.ReplayStop.TheVariants.{NoMemory}
 pub use Rattle.made_program_laws.proofs.Made.{made_are_programs}
@@ -52,9 +51,10 @@ pub use Rattle.refusal_lines.specs.Refusals.{refusal_of}
 pub use Rattle.refusal_lines.specs.below.run_report.{Extras, report_from, totals_from, report_part}
 pub use Rattle.refusal_lines.specs.declared.refusal.Refusal.{Refusal}
 pub use Rattle.refusal_lines.specs.declared.refusal.Refusal.TheVariants.{Words, Line, Entry, Image}
-pub use Rattle.round_trip_laws.proofs.Inputs.{recorded_inputs_are_read}
-pub use Rattle.round_trip_laws.specs.RoundTrip.{TraceFollows, IsReadAsTrace}
-pub use Rattle.round_trip_laws.specs.below.trace_input.{InputFault, TraceInput, trace_lines, IsInput, input_fault, settings_for, Source, BadLine, too_long}
+pub use Rattle.made_program_laws.proofs.below.round_trip_laws.{recorded_inputs_are_read}
+pub use Rattle.made_program_laws.specs.below.round_trip_laws.{TraceFollows, IsReadAsTrace}
+pub use Rattle.made_program_laws.specs.below.trace_input.{InputFault, TraceInput, trace_lines, IsInput, input_fault, settings_for, Source, BadLine, too_long}
+pub use Rattle.run_statistics.specs.JournalCounts.{totals_of}
 pub use Rattle.shared_image.proofs.below.heap_image.{sound_is_faultless}
 pub use Rattle.shared_image.specs.Held.{HasJustHeld}
 pub use Rattle.shared_image.specs.below.heap_image.{ImageData, text_of}

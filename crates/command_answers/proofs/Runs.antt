@@ -86,13 +86,13 @@ all_prefix journal entries is = ([], sym is ∙ sym (append-nil journal))
 
 -- A REPLAY up to some point
 
-pub replayed_told : (o : Options) (t : TraceInput) (s : SettingsValue) (entries : List EntryValue) (r : Result WorldValue ReplayStop) (a : Answer) → s ≡ settings_for o.settings t → entries ≡ t.trace.entries
+pub replayed_told : (o : Options) (t : TraceInput) (s : SettingsValue) (entries : List EntryValue) (r : Result WorldValue (ReplayStop WorldValue)) (a : Answer) → s ≡ settings_for o.settings t → entries ≡ t.trace.entries
     → ReplayGives t.program s entries r → AnswersReplayed (extras_of o) r a → AnswersTrace (IsReplay o) o.settings t a
 replayed_told o t s entries (Ok x) a limits is has h = made_told o t s entries x.shared a limits is has.program has.settings has.journal h
 replayed_told o t s entries (Err (Stops r)) a limits is stop h = trace_told (IsReplay o) o.settings t s entries (Some r) a limits is (refused_first t.program s entries r stop) h
 replayed_told o t s entries (Err (WantsMemory x)) a limits is come h = absurd h
 
-pub replayed_left : (o : Options) (t : TraceInput) (s : SettingsValue) (entries : List EntryValue) (r : Result WorldValue ReplayStop) (found : Wanted) → s ≡ settings_for o.settings t → entries ≡ t.trace.entries
+pub replayed_left : (o : Options) (t : TraceInput) (s : SettingsValue) (entries : List EntryValue) (r : Result WorldValue (ReplayStop WorldValue)) (found : Wanted) → s ≡ settings_for o.settings t → entries ≡ t.trace.entries
     → ReplayGives t.program s entries r → StandsReplayed r → found ≡ remains_by r → IsWanted (LeavesPrefix t.program (settings_for o.settings t) t.trace.entries) found
 replayed_left o t s entries (Ok x) found limits is has stands e =
     entries_left o t s entries x.shared found limits is stands has.program has.settings (all_prefix x.shared.journal.items entries has.journal) e

@@ -85,14 +85,14 @@ abbrev pub AnswersReplay : Options → List ℕ → Answer → Type 0
 AnswersReplay o = AnswersTraced (IsReplay o) o.settings
 
 -- the answer at some point of a replay: nothing if memory ran out
-abbrev pub AnswersReplayed : Extras → Result WorldValue ReplayStop → Answer → Type 0
+abbrev pub AnswersReplayed : Extras → Result WorldValue (ReplayStop WorldValue) → Answer → Type 0
 AnswersReplayed extras (Ok x) a =
     WhereWhole (IsReplayedRun x.shared.program x.shared.settings extras x.shared.journal.items) (refused_as_run x.shared.program x.shared.settings x.shared.journal.items) a
 AnswersReplayed extras (Err (Stops r)) a = Refuses (Entry r) a
 AnswersReplayed extras (Err (WantsMemory x)) a = ⊥
 
 -- the shared value left is one that represents its journal
-abbrev pub StandsReplayed : Result WorldValue ReplayStop → Type 0
+abbrev pub StandsReplayed : Result WorldValue (ReplayStop WorldValue) → Type 0
 StandsReplayed (Ok x) = IsSharedValue x.shared
 StandsReplayed (Err (Stops r)) = Unit {0}
 StandsReplayed (Err (WantsMemory x)) = IsSharedValue x.shared

@@ -27,8 +27,8 @@ pub use Rattle.refusal_lines.specs.Refusals.{refusal_line, refusal_of}
 pub use Rattle.refusal_lines.specs.below.run_report.{Extras}
 pub use Rattle.refusal_lines.specs.declared.refusal.Refusal.{Refusal}
 pub use Rattle.refusal_lines.specs.declared.refusal.Refusal.TheVariants.{Words, Source, Entry, Image, Line}
-pub use Rattle.round_trip_laws.specs.RoundTrip.{EndsInFeed}
-pub use Rattle.round_trip_laws.specs.below.trace_input.{InputFault, TraceInput, input_fault, settings_for, IsInput, too_long}
+pub use Rattle.made_program_laws.specs.below.round_trip_laws.{EndsInFeed}
+pub use Rattle.made_program_laws.specs.below.trace_input.{InputFault, TraceInput, input_fault, settings_for, IsInput, too_long}
 pub use Rattle.shared_image.specs.Drawn.{IsPictureOf}
 pub use Rattle.shared_image.specs.Held.{HasJustHeld}
 pub use Rattle.shared_image.specs.below.heap_image.{ImageData, IsSoundPicture, text_of}

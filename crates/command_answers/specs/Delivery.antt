@@ -62,7 +62,7 @@ remains_of None = Before
 remains_of (Some w) = Amid w.journal.items (without_journal w)
 
 -- what a replay leaves at some point; a refused entry is answered with nothing of its run
-abbrev pub remains_by : Result WorldValue ReplayStop → Wanted
+abbrev pub remains_by : Result WorldValue (ReplayStop WorldValue) → Wanted
 remains_by (Ok x) = remains_of (Some x.shared)
 remains_by (Err (RefusedAt r)) = Before
 remains_by (Err (WantsMemory x)) = remains_of (Some x.shared)

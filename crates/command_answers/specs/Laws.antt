@@ -2,7 +2,7 @@
 use Rattle.std.specs.Prelude.{◌≡◌, ◌≢◌, ◌≤◌, ◌⊎◌, ◌++◌, Bool, List, ℕ, Option, Some, true, length}
 use Rattle.std.specs.List.{All}
 use Rattle.command_answers.specs.Common.{most_bytes, with_more, ProgramText, TextFault, program_of, made_text, size_limit, Two, EntryValue, IsEntry, SettingsValue, trace_text, EndsInFeed, TraceInput, input_fault, settings_for, IsInput, RunEnd, ledger_of, ImageData, text_of, HasJustHeld, Options, CommandLine, Run, Replay, Model, Make}
-use Rattle.round_trip_laws.specs.below.trace_input.{Source as SourceFault}
+use Rattle.made_program_laws.specs.below.trace_input.{Source as SourceFault}
 use Rattle.command_answers.specs.declared.answer.CommandStatus.{CommandStatus}
 use Rattle.command_answers.specs.declared.answer.CommandStatus.TheVariants.{Done, Source, Entangled, ReadFault, WriteFault, NoMemory, Trace}
 use Rattle.command_answers.specs.declared.answer.Answer.{Answer}

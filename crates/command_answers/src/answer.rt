@@ -3,8 +3,8 @@
 ghost use Rattle.std.specs.Prelude.{◌≡◌};
 ghost use Rattle.command_answers.specs.CommandStatus.{code_of_status, status_of_end, status_of_machine};
 
-use journal_replay::Remains;
 use race_report::{End, Entry, Listed, RunEnd};
+use run_statistics::Remains;
 
 /// How a call ended.
 #[derive(Clone, Copy)]

@@ -3,16 +3,16 @@
 ghost use Rattle.std.specs.Prelude.{◌≡◌, IfOk, IfErr, Some, length, string_bytes};
 ghost use Rattle.refusal_lines.specs.below.run_report.{report_part, text_from, trace_part};
 ghost use Rattle.journal_replay.specs.below.core_invariant.{IsSharedValue, accounts, without_journal};
-ghost use Rattle.journal_replay.specs.below.run_statistics.{totals_of};
+ghost use Rattle.run_statistics.specs.JournalCounts.{totals_of};
 ghost use Rattle.command_answers.specs.Answers.{extras_of};
 ghost use Rattle.command_answers.specs.Runs.{IsReplayedRun};
 
 use crate::answer::{Answer, CommandStatus};
 use crate::wanted::Wanted;
 use command_line::Options;
-use journal_replay::{Counted, Shared};
 use race_report::{Listed, RunEnd, trace_text};
 use refusal_lines::{Extras, end_text, outputs_text, report_text};
+use run_statistics::{Counted, LegalCalls, Shared};
 use std::alloc::{AllocError, Global};
 
 /// What is written besides the outputs and the end line.

@@ -6,9 +6,10 @@ ghost use Rattle.command_answers.specs.Answers.{AnswersImaging, AnswersTrace, Is
 
 use crate::answer::{Answer, CommandStatus};
 use crate::refusals::{bytes_alone, refused, trace_short};
-use journal_replay::{ReplayStop, Shared, replay};
+use journal_replay::{ReplayStop, replay};
 use race_report::{Listed, Settings};
-use refusal_lines::{OrNoMemory, Refusal, TraceInput, read_trace_input};
+use refusal_lines::{InputError, Refusal, TraceInput, read_trace_input};
+use run_statistics::{Counted, Shared};
 use shared_image::image_text;
 use std::alloc::{AllocError, Global};
 
@@ -37,10 +38,10 @@ fn answer_trace(alloc: Global, settings: Settings, read: &TraceInput) -> Result<
 {
     let TraceInput { program, trace } = read;
     let settings = settings.with_version(trace.version);
-    let replayed = replay(alloc, program, settings, trace.entries.as_slice())?;
+    let replayed = replay::<Counted>(alloc, program, settings, trace.entries.as_slice())?;
     match replayed {
         Ok(world) => {
-            let answer = answer_made(alloc, world.shared());
+            let answer = answer_made(alloc, world.shared().shared());
             drop(world);
             answer
         }

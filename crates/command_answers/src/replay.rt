@@ -3,7 +3,7 @@
 ghost use Rattle.std.specs.Prelude.{◌≡◌, IfOk, IfErr};
 ghost use Rattle.race_report.specs.below.run_ledger.{refused_as_run};
 ghost use Rattle.journal_replay.specs.below.core_invariant.{IsSharedValue, without_journal};
-ghost use Rattle.round_trip_laws.specs.below.trace_input.{settings_for};
+ghost use Rattle.made_program_laws.specs.below.trace_input.{settings_for};
 ghost use Rattle.command_answers.specs.Answers.{AnswersReplay, AnswersReplayed, AnswersTrace, IsReplay, LeavesReplay, Refuses, StandsReplayed, WhereWhole, short_of};
 ghost use Rattle.command_answers.specs.Delivery.{IsWanted, remains_by};
 ghost use Rattle.command_answers.specs.Runs.{IsReplayedRun, LeavesPrefix};
@@ -13,8 +13,9 @@ use crate::ended::{amid, answer_ended, extras_of};
 use crate::refusals::{refused, trace_short};
 use crate::wanted::Wanted;
 use command_line::Options;
-use journal_replay::{Counted, ReplayStop, World, replay};
-use refusal_lines::{Extras, OrNoMemory, Refusal, TraceInput, read_trace_input};
+use journal_replay::{ReplayStop, World, replay};
+use refusal_lines::{Extras, InputError, Refusal, TraceInput, read_trace_input};
+use run_statistics::{Counted, LegalCalls};
 use std::alloc::{AllocError, Global};
 
 // The answer once all entries are made, if the run has no end.
@@ -44,7 +45,7 @@ fn answer_made(alloc: Global, shared: Counted, extras: Extras) -> Result<Answer,
 // The answer at some point of a replay. If memory ran out, what the replay leaves is returned.
 fn answer_replayed(
     alloc: Global,
-    replayed: Result<World, ReplayStop>,
+    replayed: Result<World<Counted>, ReplayStop<World<Counted>>>,
     extras: Extras,
 ) -> Result<Answer, Wanted>
     ensures answer { IfOk result (AnswersReplayed extras replayed) }
@@ -65,7 +66,7 @@ fn answer_trace(alloc: Global, options: Options, read: &TraceInput) -> Result<An
 {
     let TraceInput { program, trace } = read;
     let settings = options.settings.with_version(trace.version);
-    let replayed = replay(alloc, program, settings, trace.entries.as_slice())?;
+    let replayed = replay::<Counted>(alloc, program, settings, trace.entries.as_slice())?;
     answer_replayed(alloc, replayed, extras_of(options))
 }
 

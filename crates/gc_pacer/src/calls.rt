@@ -8,8 +8,8 @@ use crate::owing::owed;
 use crate::paced::{Paced, put_apart};
 use entry_calls::{EntryCalls, Leaving, Lent, NotEnded, Ran};
 use run_statistics::{
-    Addr, Counted, Kind, Moved, NotEntered, NotRan, Owed, Private, Program, Refused, RunEnd,
-    Settings, Shared, ToChunks,
+    Addr, Counted, Kind, LegalCalls, Moved, NotEntered, NotRan, Owed, Private, Program, Refused,
+    RunEnd, Settings, Shared, ToChunks,
 };
 use std::alloc::{AllocError, Global};
 

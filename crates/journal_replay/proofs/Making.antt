@@ -1,6 +1,7 @@
 -- The result of an entry of a worker, from the result of a call of the shared value.
-use Rattle.journal_replay.proofs.Common.{◌≡◌, ℕ, true, false, Some, None, Result, Ok, Err, refl, ap, sym, subst, ◌∙◌, OnErr, OnOk, false≢true, none_some, EntryValue, End, Refused, ends_as, Moved, Private, NotEntered, NoMemory, Refuses, first_cause, EntersOrRefuses, Enters, IsCaused, IsSamePart, refused, EachPartStillFits, WorkerPartFits, OthersFit, IsSharedValue, SharedValue, GoesAlone, HaltsAlone, alone_entry, IsUnchanged, Done, Ended, Forked, Over, RanTo, fit_by, OutPart, Copied, Made, AnswersFor, EntersFor, MakesFor, RefusesFor, holding_of, WorkerHolds, HoldsCopy, HoldsPart}
-use Rattle.run_statistics.specs.below.entry_calls.{Ran}
+use Rattle.journal_replay.proofs.Common.{◌≡◌, ℕ, true, false, Some, None, Result, Ok, Err, refl, ap, sym, subst, ◌∙◌, OnErr, OnOk, false≢true, none_some, EntryValue, End, Refused, ends_as, Moved, Private, NotEntered, NoMemory, Refuses, first_cause, EntersOrRefuses, Enters, IsCaused, IsSamePart, refused, EachPartStillFits, WorkerPartFits, OthersFit, IsSharedValue, SharedValue, GoesAlone, HaltsAlone, alone_entry, IsUnchanged, Done, Ended, Forked, Over, RanTo, LeavesPart, OutPart, Copied, Made, AnswersFor, EntersFor, MakesFor, RefusesFor, holding_of, WorkerHolds, HoldsCopy, HoldsPart}
+use Rattle.entry_calls.specs.declared.answers.Leaving.{Leaving}
+use Rattle.entry_calls.specs.declared.answers.Ran.{Ran}
 use Rattle.journal_replay.specs.declared.out_part.OutPart.TheVariants.{Part}
 use Rattle.journal_replay.proofs.HoldingCauses.{copy_fits, said}
 use Rattle.journal_replay.proofs.Holding.{part_stops, places_same, stops}
@@ -21,7 +22,7 @@ apart_made w k e holding back cause made is same H why =
 pub answers_part : (w after : SharedValue) (k : ℕ) (e : EntryValue) (q : Private) (r : Result (Unit {0}) NotEntered) → EntersOrRefuses r (refused w e) → OnErr r (after ≡ w) → OnOk r (Enters w after e) → OnOk r (OthersFit w after k) → HoldsPart after false k q → AnswersFor w after k e (Part q) r
 answers_part w after k e q (Ok x) why same enters others H = record { free = why; enters = enters; others = others; holds = H }
 answers_part w after k e q (Err (Refuses cause)) why same enters others H = record { cause_is = why; same = same; holds = part_stops after k q H }
-answers_part w after k e q (Err NoMemory) why same enters others H = record { same = places_same w after same; still = fit_by w after same; holds = part_stops after k q H }
+answers_part w after k e q (Err NoMemory) why same enters others H = record { same = places_same w after same; still = subst (EachPartStillFits w) (sym same) (λ k p F. F); holds = part_stops after k q H }
 
 pub holds_heap : (after w : SharedValue) (k : ℕ) (p q : Private) → q ≡ record p { heap = q.heap } → HoldsPart w false k p → WorkerPartFits after k q → HoldsPart after false k q
 holds_heap after w k p q is H F = record {
@@ -54,6 +55,13 @@ halts_made w after k p q idle free R = record {
   others = R.others;
   holds = record { fits = R.fits; idle = ap (λ (z : Private). z.begun) R.part ∙ idle; entered = λ h. ap (λ (z : Private). z.fresh) R.part };
 }
+
+-- if the next step gives the part up, nothing is committed: what holds of the value and the part is as before
+pub leaves_still : (w after : SharedValue) (p q : Private) (leaving : Leaving) → LeavesPart w after p q leaving → (G : SharedValue → Private → Type 0) → G w p → G after q
+leaves_still w after p q leaving L G h = subst (λ (z : SharedValue). G z q) (sym L.same) (subst (G w) (sym L.part) h)
+
+pub leaves_before : (w after : SharedValue) (p q : Private) (leaving : Leaving) → LeavesPart w after p q leaving → (G : SharedValue → Private → Type 0) → G after q → G w p
+leaves_before w after p q leaving L G h = subst (G w) L.part (subst (λ (z : SharedValue). G z q) L.same h)
 
 -- and one that gives the part up
 pub ran_made : (w after : SharedValue) (k : ℕ) (p : Private) (r : Ran) → p.begun ≡ None → refused w (alone_entry k p) ≡ None → RanTo w after k p r → EntersFor w after k (alone_entry k p) (holding_of r)

@@ -1,7 +1,7 @@
 -- How many of a part's next steps fit in one entry: its private steps, and one more that isn't private.
 use Rattle.journal_replay.proofs.Common.{◌≡◌, ◌≢◌, ℕ, zero, suc, ◌+◌, ◌-◌, ◌<◌, ◌≤◌, ◌||◌, true, false, cond, min, nat_le, Option, Some, None, is_some, inl, inr, refl, ap, ap₂, sym, ◌∙◌, arith, cases_lt, cond-false, cond-true, false≢true, or_left, or_right, ProgramText, MachineState, asked, Ran, SettingsValue, private_limit, Ledger, Collecting, Long, long_at, refused_if, heap_of, lacks_room, is_due, is_in_need, is_private, most_steps, on_asked, standing, task_step, task_steps, ArePrivate, Paused, Shared, NeedChunk, Spent, Private, is_part_due, is_part_in_need, lacks_place, lacks_same, first_cause, refused, WorkerPartFits, next_line, IsSharedValue, SharedValue, accounts, asks_is, asks_two, counted_is, since_is, at_part, fits_now, IsShared, machine_after, PausesNext, standing_by}
-use Rattle.run_statistics.specs.below.task_machine.{Due}
-use Rattle.run_statistics.proofs.below.step_commit.LastSteps as last
+use Rattle.heap_reading.specs.below.task_machine.{Due}
+use Rattle.step_commit.proofs.LastSteps as last
 use Rattle.journal_replay.proofs.HoldingCauses.{behind, on}
 
 -- ---- AFTER PRIVATE STEPS

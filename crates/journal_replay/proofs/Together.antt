@@ -1,7 +1,7 @@
 -- The parts that workers hold stand together in the shared value.
 use Rattle.journal_replay.proofs.Common.{◌≡◌, ℕ, zero, suc, Bool, Option, Some, None, List, [], ◌∷◌, slice_get, inl, inr, refl, ap, sym, subst, ◌∙◌, arith, false≢true, same_Some, got_within, got_some, none_some, ProgramText, is_running, Entangled, Trapped, heap_of, let_go, TasksAreOut, task_steps, Ledger, RunEnd, Machine, Pool, tasks_are_out_once, LedgerIsKnown, Rests, aside, legal_knows, rested_knows, rested_worker, Part as PartOf, ahead, NotOf, all_ahead, In, WorkerFits, WorkersFit, by_end, handed, all_fit_together, part_of, IsSharedValue, SharedValue, accounts, value_of, worker_by_end, some_flat, done_idles, OutPart, Nothing, Copied, AreParts, HoldsOneOf, IsPartIn, PartsStand, StandsTogether, with_parts, WorkerHolds, IsWhole, WorldValue}
-use Rattle.run_statistics.specs.below.hh_model.{Done}
-use Rattle.run_statistics.specs.below.run_ledger.{Fuel}
+use Rattle.heap_reading.specs.below.hh_model.{Done}
+use Rattle.heap_reading.specs.below.run_ledger.{Fuel}
 use Rattle.journal_replay.specs.declared.out_part.OutPart.TheVariants.{Part}
 use Rattle.journal_replay.proofs.Aside.{fits_aside, knows_aside, stands_aside}
 use Rattle.journal_replay.proofs.HoldingCauses.{copy_fits}

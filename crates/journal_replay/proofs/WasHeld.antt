@@ -1,6 +1,6 @@
 -- A worker that holds a task after an entry held it before, except for the worker that takes one.
 use Rattle.journal_replay.proofs.Common.{◌≡◌, ◌≢◌, ℕ, zero, suc, ◌+◌, ◌-◌, Bool, true, false, cond, Option, Some, None, List, [], ◌∷◌, ◌++◌, slice_get, nat_lt, inl, inr, ap, sym, ◌∙◌, cases_eq, same_Some, none_some, ProgramText, Name, MachineState, TaskStatus, Running, Waiting, Joined, Task, asked, can_step, is_left, step, SettingsValue, Kind, Took, Ran, Chunk, Begin, End as EndOf, PutOff, Mark, More, Sweep, Fuel, Heap, Ledger, RunEnd, Pool, after_kind, chunk_units, with_chunk, chunk_words, collected, emptied, forked_heap, fresh, heap_of, in_use, is_small_size, let_go, merged, or_fresh, with_allocation, put_last, swept_heap, with_heap, within, allocated_by, allocated_in, at_fork, join_heaps, moved_on, moved_to, on_asked, settled, stepped_to, task_step, task_steps, heap_then, with_at, with_off, is_own}
-use Rattle.run_statistics.specs.below.hh_model.{End, Ended}
+use Rattle.heap_reading.specs.below.hh_model.{End, Ended}
 
 -- a worker that holds a task in the one held it in the other
 abbrev pub WasHeld : Ledger → Ledger → Type 0

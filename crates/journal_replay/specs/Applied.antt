@@ -1,10 +1,11 @@
 -- The effect of an entry on the world.
 use Rattle.std.specs.Prelude.{◌≡◌, ℕ, ◌==◌, Bool, true, false, Option, Some, None, List, Result, Ok, Err, if◌then◌else◌}
-use Rattle.run_statistics.specs.below.run_trace.{Kind, Fuel, Mark, More, Sweep, EntryValue}
-use Rattle.run_statistics.specs.below.run_ledger.{Refused, Collecting, NotCollecting, NotOut}
-use Rattle.run_statistics.specs.below.core_invariant.{NotEntered, NoMemory, Refuses, Enters, refused, EachPartStillFits, OthersFit, SharedValue}
-use Rattle.run_statistics.specs.below.fork_join_commit.{SameButPlaces}
-use Rattle.run_statistics.specs.below.entry_calls.{Ran, Done, Ended, Forked, Over}
+use Rattle.heap_reading.specs.below.run_trace.{Kind, Fuel, Mark, More, Sweep, EntryValue}
+use Rattle.heap_reading.specs.below.run_ledger.{Refused, Collecting, NotCollecting, NotOut}
+use Rattle.heap_reading.specs.below.core_invariant.{NotEntered, NoMemory, Refuses, Enters, refused, EachPartStillFits, OthersFit, SharedValue}
+use Rattle.fork_join_commit.specs.Joins.{SameButPlaces}
+use Rattle.entry_calls.specs.declared.answers.Ran.{Ran}
+use Rattle.entry_calls.specs.declared.answers.Ran.TheVariants.{Done, Ended, Forked, Over}
 use Rattle.journal_replay.specs.declared.out_part.OutPart.{OutPart}
 use Rattle.journal_replay.specs.declared.out_part.OutPart.TheVariants.{Nothing, Part, Copied}
 use Rattle.journal_replay.specs.declared.out_part.Made.{Made}

@@ -1,8 +1,8 @@
 -- What comes next after a part's private steps.
 use Rattle.std.specs.Prelude.{◌+◌, ℕ}
-use Rattle.run_statistics.specs.below.task_machine.{Private, Paused, Shared, Due, NeedChunk, Spent, Pauses}
-use Rattle.run_statistics.specs.below.core_invariant.{SharedValue}
-use Rattle.run_statistics.specs.below.step_commit.{machine_after}
+use Rattle.heap_reading.specs.below.task_machine.{Private, Paused, Shared, Due, NeedChunk, Spent, Pauses}
+use Rattle.heap_reading.specs.below.core_invariant.{SharedValue}
+use Rattle.fork_join_commit.specs.below.step_commit.{machine_after}
 
 -- what comes next of the part's task, by the machine after its fresh steps
 abbrev pub PausesNext : SharedValue → Private → Paused → Type 0

@@ -1,12 +1,12 @@
 -- All parts together: with the belongings of each part that a worker holds put into it, the shared value stands for the
 -- accounts.
 use Rattle.std.specs.Prelude.{◌≡◌, ℕ, Some, List, slice_get}
-use Rattle.run_statistics.specs.below.run_ledger.{Ledger}
-use Rattle.run_statistics.specs.below.copying_gc.{Moved}
-use Rattle.run_statistics.specs.below.ledger_step_laws.{Rests, aside}
-use Rattle.run_statistics.specs.below.refinement.{Part as PartOf, all_ahead, with_all_belongings, MemoryStands, In, handed}
-use Rattle.run_statistics.specs.below.task_machine.{Private}
-use Rattle.run_statistics.specs.below.core_invariant.{part_of, SharedValue, accounts, value_of}
+use Rattle.heap_reading.specs.below.run_ledger.{Ledger}
+use Rattle.heap_reading.specs.below.copying_gc.{Moved}
+use Rattle.heap_reading.specs.below.ledger_step_laws.{Rests, aside}
+use Rattle.heap_reading.specs.below.refinement.{Part as PartOf, all_ahead, with_all_belongings, MemoryStands, In, handed}
+use Rattle.heap_reading.specs.below.task_machine.{Private}
+use Rattle.heap_reading.specs.below.core_invariant.{part_of, SharedValue, accounts, value_of}
 use Rattle.copied_part_laws.specs.below.leaf_collections.{FitsCopied}
 use Rattle.journal_replay.specs.declared.out_part.OutPart.{OutPart}
 use Rattle.journal_replay.specs.declared.out_part.OutPart.TheVariants.{Nothing, Part, Copied}

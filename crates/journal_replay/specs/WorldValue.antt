@@ -1,10 +1,10 @@
 -- The whole world as one value: the shared value, and what each worker holds.
 use Rattle.std.specs.Prelude.{◌≡◌, ℕ, Bool, false, Some, None, List, length, map, slice_get}
-use Rattle.run_statistics.specs.below.object_layout.{ChunkValue, number_of}
-use Rattle.run_statistics.specs.below.copying_gc.{Moved, CanTake, IsCollected}
-use Rattle.run_statistics.specs.below.task_machine.{Begun, Private}
-use Rattle.run_statistics.specs.below.core_invariant.{WorkerPartFits, SharedValue}
-use Rattle.run_statistics.specs.below.fork_join_commit.{HoldsNone}
+use Rattle.heap_reading.specs.below.object_layout.{ChunkValue, number_of}
+use Rattle.heap_reading.specs.below.copying_gc.{Moved, CanTake, IsCollected}
+use Rattle.heap_reading.specs.below.task_machine.{Begun, Private}
+use Rattle.heap_reading.specs.below.core_invariant.{WorkerPartFits, SharedValue}
+use Rattle.fork_join_commit.specs.NoTask.{HoldsNone}
 use Rattle.journal_replay.specs.declared.out_part.OutPart.{OutPart}
 use Rattle.journal_replay.specs.declared.out_part.OutPart.TheVariants.{Nothing, Part, Copied}
 

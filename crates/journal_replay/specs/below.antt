@@ -1,6 +1,5 @@
 -- Re-exports from lower crates for the crates above.
 pub mod refinement
-pub mod run_statistics
 pub mod hh_lang
 pub mod ledger_step_laws
 pub mod object_layout

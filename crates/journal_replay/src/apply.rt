@@ -1,8 +1,8 @@
 // The world makes an entry of any kind.
 
 ghost use Rattle.std.specs.Prelude.{◌≡◌, ◌<◌, None, false, length, true};
-ghost use Rattle.run_statistics.specs.below.run_trace.{IsKind};
-ghost use Rattle.run_statistics.specs.below.core_invariant.{first_cause};
+ghost use Rattle.heap_reading.specs.below.run_trace.{IsKind};
+ghost use Rattle.heap_reading.specs.below.core_invariant.{first_cause};
 ghost use Rattle.journal_replay.specs.Applied.{is_own, AnswersAll, MakesFor};
 ghost use Rattle.journal_replay.specs.WorldValue.{AllHold, WorkerHolds};
 
@@ -14,17 +14,20 @@ use crate::apply_put_off::apply_put_off;
 use crate::apply_ran::apply_ran;
 use crate::apply_took::apply_took;
 use crate::out_part::{Made, OutPart};
-use run_statistics::{Counted, Entry, Kind, Listed, NotEntered};
+use entry_calls::{Entry, Kind, NotEntered};
+use heap_reading::Listed;
+use legal_calls::LegalCalls;
+use std::alloc::AllocError;
 use std::mem;
 
 // A worker that may make entries makes one for a task that it takes or holds.
-fn make_for(shared: &mut Counted, worker: u32, holding: OutPart, kind: Kind) -> Made
-    requires room { 0 < shared.old.journal.room }
-    requires first { first_cause shared.old.end shared.old.steps shared.old.settings worker false ≡ None }
-    requires holds { WorkerHolds shared.old false worker holding }
+fn make_for<S: LegalCalls>(shared: &mut S, worker: u32, holding: OutPart, kind: Kind) -> Made
+    requires room { 0 < (S.value shared.old).journal.room }
+    requires first { first_cause (S.value shared.old).end (S.value shared.old).steps (S.value shared.old).settings worker false ≡ None }
+    requires holds { WorkerHolds (S.value shared.old) false worker holding }
     requires kind { IsKind kind }
     requires own { is_own kind ≡ true }
-    ensures { MakesFor shared.old shared.new worker (record { worker = worker; kind = kind }) result }
+    ensures { MakesFor (S.value shared.old) (S.value shared.new) worker (record { worker = worker; kind = kind }) result }
 {
     match kind {
         Kind::Took(t) => apply_took(shared, worker, holding, t),
@@ -40,22 +43,22 @@ fn make_for(shared: &mut Counted, worker: u32, holding: OutPart, kind: Kind) -> 
 }
 
 // A worker makes an entry for a task that it takes or holds, if it may make entries.
-fn make_own(
-    shared: &mut Counted,
+fn make_own<S: LegalCalls>(
+    shared: &mut S,
     holdings: &mut Listed<OutPart>,
     worker: u32,
     kind: Kind,
 ) -> Result<(), NotEntered>
-    requires room { 0 < shared.old.journal.room }
-    requires count { length holdings.old ≡ shared.old.settings.workers }
-    requires hold { AllHold shared.old false holdings.old }
+    requires room { 0 < (S.value shared.old).journal.room }
+    requires count { length holdings.old ≡ (S.value shared.old).settings.workers }
+    requires hold { AllHold (S.value shared.old) false holdings.old }
     requires kind { IsKind kind }
     requires own { is_own kind ≡ true }
     ensures count { length holdings.new ≡ length holdings.old }
-    ensures made { AnswersAll shared.old shared.new (record { worker = worker; kind = kind }) holdings.new result }
+    ensures made { AnswersAll (S.value shared.old) (S.value shared.new) (record { worker = worker; kind = kind }) holdings.new result }
 {
     shared.stands();
-    if let Some(cause) = shared.shared().refused_first(worker) {
+    if let Some(cause) = shared.refused_first(worker) {
         return Err(NotEntered::Refuses(cause));
     }
     let holding = mem::replace(holdings.at_mut(worker as usize), OutPart::Nothing);
@@ -76,16 +79,16 @@ fn is_own(kind: Kind) -> bool
 }
 
 // Makes an entry for which there is capacity.
-fn make(
-    shared: &mut Counted,
+fn make<S: LegalCalls>(
+    shared: &mut S,
     holdings: &mut Listed<OutPart>,
     entry: Entry,
 ) -> Result<(), NotEntered>
-    requires room { 0 < shared.old.journal.room }
-    requires count { length holdings.old ≡ shared.old.settings.workers }
-    requires hold { AllHold shared.old false holdings.old }
+    requires room { 0 < (S.value shared.old).journal.room }
+    requires count { length holdings.old ≡ (S.value shared.old).settings.workers }
+    requires hold { AllHold (S.value shared.old) false holdings.old }
     ensures count { length holdings.new ≡ length holdings.old }
-    ensures made { AnswersAll shared.old shared.new entry holdings.new result }
+    ensures made { AnswersAll (S.value shared.old) (S.value shared.new) entry holdings.new result }
 {
     shared.stands();
     let worker = entry.worker();
@@ -98,17 +101,19 @@ fn make(
 }
 
 /// Makes an entry.
-pub(crate) fn make_entry(
-    shared: &mut Counted,
+pub(crate) fn make_entry<S: LegalCalls>(
+    shared: &mut S,
     holdings: &mut Listed<OutPart>,
     entry: Entry,
 ) -> Result<(), NotEntered>
-    requires count { length holdings.old ≡ shared.old.settings.workers }
-    requires hold { AllHold shared.old false holdings.old }
+    requires count { length holdings.old ≡ (S.value shared.old).settings.workers }
+    requires hold { AllHold (S.value shared.old) false holdings.old }
     ensures count { length holdings.new ≡ length holdings.old }
-    ensures made { AnswersAll shared.old shared.new entry holdings.new result }
+    ensures made { AnswersAll (S.value shared.old) (S.value shared.new) entry holdings.new result }
 {
     shared.stands();
-    shared.reserve()?;
-    make(shared, holdings, entry)
+    match shared.reserve() {
+        Ok(()) => make(shared, holdings, entry),
+        Err(AllocError) => Err(NotEntered::NoMemory),
+    }
 }

@@ -1,28 +1,29 @@
 // A leaf collection of a task begins.
 
 ghost use Rattle.std.specs.Prelude.{◌≡◌, ◌<◌, None, false};
-ghost use Rattle.run_statistics.specs.below.task_machine.{Private as PrivateOf};
-ghost use Rattle.run_statistics.specs.below.core_invariant.{first_cause, CopyingHasBegun, WorkerPartFits, accounts};
+ghost use Rattle.heap_reading.specs.below.task_machine.{Private as PrivateOf};
+ghost use Rattle.heap_reading.specs.below.core_invariant.{first_cause, CopyingHasBegun, WorkerPartFits, accounts};
 ghost use Rattle.journal_replay.specs.Applied.{MakesFor};
 ghost use Rattle.journal_replay.specs.WorldValue.{WorkerHolds, HoldsCopy, HoldsPart};
 
 use crate::out_part::{Made, OutPart, idle_part};
+use entry_calls::{Addr, Kind, Moved, Private, ToChunks, copy};
 use io_traits::EmptyGate;
-use run_statistics::{Addr, Counted, Kind, Moved, Private, ToChunks, copy};
+use legal_calls::LegalCalls;
 
 // Copies the heap of a part whose collection has begun.
-fn copy_begun(
-    shared: &Counted,
+fn copy_begun<S: LegalCalls>(
+    shared: &S,
     worker: u32,
     part: &mut Private,
     roots: &[Addr],
     to_chunks: ToChunks,
 ) -> Moved
-    requires goes { (accounts shared.now).end ≡ None }
-    requires fits { WorkerPartFits shared.now worker part.old }
+    requires goes { (accounts (S.value shared.now)).end ≡ None }
+    requires fits { WorkerPartFits (S.value shared.now) worker part.old }
     requires fresh { part.old.fresh ≡ 0 }
     requires begun { (before : PrivateOf) × CopyingHasBegun before part.old roots.now to_chunks }
-    ensures { HoldsCopy shared.now worker part.new result }
+    ensures { HoldsCopy (S.value shared.now) worker part.new result }
 {
     shared.stands();
     let task = part.task;
@@ -38,10 +39,10 @@ fn copy_begun(
 }
 
 // The collection of the part begins, and its heap is copied.
-fn begin(shared: &mut Counted, worker: u32, part: Private) -> Made
-    requires room { 0 < shared.old.journal.room }
-    requires holds { HoldsPart shared.old false worker part }
-    ensures { MakesFor shared.old shared.new worker (record { worker = worker; kind = Kind.Begin part.task }) result }
+fn begin<S: LegalCalls>(shared: &mut S, worker: u32, part: Private) -> Made
+    requires room { 0 < (S.value shared.old).journal.room }
+    requires holds { HoldsPart (S.value shared.old) false worker part }
+    ensures { MakesFor (S.value shared.old) (S.value shared.new) worker (record { worker = worker; kind = Kind.Begin part.task }) result }
 {
     let mut part = part;
     match shared.leaf_begin(worker, &mut part) {
@@ -60,11 +61,16 @@ fn begin(shared: &mut Counted, worker: u32, part: Private) -> Made
 }
 
 /// A due leaf collection of a task begins: its heap is copied, which doesn't allocate.
-pub(crate) fn apply_begin(shared: &mut Counted, worker: u32, holding: OutPart, t: u32) -> Made
-    requires room { 0 < shared.old.journal.room }
-    requires first { first_cause shared.old.end shared.old.steps shared.old.settings worker false ≡ None }
-    requires holds { WorkerHolds shared.old false worker holding }
-    ensures { MakesFor shared.old shared.new worker (record { worker = worker; kind = Kind.Begin t }) result }
+pub(crate) fn apply_begin<S: LegalCalls>(
+    shared: &mut S,
+    worker: u32,
+    holding: OutPart,
+    t: u32,
+) -> Made
+    requires room { 0 < (S.value shared.old).journal.room }
+    requires first { first_cause (S.value shared.old).end (S.value shared.old).steps (S.value shared.old).settings worker false ≡ None }
+    requires holds { WorkerHolds (S.value shared.old) false worker holding }
+    ensures { MakesFor (S.value shared.old) (S.value shared.new) worker (record { worker = worker; kind = Kind.Begin t }) result }
 {
     shared.stands();
     match idle_part(holding, t) {

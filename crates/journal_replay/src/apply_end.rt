@@ -1,13 +1,14 @@
 // The leaf collection of a task ends.
 
 ghost use Rattle.std.specs.Prelude.{◌≡◌, ◌<◌, None, false};
-ghost use Rattle.run_statistics.specs.below.run_ledger.{ends_as};
-ghost use Rattle.run_statistics.specs.below.core_invariant.{first_cause};
+ghost use Rattle.heap_reading.specs.below.run_ledger.{ends_as};
+ghost use Rattle.heap_reading.specs.below.core_invariant.{first_cause};
 ghost use Rattle.journal_replay.specs.Applied.{MakesFor};
 ghost use Rattle.journal_replay.specs.WorldValue.{WorkerHolds, HoldsCopy};
 
 use crate::out_part::{Made, OutPart, copied_part};
-use run_statistics::{Counted, Kind, Moved, NotEntered, Private, Refused};
+use entry_calls::{Kind, Moved, NotEntered, Private, Refused};
+use legal_calls::LegalCalls;
 
 // The first of the three numbers that is wrong.
 fn miscounted(moved: &Moved, taken: u32, given: u32, left: u32) -> Option<Refused>
@@ -26,11 +27,11 @@ fn miscounted(moved: &Moved, taken: u32, given: u32, left: u32) -> Option<Refuse
 }
 
 // The collection of the part ends, with the numbers of its copy.
-fn end(shared: &mut Counted, worker: u32, part: Private, moved: Moved) -> Made
-    requires room { 0 < shared.old.journal.room }
-    requires first { first_cause shared.old.end shared.old.steps shared.old.settings worker false ≡ None }
-    requires holds { HoldsCopy shared.old worker part moved }
-    ensures { MakesFor shared.old shared.new worker (record { worker = worker; kind = Kind.End part.task moved.taken moved.given moved.left }) result }
+fn end<S: LegalCalls>(shared: &mut S, worker: u32, part: Private, moved: Moved) -> Made
+    requires room { 0 < (S.value shared.old).journal.room }
+    requires first { first_cause (S.value shared.old).end (S.value shared.old).steps (S.value shared.old).settings worker false ≡ None }
+    requires holds { HoldsCopy (S.value shared.old) worker part moved }
+    ensures { MakesFor (S.value shared.old) (S.value shared.new) worker (record { worker = worker; kind = Kind.End part.task moved.taken moved.given moved.left }) result }
 {
     shared.stands();
     let mut part = part;
@@ -45,8 +46,8 @@ fn end(shared: &mut Counted, worker: u32, part: Private, moved: Moved) -> Made
 
 /// The leaf collection of a task ends, with the numbers of an entry: the chunks taken, those released and the words
 /// left.
-pub(crate) fn apply_end(
-    shared: &mut Counted,
+pub(crate) fn apply_end<S: LegalCalls>(
+    shared: &mut S,
     worker: u32,
     holding: OutPart,
     t: u32,
@@ -54,10 +55,10 @@ pub(crate) fn apply_end(
     given: u32,
     left: u32,
 ) -> Made
-    requires room { 0 < shared.old.journal.room }
-    requires first { first_cause shared.old.end shared.old.steps shared.old.settings worker false ≡ None }
-    requires holds { WorkerHolds shared.old false worker holding }
-    ensures { MakesFor shared.old shared.new worker (record { worker = worker; kind = Kind.End t taken given left }) result }
+    requires room { 0 < (S.value shared.old).journal.room }
+    requires first { first_cause (S.value shared.old).end (S.value shared.old).steps (S.value shared.old).settings worker false ≡ None }
+    requires holds { WorkerHolds (S.value shared.old) false worker holding }
+    ensures { MakesFor (S.value shared.old) (S.value shared.new) worker (record { worker = worker; kind = Kind.End t taken given left }) result }
 {
     shared.stands();
     match copied_part(holding, t) {

@@ -1,40 +1,40 @@
 // A task takes steps.
 
 ghost use Rattle.std.specs.Prelude.{◌≡◌, ◌<◌, ◌≤◌, ◌+◌, ◌^◌, IfOk, None, false};
-ghost use Rattle.run_statistics.specs.below.run_ledger.{most_steps};
-ghost use Rattle.run_statistics.specs.below.core_invariant.{first_cause, WorkerPartFits};
-ghost use Rattle.run_statistics.specs.below.step_commit.{alone_entry, IsShared};
-ghost use Rattle.run_statistics.specs.below.entry_calls.{LeavesBy};
+ghost use Rattle.heap_reading.specs.below.run_ledger.{most_steps};
+ghost use Rattle.heap_reading.specs.below.core_invariant.{first_cause, WorkerPartFits};
+ghost use Rattle.fork_join_commit.specs.below.step_commit.{alone_entry, IsShared};
+ghost use Rattle.entry_calls.specs.Ran.{LeavesBy};
 ghost use Rattle.journal_replay.specs.Applied.{holding_of, MakesFor};
 ghost use Rattle.journal_replay.specs.Next.{standing_by, PausesNext};
 ghost use Rattle.journal_replay.specs.WorldValue.{WorkerHolds, HoldsPart};
 
 use crate::out_part::{Made, OutPart, idle_part};
-use io_traits::EmptyGate;
-use run_statistics::{
-    Counted, Kind, Leaving, Lent, NotEntered, PRIVATE_LIMIT, Paused, Private, Ran, Refused, Shared,
-    run_local,
+use entry_calls::{
+    Kind, Leaving, Lent, NotEntered, PRIVATE_LIMIT, Paused, Private, Ran, Refused, run_local,
 };
+use io_traits::EmptyGate;
+use legal_calls::LegalCalls;
 use std::alloc::AllocError;
 
 // Takes more private steps, as many as the budget or as precede one that isn't private, and returns what comes next.
-fn run_more(
-    shared: &Shared,
+fn run_more<S: LegalCalls>(
+    shared: &S,
     worker: u32,
     part: &mut Private,
     budget: u32,
 ) -> Result<Paused, AllocError>
-    requires first { first_cause shared.now.end shared.now.steps shared.now.settings worker false ≡ None }
-    requires fits { WorkerPartFits shared.now worker part.old }
+    requires first { first_cause (S.value shared.now).end (S.value shared.now).steps (S.value shared.now).settings worker false ≡ None }
+    requires fits { WorkerPartFits (S.value shared.now) worker part.old }
     requires idle { part.old.begun ≡ None }
     requires few { part.old.fresh + budget ≤ most_steps }
     requires counted { part.old.allocations + budget < 2 ^ 32 }
-    ensures fits { WorkerPartFits shared.now worker part.new }
+    ensures fits { WorkerPartFits (S.value shared.now) worker part.new }
     ensures idle { part.new.begun ≡ None }
     ensures task { part.new.task ≡ part.old.task }
     ensures within { part.new.fresh ≤ part.old.fresh + budget }
     ensures counted { part.new.allocations ≤ part.old.allocations + budget }
-    ensures next { IfOk result (PausesNext shared.now part.new) }
+    ensures next { IfOk result (PausesNext (S.value shared.now) part.new) }
     ensures spent { IfOk result (λ why. why ≡ Paused.Spent → part.new.fresh ≡ part.old.fresh + budget) }
 {
     shared.stands();
@@ -43,20 +43,20 @@ fn run_more(
 }
 
 // Takes `steps` private steps, or as many as precede one that isn't private, and returns what comes next.
-fn run_part(
-    shared: &Shared,
+fn run_part<S: LegalCalls>(
+    shared: &S,
     worker: u32,
     part: &mut Private,
     steps: u32,
 ) -> Result<Paused, AllocError>
-    requires first { first_cause shared.now.end shared.now.steps shared.now.settings worker false ≡ None }
-    requires holds { HoldsPart shared.now false worker part.old }
+    requires first { first_cause (S.value shared.now).end (S.value shared.now).steps (S.value shared.now).settings worker false ≡ None }
+    requires holds { HoldsPart (S.value shared.now) false worker part.old }
     requires few { steps ≤ most_steps }
-    ensures fits { WorkerPartFits shared.now worker part.new }
+    ensures fits { WorkerPartFits (S.value shared.now) worker part.new }
     ensures idle { part.new.begun ≡ None }
     ensures task { part.new.task ≡ part.old.task }
     ensures within { part.new.fresh ≤ steps }
-    ensures next { IfOk result (PausesNext shared.now part.new) }
+    ensures next { IfOk result (PausesNext (S.value shared.now) part.new) }
     ensures spent { IfOk result (λ why. why ≡ Paused.Spent → part.new.fresh ≡ steps) }
 {
     shared.stands();
@@ -71,12 +71,12 @@ fn run_part(
 }
 
 // Commits the fresh steps of the part.
-fn enter_private(shared: &mut Counted, worker: u32, part: Private) -> Made
-    requires room { 0 < shared.old.journal.room }
-    requires fits { WorkerPartFits shared.old worker part }
+fn enter_private<S: LegalCalls>(shared: &mut S, worker: u32, part: Private) -> Made
+    requires room { 0 < (S.value shared.old).journal.room }
+    requires fits { WorkerPartFits (S.value shared.old) worker part }
     requires idle { part.begun ≡ None }
     requires some { 0 < part.fresh }
-    ensures { MakesFor shared.old shared.new worker (record { worker = worker; kind = Kind.Ran part.task part.fresh }) result }
+    ensures { MakesFor (S.value shared.old) (S.value shared.new) worker (record { worker = worker; kind = Kind.Ran part.task part.fresh }) result }
 {
     let mut part = part;
     match shared.ran_private(worker, &mut part) {
@@ -104,14 +104,19 @@ fn holding_of(ran: Ran) -> OutPart
 }
 
 // Commits the fresh steps of the part and the shared one that comes next, which gives the part up in this way.
-fn enter_leaving(shared: &mut Counted, worker: u32, part: Private, leaving: Leaving) -> Made
-    requires room { 0 < shared.old.journal.room }
-    requires first { first_cause shared.old.end shared.old.steps shared.old.settings worker false ≡ None }
-    requires fits { WorkerPartFits shared.old worker part }
+fn enter_leaving<S: LegalCalls>(
+    shared: &mut S,
+    worker: u32,
+    part: Private,
+    leaving: Leaving,
+) -> Made
+    requires room { 0 < (S.value shared.old).journal.room }
+    requires first { first_cause (S.value shared.old).end (S.value shared.old).steps (S.value shared.old).settings worker false ≡ None }
+    requires fits { WorkerPartFits (S.value shared.old) worker part }
     requires idle { part.begun ≡ None }
-    requires shared { IsShared shared.old part }
-    requires leaves { LeavesBy shared.old part leaving }
-    ensures { MakesFor shared.old shared.new worker (alone_entry worker part) result }
+    requires shared { IsShared (S.value shared.old) part }
+    requires leaves { LeavesBy (S.value shared.old) part leaving }
+    ensures { MakesFor (S.value shared.old) (S.value shared.new) worker (alone_entry worker part) result }
 {
     shared.stands();
     match shared.ran_leaving(worker, part, leaving) {
@@ -127,13 +132,13 @@ fn enter_leaving(shared: &mut Counted, worker: u32, part: Private, leaving: Leav
 }
 
 // Commits the fresh steps of the part and the shared one that comes next.
-fn enter_last(shared: &mut Counted, worker: u32, part: Private) -> Made
-    requires room { 0 < shared.old.journal.room }
-    requires first { first_cause shared.old.end shared.old.steps shared.old.settings worker false ≡ None }
-    requires fits { WorkerPartFits shared.old worker part }
+fn enter_last<S: LegalCalls>(shared: &mut S, worker: u32, part: Private) -> Made
+    requires room { 0 < (S.value shared.old).journal.room }
+    requires first { first_cause (S.value shared.old).end (S.value shared.old).steps (S.value shared.old).settings worker false ≡ None }
+    requires fits { WorkerPartFits (S.value shared.old) worker part }
     requires idle { part.begun ≡ None }
-    requires shared { IsShared shared.old part }
-    ensures { MakesFor shared.old shared.new worker (alone_entry worker part) result }
+    requires shared { IsShared (S.value shared.old) part }
+    ensures { MakesFor (S.value shared.old) (S.value shared.new) worker (alone_entry worker part) result }
 {
     shared.stands();
     let mut part = part;
@@ -166,17 +171,23 @@ fn standing(part: &Private, paused: Paused) -> u32
 }
 
 // Commits `steps` steps of the part, if they fit in one entry.
-fn enter(shared: &mut Counted, worker: u32, part: Private, paused: Paused, steps: u32) -> Made
-    requires room { 0 < shared.old.journal.room }
-    requires first { first_cause shared.old.end shared.old.steps shared.old.settings worker false ≡ None }
-    requires fits { WorkerPartFits shared.old worker part }
+fn enter<S: LegalCalls>(
+    shared: &mut S,
+    worker: u32,
+    part: Private,
+    paused: Paused,
+    steps: u32,
+) -> Made
+    requires room { 0 < (S.value shared.old).journal.room }
+    requires first { first_cause (S.value shared.old).end (S.value shared.old).steps (S.value shared.old).settings worker false ≡ None }
+    requires fits { WorkerPartFits (S.value shared.old) worker part }
     requires idle { part.begun ≡ None }
     requires some { 0 < steps }
     requires few { steps ≤ most_steps }
     requires within { part.fresh ≤ steps }
-    requires next { PausesNext shared.old part paused }
+    requires next { PausesNext (S.value shared.old) part paused }
     requires spent { paused ≡ Paused.Spent → part.fresh ≡ steps }
-    ensures { MakesFor shared.old shared.new worker (record { worker = worker; kind = Kind.Ran part.task steps }) result }
+    ensures { MakesFor (S.value shared.old) (S.value shared.new) worker (record { worker = worker; kind = Kind.Ran part.task steps }) result }
 {
     if part.fresh == steps {
         return enter_private(shared, worker, part);
@@ -193,18 +204,18 @@ fn enter(shared: &mut Counted, worker: u32, part: Private, paused: Paused, steps
 }
 
 // The part takes `steps` steps, which are committed.
-fn ran(shared: &mut Counted, worker: u32, part: Private, steps: u32) -> Made
-    requires room { 0 < shared.old.journal.room }
-    requires first { first_cause shared.old.end shared.old.steps shared.old.settings worker false ≡ None }
-    requires holds { HoldsPart shared.old false worker part }
+fn ran<S: LegalCalls>(shared: &mut S, worker: u32, part: Private, steps: u32) -> Made
+    requires room { 0 < (S.value shared.old).journal.room }
+    requires first { first_cause (S.value shared.old).end (S.value shared.old).steps (S.value shared.old).settings worker false ≡ None }
+    requires holds { HoldsPart (S.value shared.old) false worker part }
     requires some { 0 < steps }
     requires few { steps ≤ most_steps }
-    ensures { MakesFor shared.old shared.new worker (record { worker = worker; kind = Kind.Ran part.task steps }) result }
+    ensures { MakesFor (S.value shared.old) (S.value shared.new) worker (record { worker = worker; kind = Kind.Ran part.task steps }) result }
 {
     let mut part = part;
-    match run_part(shared.shared(), worker, &mut part, steps) {
+    match run_part(shared, worker, &mut part, steps) {
         Ok(paused) => {
-            part.settle_before_fork(shared.shared().program());
+            part.settle_before_fork(shared.program());
             enter(shared, worker, part, paused, steps)
         }
         Err(AllocError) => Made {
@@ -215,19 +226,19 @@ fn ran(shared: &mut Counted, worker: u32, part: Private, steps: u32) -> Made
 }
 
 /// A task takes `steps` steps: all except the last have to be private.
-pub(crate) fn apply_ran(
-    shared: &mut Counted,
+pub(crate) fn apply_ran<S: LegalCalls>(
+    shared: &mut S,
     worker: u32,
     holding: OutPart,
     t: u32,
     steps: u32,
 ) -> Made
-    requires room { 0 < shared.old.journal.room }
-    requires first { first_cause shared.old.end shared.old.steps shared.old.settings worker false ≡ None }
-    requires holds { WorkerHolds shared.old false worker holding }
+    requires room { 0 < (S.value shared.old).journal.room }
+    requires first { first_cause (S.value shared.old).end (S.value shared.old).steps (S.value shared.old).settings worker false ≡ None }
+    requires holds { WorkerHolds (S.value shared.old) false worker holding }
     requires some { 0 < steps }
     requires few { steps ≤ most_steps }
-    ensures { MakesFor shared.old shared.new worker (record { worker = worker; kind = Kind.Ran t steps }) result }
+    ensures { MakesFor (S.value shared.old) (S.value shared.new) worker (record { worker = worker; kind = Kind.Ran t steps }) result }
 {
     shared.stands();
     match idle_part(holding, t) {

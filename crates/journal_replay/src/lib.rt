@@ -16,9 +16,7 @@ mod apply_put_off;
 mod apply_ran;
 mod apply_took;
 
+pub use heap_reading::{End, Entry, Kind, Program, RunEnd, Settings, Version};
 pub use io_traits::EmptyGate;
 pub use replaying::{ReplayStop, replay};
-pub use run_statistics::{
-    Counted, End, Entry, Kind, Program, Remains, RunEnd, Settings, Shared, Version, held,
-};
 pub use world::{NotApplied, World};

@@ -1,14 +1,16 @@
 // The whole state as one value: the shared value and what every worker holds, to which entries are applied one by one.
 
 ghost use Rattle.std.specs.Prelude.{◌≡◌, [], IfOk, false, replicate};
-ghost use Rattle.run_statistics.specs.below.core_invariant.{IsSharedValue};
+ghost use Rattle.heap_reading.specs.below.core_invariant.{IsSharedValue};
 ghost use Rattle.journal_replay.specs.Applied.{AppliesTo};
 ghost use Rattle.journal_replay.specs.Together.{StandsTogether};
 ghost use Rattle.journal_replay.specs.WorldValue.{IsWhole};
 
 use crate::apply::make_entry;
 use crate::out_part::OutPart;
-use run_statistics::{Counted, Entry, Listed, NotEntered, Program, Refused, Settings, Shared};
+use entry_calls::{Entry, NotEntered, Program, Refused, Settings};
+use heap_reading::Listed;
+use legal_calls::LegalCalls;
 use std::alloc::{AllocError, Global};
 use std::marker::Model;
 
@@ -24,30 +26,21 @@ pub enum NotApplied {
 }
 
 /// The shared value and what every worker holds, all in one place: entries are applied one by one.
-pub struct World {
-    shared: Counted,
+#[derive(Drop)]
+pub struct World<S: LegalCalls> {
+    shared: S,
     holdings: Listed<OutPart>,
     stopped: bool,
 }
 
-impl Drop for World {
-    fn drop(self) {
-        let World {
-            shared: _,
-            holdings: _,
-            stopped: _,
-        } = self;
-    }
-}
-
-impl Model for World {
+impl<S: LegalCalls> Model for World<S> {
     ghost use Rattle.journal_replay.specs.WorldValue.{IsWhole, WorldValue};
 
     ghost Value = { WorldValue };
 
-    ghost view = { λ s. record { shared = s.shared; holdings = s.holdings; stopped = s.stopped } };
+    ghost view = { λ s. record { shared = S.value s.shared; holdings = s.holdings; stopped = s.stopped } };
 
-    ghost invariant = { λ s. IsWhole (record { shared = s.shared; holdings = s.holdings; stopped = s.stopped }) };
+    ghost invariant = { λ s. IsWhole (record { shared = S.value s.shared; holdings = s.holdings; stopped = s.stopped }) };
 }
 
 // Holdings of nothing.
@@ -61,15 +54,19 @@ fn empty_holdings(alloc: Global, workers: u32) -> Result<Listed<OutPart>, AllocE
     Ok(holdings)
 }
 
-impl World {
+impl<S: LegalCalls + Drop> World<S> {
     /// Before the first entry.
-    pub fn start(alloc: Global, program: &Program, settings: Settings) -> Result<World, AllocError>
+    pub fn start(
+        alloc: Global,
+        program: &Program,
+        settings: Settings,
+    ) -> Result<World<S>, AllocError>
         ensures program { IfOk result (λ x. x.shared.program ≡ program.now) }
         ensures settings { IfOk result (λ x. x.shared.settings ≡ settings) }
         ensures journal { IfOk result (λ x. x.shared.journal.items ≡ []) }
         ensures goes { IfOk result (λ x. x.stopped ≡ false) }
     {
-        let shared = Counted::new(alloc, program, settings)?;
+        let shared = S::new(alloc, program, settings)?;
         shared.stands();
         let holdings = empty_holdings(alloc, settings.workers())?;
         Ok(World {
@@ -110,8 +107,8 @@ impl World {
     }
 
     /// The shared value alone. What the workers hold is dropped.
-    pub fn into_shared(self) -> Counted
-        ensures { result ≡ self.shared }
+    pub fn into_shared(self) -> S
+        ensures { S.value result ≡ self.shared }
     {
         let World {
             shared,
@@ -129,9 +126,9 @@ impl World {
     }
 
     /// The shared value, to be read: its journal, its end, and its outputs.
-    pub fn shared(&self) -> &Shared
-        ensures { result.now ≡ self.now.shared }
+    pub fn shared(&self) -> &S
+        ensures { S.value result.now ≡ self.now.shared }
     {
-        self.shared.shared()
+        &self.shared
     }
 }

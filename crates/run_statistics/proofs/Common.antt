@@ -28,6 +28,7 @@ pub use Rattle.heap_reading.specs.below.run_ledger.{Heap, Ledger, Pool, Refused,
 pub use Rattle.heap_reading.specs.below.run_trace.{Kind, Took, Ran, Chunk, Begin, End, PutOff, Mark, More, Sweep, Fuel, EntryValue, SettingsValue}
 pub use Rattle.heap_reading.specs.below.task_machine.{Private}
 pub use Rattle.heap_reading.specs.below.task_slots.{ParkedTask}
+pub use Rattle.legal_calls.proofs.FirstLedger.{first_worker}
 pub use Rattle.run_report.proofs.Sums.{legal_few, lost_is, totals_last}
 pub use Rattle.run_report.specs.Totals.{SumsFit, cleared_words, entry_totals, totals_joined, no_totals, totals_from, counted}
 pub use Rattle.run_report.specs.declared.totals.Totals.{Totals}

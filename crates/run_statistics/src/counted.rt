@@ -1,16 +1,13 @@
 // The shared value and the totals of its journal.
 
-ghost use Rattle.std.specs.Prelude.{◌≡◌, ◌<◌, [], ℕ, IfOk, OnOk, Some, false, true};
+ghost use Rattle.std.specs.Prelude.{◌≡◌, true};
 ghost use Rattle.heap_reading.specs.below.run_ledger.{report_of};
-ghost use Rattle.heap_reading.specs.below.task_machine.{Private as PrivateOf};
-ghost use Rattle.heap_reading.specs.below.core_invariant.{EachPartStillFits, WorkerPartFits, IsSharedValue, rest_at, without_journal};
-ghost use Rattle.heap_reading.specs.below.task_slots.{ParkedTask as RestOf};
+ghost use Rattle.heap_reading.specs.below.core_invariant.{EachPartStillFits, without_journal};
 
 use crate::counting::JournalCounts;
 use crate::held_words::held;
-use heap_reading::{Entry, Listed, Program, Report, Settings};
+use heap_reading::{Entry, Listed, Report};
 use shared_tree::{Remains, Shared};
-use std::alloc::{AllocError, Global};
 use std::marker::Model;
 
 /// The shared value, and the totals of its journal's entries: it makes the report without reading them again.
@@ -40,28 +37,6 @@ impl Model for Counted {
 }
 
 impl Counted {
-    /// Before the first entry.
-    pub fn new(alloc: Global, program: &Program, settings: Settings) -> Result<Counted, AllocError>
-        ensures program { IfOk result (λ s. s.program ≡ program.now) }
-        ensures settings { IfOk result (λ s. s.settings ≡ settings) }
-        ensures journal { IfOk result (λ s. s.journal.items ≡ []) }
-        ensures on { IfOk result (λ s. s.halted ≡ false) }
-        ensures root { IfOk result (λ s. (r : RestOf) → rest_at s.rests 0 ≡ Some r → r.heap.chunks ≡ []) }
-    {
-        let shared = Shared::new(alloc, program, settings)?;
-        let counts = JournalCounts::none(alloc, settings.workers())?;
-        Ok(Counted { shared, counts })
-    }
-
-    /// Reserves capacity for one entry.
-    pub fn reserve(&mut self) -> Result<(), AllocError>
-        ensures same { self.new ≡ record self.old { journal = record { items = self.old.journal.items; room = self.new.journal.room } } }
-        ensures room { OnOk result (0 < self.new.journal.room) }
-        ensures fit { (k : ℕ) (p : PrivateOf) → WorkerPartFits self.old k p → WorkerPartFits self.new k p }
-    {
-        self.shared.reserve()
-    }
-
     /// Makes no more entries: an allocation of some worker has failed. No other call depends on it, and none
     /// changes it.
     pub fn halt(&mut self)
@@ -69,13 +44,6 @@ impl Counted {
         ensures fits { EachPartStillFits self.old self.new }
     {
         self.shared.halt();
-    }
-
-    /// The invariant of every shared value: it stands for its journal, which is legal.
-    pub fn stands(&self)
-        ensures { IsSharedValue self.now }
-    {
-        self.shared.stands();
     }
 
     /// The shared value, to be read.

@@ -1,12 +1,10 @@
 // The shared value, and the totals of its journal's entries: each call makes one entry and counts it.
 #![tactic(auto)]
 
+mod calls;
 mod counted;
 mod counting;
 mod held_words;
-mod inner;
-mod leaf;
-mod steps;
 
 pub use counted::Counted;
 pub use heap_reading::{
@@ -14,6 +12,7 @@ pub use heap_reading::{
     Private, Program, Refused, RefusedAt, RunEnd, Settings, ToChunks, Version, copy, run_local,
 };
 pub use held_words::held;
+pub use legal_calls::LegalCalls;
 pub use shared_tree::{
     Fork, Leaving, Lent, NotEnded, NotEntered, NotRan, Pace, PreviousKind, Ran, Remains, Shared,
     fork_in, is_joined, marking_cause, waiting_cause,

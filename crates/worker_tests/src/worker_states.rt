@@ -9,8 +9,9 @@ ghost use Rattle.worker_run.specs.below.turn_entries.{ComesWith, GoesWith};
 
 use gc_pacer::Paced;
 use journal_replay::{
-    EmptyGate, End, Entry, Kind, Program, RunEnd, Settings, Shared, Version, World, held, replay,
+    EmptyGate, End, Entry, Kind, Program, RunEnd, Settings, Version, World, replay,
 };
+use run_statistics::{Counted, Shared, held};
 use std::alloc::Global;
 use std::sync::Wait;
 use trace_input::read_trace_input;
@@ -122,9 +123,9 @@ fn replayed(
     settings: Settings,
     entries: &[Entry],
 ) -> Option<RunEnd> {
-    match replay(alloc, program, settings, entries) {
+    match replay::<Counted>(alloc, program, settings, entries) {
         Ok(Ok(world)) => {
-            let shared = world.shared();
+            let shared = world.shared().shared();
             if is_told(shared, entries) {
                 shared.ended()
             } else {
@@ -320,7 +321,7 @@ fn two_seats_look(rt: HostRuntime) {
 
 // Whether a world has stopped at first, whether the end for spent fuel is refused there, and whether it has stopped
 // then.
-fn stops(mut world: World) -> (bool, bool, bool) {
+fn stops(mut world: World<Counted>) -> (bool, bool, bool) {
     let before = world.has_stopped();
     let refused = world.apply(Entry::new(0, Kind::Fuel)).is_err();
     (before, refused, world.has_stopped())
@@ -330,7 +331,7 @@ fn stops(mut world: World) -> (bool, bool, bool) {
 fn a_world_stops_at_a_refused_entry(rt: HostRuntime) {
     let settings = Settings::new(Version::One, 2, 1_000_000, 4096, 16, 8192);
     let told = match read_trace_input(rt.alloc(), COLLECTS.as_bytes()) {
-        Ok(input) => match World::start(rt.alloc(), &input.program, settings) {
+        Ok(input) => match World::<Counted>::start(rt.alloc(), &input.program, settings) {
             Ok(world) => Some(stops(world)),
             Err(_) => None,
         },

@@ -1,2 +1,3 @@
 -- Re-exports from `heap_reading` for the crates above.
-pub use Rattle.run_statistics.proofs.below.heap_reading.{handed_held, same_machine}
+pub use Rattle.heap_reading.proofs.KeptNames.{handed_held}
+pub use Rattle.heap_reading.proofs.TreeNow.{same_machine}

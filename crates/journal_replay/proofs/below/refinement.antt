@@ -1,2 +1,2 @@
 -- Re-exports from `refinement` for the crates above.
-pub use Rattle.run_statistics.proofs.below.refinement.{held_object, object_held}
+pub use Rattle.heap_reading.proofs.below.refinement.{held_object, object_held}

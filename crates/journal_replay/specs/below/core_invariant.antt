@@ -1,2 +1,2 @@
 -- Re-exports from `core_invariant` for the crates above.
-pub use Rattle.run_statistics.specs.below.core_invariant.{IsSharedValue, SharedValue, accounts, value_of, without_journal}
+pub use Rattle.heap_reading.specs.below.core_invariant.{IsSharedValue, SharedValue, accounts, value_of, without_journal}

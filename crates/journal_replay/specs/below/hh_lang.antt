@@ -1,2 +1,2 @@
 -- Re-exports from `hh_lang` for the crates above.
-pub use Rattle.run_statistics.specs.below.hh_lang.{ProgramText}
+pub use Rattle.heap_reading.specs.below.hh_lang.{ProgramText}

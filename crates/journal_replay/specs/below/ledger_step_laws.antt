@@ -1,2 +1,2 @@
 -- Re-exports from `ledger_step_laws` for the crates above.
-pub use Rattle.run_statistics.specs.below.ledger_step_laws.{Rests}
+pub use Rattle.heap_reading.specs.below.ledger_step_laws.{Rests}

@@ -1,2 +1,2 @@
 -- Re-exports from `object_layout` for the crates above.
-pub use Rattle.run_statistics.specs.below.object_layout.{Located}
+pub use Rattle.heap_reading.specs.below.object_layout.{Located}

@@ -1,2 +1,2 @@
 -- Re-exports from `refinement` for the crates above.
-pub use Rattle.run_statistics.specs.below.refinement.{BelongingsStand, In, IsModelObject, Memory, LiesWithOwner, handed, object_name, objects}
+pub use Rattle.heap_reading.specs.below.refinement.{BelongingsStand, In, IsModelObject, Memory, LiesWithOwner, handed, object_name, objects}

@@ -1,2 +1,2 @@
 -- Re-exports from `run_trace` for the crates above.
-pub use Rattle.run_statistics.specs.below.run_trace.{SettingsValue}
+pub use Rattle.heap_reading.specs.below.run_trace.{SettingsValue}

@@ -3,6 +3,6 @@ use Rattle.journal_replay.proofs.Making.{apart_made}
 use Rattle.journal_replay.proofs.apply_chunk.apply_chunk.Goals as goal
 
 pub returns-in-Err : goal.returns-in-Err
-returns-in-Err c =
-    apart_made c.args.shared.now c.args.worker _ c.args.holding c.in-Err.apart.holding c.in-Err.apart.cause c.made.result c.made.ensures c.in-Err.ensures.back c.requires.holds
-    (chunk_apart c.args.shared.now c.args.worker c.stands.ensures c.requires.first c.args.t c.args.holding c.in-Err.apart.cause c.requires.holds c.in-Err.ensures.cause)
+returns-in-Err g c =
+    apart_made (g.S.LegalCalls.value c.args.shared.now) c.args.worker _ c.args.holding c.in-Err.apart.holding c.in-Err.apart.cause c.made.result c.made.ensures c.in-Err.ensures.back c.requires.holds
+    (chunk_apart (g.S.LegalCalls.value c.args.shared.now) c.args.worker c.stands.ensures c.requires.first c.args.t c.args.holding c.in-Err.apart.cause c.requires.holds c.in-Err.ensures.cause)

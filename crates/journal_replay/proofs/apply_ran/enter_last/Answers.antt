@@ -1,11 +1,11 @@
-use Rattle.journal_replay.proofs.Common.{◌≡◌, ◌<◌, ℕ, false, None, subst, Private, first_cause, WorkerPartFits, SharedValue, GoesAlone, HaltsAlone, IsShared, alone_entry, alone_free, LeavesBy, LeavesPart, LentTo, before_same, then_same, MakesFor}
-use Rattle.journal_replay.proofs.Making.{goes_made, halts_made, ran_fails}
+use Rattle.journal_replay.proofs.Common.{◌≡◌, ◌<◌, ℕ, false, None, subst, Private, first_cause, WorkerPartFits, SharedValue, GoesAlone, HaltsAlone, IsShared, alone_entry, alone_free, LeavesBy, LeavesPart, LentTo, MakesFor}
+use Rattle.journal_replay.proofs.Making.{goes_made, halts_made, leaves_before, leaves_still, ran_fails}
 use Rattle.journal_replay.proofs.apply_ran.enter_last.Goals as goal
 
 pub returns-in-Ok-Goes : goal.returns-in-Ok-Goes
-returns-in-Ok-Goes c =
-    let w : SharedValue = c.args.shared.now in
-    let v : SharedValue = c.ran_lent.new.self in
+returns-in-Ok-Goes g c =
+    let w : SharedValue = g.S.LegalCalls.value c.args.shared.now in
+    let v : SharedValue = g.S.LegalCalls.value c.ran_lent.new.self in
     let k : ℕ = c.args.worker in
     let p : Private = c.args.part in
     let q : Private = c.ran_lent.new.part in
@@ -13,9 +13,9 @@ returns-in-Ok-Goes c =
     goes_made w v k p q c.requires.idle c.in-Ok-Goes.ensures.refused a
 
 pub returns-in-Ok-Over : goal.returns-in-Ok-Over
-returns-in-Ok-Over c =
-    let w : SharedValue = c.args.shared.now in
-    let v : SharedValue = c.ran_lent.new.self in
+returns-in-Ok-Over g c =
+    let w : SharedValue = g.S.LegalCalls.value c.args.shared.now in
+    let v : SharedValue = g.S.LegalCalls.value c.ran_lent.new.self in
     let k : ℕ = c.args.worker in
     let p : Private = c.args.part in
     let q : Private = c.ran_lent.new.part in
@@ -23,79 +23,79 @@ returns-in-Ok-Over c =
     halts_made w v k p q c.requires.idle c.in-Ok-Over.ensures.refused a
 
 pub enter_leaving-requires-clause-room : goal.enter_leaving-requires-clause-room
-enter_leaving-requires-clause-room c =
-    let w : SharedValue = c.args.shared.now in
-    let v : SharedValue = c.ran_lent.new.self in
+enter_leaving-requires-clause-room g c =
+    let w : SharedValue = g.S.LegalCalls.value c.args.shared.now in
+    let v : SharedValue = g.S.LegalCalls.value c.ran_lent.new.self in
     let k : ℕ = c.args.worker in
     let p : Private = c.args.part in
     let q : Private = c.ran_lent.new.part in
     let a : LeavesPart w v p q c.in-Ok-Leaves.leaving = subst (LentTo w v k p q) c.in-Ok-Leaves.field-0-is c.in-Ok-Leaves.ensures.answered in
-    then_same w v p q a.same a.part (λ (z : SharedValue) (r : Private). 0 < z.journal.room) c.requires.room
+    leaves_still w v p q c.in-Ok-Leaves.leaving a (λ (z : SharedValue) (r : Private). 0 < z.journal.room) c.requires.room
 
 pub enter_leaving-requires-clause-first : goal.enter_leaving-requires-clause-first
-enter_leaving-requires-clause-first c =
-    let w : SharedValue = c.args.shared.now in
-    let v : SharedValue = c.ran_lent.new.self in
+enter_leaving-requires-clause-first g c =
+    let w : SharedValue = g.S.LegalCalls.value c.args.shared.now in
+    let v : SharedValue = g.S.LegalCalls.value c.ran_lent.new.self in
     let k : ℕ = c.args.worker in
     let p : Private = c.args.part in
     let q : Private = c.ran_lent.new.part in
     let a : LeavesPart w v p q c.in-Ok-Leaves.leaving = subst (LentTo w v k p q) c.in-Ok-Leaves.field-0-is c.in-Ok-Leaves.ensures.answered in
-    then_same w v p q a.same a.part (λ (z : SharedValue) (r : Private). first_cause z.end z.steps z.settings k false ≡ None) c.requires.first
+    leaves_still w v p q c.in-Ok-Leaves.leaving a (λ (z : SharedValue) (r : Private). first_cause z.end z.steps z.settings k false ≡ None) c.requires.first
 
 pub enter_leaving-requires-clause-fits : goal.enter_leaving-requires-clause-fits
-enter_leaving-requires-clause-fits c =
-    let w : SharedValue = c.args.shared.now in
-    let v : SharedValue = c.ran_lent.new.self in
+enter_leaving-requires-clause-fits g c =
+    let w : SharedValue = g.S.LegalCalls.value c.args.shared.now in
+    let v : SharedValue = g.S.LegalCalls.value c.ran_lent.new.self in
     let k : ℕ = c.args.worker in
     let p : Private = c.args.part in
     let q : Private = c.ran_lent.new.part in
     let a : LeavesPart w v p q c.in-Ok-Leaves.leaving = subst (LentTo w v k p q) c.in-Ok-Leaves.field-0-is c.in-Ok-Leaves.ensures.answered in
-    then_same w v p q a.same a.part (λ (z : SharedValue) (r : Private). WorkerPartFits z k r) c.requires.fits
+    leaves_still w v p q c.in-Ok-Leaves.leaving a (λ (z : SharedValue) (r : Private). WorkerPartFits z k r) c.requires.fits
 
 pub enter_leaving-requires-clause-idle : goal.enter_leaving-requires-clause-idle
-enter_leaving-requires-clause-idle c =
-    let w : SharedValue = c.args.shared.now in
-    let v : SharedValue = c.ran_lent.new.self in
+enter_leaving-requires-clause-idle g c =
+    let w : SharedValue = g.S.LegalCalls.value c.args.shared.now in
+    let v : SharedValue = g.S.LegalCalls.value c.ran_lent.new.self in
     let k : ℕ = c.args.worker in
     let p : Private = c.args.part in
     let q : Private = c.ran_lent.new.part in
     let a : LeavesPart w v p q c.in-Ok-Leaves.leaving = subst (LentTo w v k p q) c.in-Ok-Leaves.field-0-is c.in-Ok-Leaves.ensures.answered in
-    then_same w v p q a.same a.part (λ (z : SharedValue) (r : Private). r.begun ≡ None) c.requires.idle
+    leaves_still w v p q c.in-Ok-Leaves.leaving a (λ (z : SharedValue) (r : Private). r.begun ≡ None) c.requires.idle
 
 pub enter_leaving-requires-clause-shared : goal.enter_leaving-requires-clause-shared
-enter_leaving-requires-clause-shared c =
-    let w : SharedValue = c.args.shared.now in
-    let v : SharedValue = c.ran_lent.new.self in
+enter_leaving-requires-clause-shared g c =
+    let w : SharedValue = g.S.LegalCalls.value c.args.shared.now in
+    let v : SharedValue = g.S.LegalCalls.value c.ran_lent.new.self in
     let k : ℕ = c.args.worker in
     let p : Private = c.args.part in
     let q : Private = c.ran_lent.new.part in
     let a : LeavesPart w v p q c.in-Ok-Leaves.leaving = subst (LentTo w v k p q) c.in-Ok-Leaves.field-0-is c.in-Ok-Leaves.ensures.answered in
-    then_same w v p q a.same a.part (λ (z : SharedValue) (r : Private). IsShared z r) c.requires.shared
+    leaves_still w v p q c.in-Ok-Leaves.leaving a (λ (z : SharedValue) (r : Private). IsShared z r) c.requires.shared
 
 pub enter_leaving-requires-clause-leaves : goal.enter_leaving-requires-clause-leaves
-enter_leaving-requires-clause-leaves c =
-    let w : SharedValue = c.args.shared.now in
-    let v : SharedValue = c.ran_lent.new.self in
+enter_leaving-requires-clause-leaves g c =
+    let w : SharedValue = g.S.LegalCalls.value c.args.shared.now in
+    let v : SharedValue = g.S.LegalCalls.value c.ran_lent.new.self in
     let k : ℕ = c.args.worker in
     let p : Private = c.args.part in
     let q : Private = c.ran_lent.new.part in
     let a : LeavesPart w v p q c.in-Ok-Leaves.leaving = subst (LentTo w v k p q) c.in-Ok-Leaves.field-0-is c.in-Ok-Leaves.ensures.answered in
-    then_same w v p q a.same a.part (λ (z : SharedValue) (r : Private). LeavesBy z r c.in-Ok-Leaves.leaving) a.leaves
+    leaves_still w v p q c.in-Ok-Leaves.leaving a (λ (z : SharedValue) (r : Private). LeavesBy z r c.in-Ok-Leaves.leaving) a.leaves
 
 pub returns-in-Ok-Leaves : goal.returns-in-Ok-Leaves
-returns-in-Ok-Leaves c =
-    let w : SharedValue = c.args.shared.now in
-    let v : SharedValue = c.ran_lent.new.self in
+returns-in-Ok-Leaves g c =
+    let w : SharedValue = g.S.LegalCalls.value c.args.shared.now in
+    let v : SharedValue = g.S.LegalCalls.value c.ran_lent.new.self in
     let k : ℕ = c.args.worker in
     let p : Private = c.args.part in
     let q : Private = c.ran_lent.new.part in
     let a : LeavesPart w v p q c.in-Ok-Leaves.leaving = subst (LentTo w v k p q) c.in-Ok-Leaves.field-0-is c.in-Ok-Leaves.ensures.answered in
-    before_same w v p q a.same a.part (λ (z : SharedValue) (r : Private). MakesFor z c.enter_leaving.new.shared k (alone_entry k r) c.enter_leaving.result) c.enter_leaving.ensures
+    leaves_before w v p q c.in-Ok-Leaves.leaving a (λ (z : SharedValue) (r : Private). MakesFor z (g.S.LegalCalls.value c.enter_leaving.new.shared) k (alone_entry k r) c.enter_leaving.result) c.enter_leaving.ensures
 
 pub returns-in-Err : goal.returns-in-Err
-returns-in-Err c =
-    let w : SharedValue = c.args.shared.now in
-    let v : SharedValue = c.ran_lent.new.self in
+returns-in-Err g c =
+    let w : SharedValue = g.S.LegalCalls.value c.args.shared.now in
+    let v : SharedValue = g.S.LegalCalls.value c.ran_lent.new.self in
     let k : ℕ = c.args.worker in
     let p : Private = c.args.part in
     let q : Private = c.ran_lent.new.part in

@@ -18,7 +18,7 @@ first_hold : (w : SharedValue) (n : ℕ) → w.journal.items ≡ [] → AllHold 
 first_hold w n none k h at = subst (λ (x : OutPart). WorkerHolds w false k x) (each_nothing n k h at) (holds_none w k none)
 
 pub invariant_of-result : goal.invariant_of-result
-invariant_of-result c = record {
+invariant_of-result g c = record {
   count = ap length c.in_ok-holdings.ensures ∙ (as_many c.workers.result ∙ (c.workers.ensures.value ∙ ap (λ (s : SettingsValue). s.workers) (sym c.in_ok-shared.ensures.settings)));
-  holdings = subst (λ (hs : List OutPart). AllHold c.in_ok-shared.shared false hs) (sym c.in_ok-holdings.ensures) (first_hold c.in_ok-shared.shared c.workers.result c.in_ok-shared.ensures.journal);
+  holdings = subst (λ (hs : List OutPart). AllHold (g.S.LegalCalls.value c.in_ok-shared.shared) false hs) (sym c.in_ok-holdings.ensures) (first_hold (g.S.LegalCalls.value c.in_ok-shared.shared) c.workers.result c.in_ok-shared.ensures.journal);
 }

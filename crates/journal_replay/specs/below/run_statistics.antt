@@ -1,2 +1,0 @@
--- Re-exports from `run_statistics` for the crates above.
-pub use Rattle.run_statistics.specs.JournalCounts.{totals_of}
