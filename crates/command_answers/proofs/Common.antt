@@ -8,12 +8,12 @@ pub use Rattle.command_answers.specs.Laws.{WriteTheSame, ModelWritesTheSame, Giv
 pub use Rattle.command_answers.specs.Runs.{IsWholeRun, ReturnsRun, IsReplayedRun, LeavesPrefix, LeavesPaced}
 pub use Rattle.command_answers.specs.declared.answer.Answer.{Answer}
 pub use Rattle.command_answers.specs.declared.answer.CallResult.{CallResult}
-pub use Rattle.command_answers.specs.declared.answer.CommandStatus.{CommandStatus}
 pub use Rattle.command_answers.specs.declared.answer.CommandStatus.TheVariants.{ReadFault, Trap, WriteFault}
-pub use Rattle.command_answers.specs.declared.wanted.Wanted.{Wanted}
+pub use Rattle.command_answers.specs.declared.answer.CommandStatus.{CommandStatus}
 pub use Rattle.command_answers.specs.declared.wanted.Wanted.TheVariants.{Before, Amid}
-pub use Rattle.command_line.specs.declared.line.CommandLine.{CommandLine}
+pub use Rattle.command_answers.specs.declared.wanted.Wanted.{Wanted}
 pub use Rattle.command_line.specs.declared.line.CommandLine.TheVariants.{Check, Run, Replay, Model, Races, Make, Verify}
+pub use Rattle.command_line.specs.declared.line.CommandLine.{CommandLine}
 pub use Rattle.command_line.specs.declared.line.Options.{Options}
 pub use Rattle.journal_replay.proofs.below.heap_reading.{handed_held, same_machine}
 pub use Rattle.journal_replay.proofs.below.ledger_step_laws.{split_leaves}
@@ -23,15 +23,18 @@ pub use Rattle.journal_replay.specs.WorldValue.{WorldValue}
 pub use Rattle.journal_replay.specs.below.core_invariant.{SharedValue, IsSharedValue, accounts, value_of, without_journal}
 pub use Rattle.journal_replay.specs.below.ledger_step_laws.{Rests}
 pub use Rattle.journal_replay.specs.below.refinement.{BelongingsStand, In, Memory, object_name, handed}
-pub use Rattle.journal_replay.specs.declared.replaying.ReplayStop.{ReplayStop}
 pub use Rattle.journal_replay.specs.declared.replaying.ReplayStop.TheVariants.{NoMemory}
+pub use Rattle.journal_replay.specs.declared.replaying.ReplayStop.{ReplayStop}
 pub use Rattle.made_program_laws.proofs.Made.{made_are_programs}
 pub use Rattle.made_program_laws.proofs.below.program_make.{made_are_short}
+pub use Rattle.made_program_laws.proofs.below.round_trip_laws.{recorded_inputs_are_read}
 pub use Rattle.made_program_laws.specs.below.hh_lang.{ProgramText, IsProgram, program_limit}
 pub use Rattle.made_program_laws.specs.below.program_make.{made_text}
 pub use Rattle.made_program_laws.specs.below.program_reader.{TextFault, reading_of, program_of}
+pub use Rattle.made_program_laws.specs.below.round_trip_laws.{TraceFollows, IsReadAsTrace}
 pub use Rattle.made_program_laws.specs.below.run_trace.{EntryValue, SettingsValue, AreTraceLines, Version, Trace, field_limit, Two, trace_text, Kind, Took, Ran, Chunk, Begin, PutOff, Mark, More, Sweep, usual_settings}
 pub use Rattle.made_program_laws.specs.below.text_lines.{lines_of, most_bytes}
+pub use Rattle.made_program_laws.specs.below.trace_input.{InputFault, TraceInput, trace_lines, IsInput, input_fault, settings_for, Source, BadLine, too_long}
 pub use Rattle.race_report.proofs.Raceless.{raceless_journals_are_disentangled}
 pub use Rattle.race_report.proofs.below.hh_model.{run_on}
 pub use Rattle.race_report.proofs.below.journal_laws.{held_is_undropped, fewer_steps_are_legal}
@@ -49,11 +52,8 @@ pub use Rattle.read_write_all.specs.below.io_traits.{with_more}
 pub use Rattle.refusal_lines.proofs.below.run_report.{whole_text, report_shown}
 pub use Rattle.refusal_lines.specs.Refusals.{refusal_of}
 pub use Rattle.refusal_lines.specs.below.run_report.{Extras, report_from, totals_from, report_part}
-pub use Rattle.refusal_lines.specs.declared.refusal.Refusal.{Refusal}
 pub use Rattle.refusal_lines.specs.declared.refusal.Refusal.TheVariants.{Words, Line, Entry, Image}
-pub use Rattle.made_program_laws.proofs.below.round_trip_laws.{recorded_inputs_are_read}
-pub use Rattle.made_program_laws.specs.below.round_trip_laws.{TraceFollows, IsReadAsTrace}
-pub use Rattle.made_program_laws.specs.below.trace_input.{InputFault, TraceInput, trace_lines, IsInput, input_fault, settings_for, Source, BadLine, too_long}
+pub use Rattle.refusal_lines.specs.declared.refusal.Refusal.{Refusal}
 pub use Rattle.run_statistics.specs.JournalCounts.{totals_of}
 pub use Rattle.shared_image.proofs.below.heap_image.{sound_is_faultless}
 pub use Rattle.shared_image.specs.Held.{HasJustHeld}

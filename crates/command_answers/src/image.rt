@@ -41,7 +41,8 @@ fn answer_trace(alloc: Global, settings: Settings, read: &TraceInput) -> Result<
     let replayed = replay::<Counted>(alloc, program, settings, trace.entries.as_slice())?;
     match replayed {
         Ok(world) => {
-            let answer = answer_made(alloc, world.shared().shared());
+            let counted = world.shared();
+            let answer = answer_made(alloc, counted.shared());
             drop(world);
             answer
         }

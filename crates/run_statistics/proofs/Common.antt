@@ -2,8 +2,8 @@
 pub use Rattle.entry_calls.specs.Calls.{GetsChunk, EndsForFuel, BeginsLeaf, EndsLeaf, BeginsMarking, MarksMore, PutsOff, EntersLeaving, EntersLent, EntersSteps, SweepsHeap, TakesTask}
 pub use Rattle.entry_calls.specs.Ran.{LentTo, RanTo, LeavesBy, LeavesPart}
 pub use Rattle.entry_calls.specs.declared.answers.Leaving.{Leaving}
-pub use Rattle.entry_calls.specs.declared.answers.Lent.{Lent}
 pub use Rattle.entry_calls.specs.declared.answers.Lent.TheVariants.{Goes, Leaves}
+pub use Rattle.entry_calls.specs.declared.answers.Lent.{Lent}
 pub use Rattle.entry_calls.specs.declared.answers.Ran.TheVariants.{Forked, Ended, Over, Done}
 pub use Rattle.heap_reading.proofs.KeptNames.{counted_few, counted_more, task_slots_few, kept_before, kept_task_slots, kept_more, objects_few, words_few, none_of, nothing_kept, objects_are, runs_is, words_kept}
 pub use Rattle.heap_reading.proofs.below.core_invariant.{words_are}
@@ -14,7 +14,7 @@ pub use Rattle.heap_reading.proofs.below.plain_vec.{In, contains_from_in, none_s
 pub use Rattle.heap_reading.proofs.below.refinement.{at_belongings}
 pub use Rattle.heap_reading.proofs.below.run_ledger.{legal_then, none_is, entries_leave_others, held_is, left_step, heap_off, heap_view, tasks_are_out_once, collecting_is, entry_tells, legal_sound, none_unless, none_where, out_tells, wait_tells, task_step_sound, task_steps_sound, names_are_held_once, heap_machine, heaps_fit, use_is_bounded}
 pub use Rattle.heap_reading.specs.HeldNames.{held_unless_running, is_state_running}
-pub use Rattle.heap_reading.specs.below.core_invariant.{NotEntered, NoMemory, Refuses, Enters, refused, WorkerPartFits, IsSharedValue, SharedValue, accounts, belongings_of_part, value_of, rest_at}
+pub use Rattle.heap_reading.specs.below.core_invariant.{NotEntered, NoMemory, Refuses, Enters, FitsFirst, refused, WorkerPartFits, IsSharedValue, SharedValue, accounts, belongings_of_part, value_of, rest_at}
 pub use Rattle.heap_reading.specs.below.heap_tree.{TaskNode, state_of}
 pub use Rattle.heap_reading.specs.below.hh_lang.{ProgramText}
 pub use Rattle.heap_reading.specs.below.hh_model.{Name, MachineState, object_at, asked, can_step, is_running, is_waiting, step}

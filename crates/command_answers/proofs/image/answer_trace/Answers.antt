@@ -6,7 +6,7 @@ use Rattle.command_answers.proofs.image.answer_trace.Goals as goal
 
 pub returns-in-Ok : goal.returns-in-Ok
 returns-in-Ok c =
-    let is = c.shared.ensures in
+    let is = c.shared.ensures ∙ c.shared-counted.ensures in
     let has : HasReplayed c.args.read.now.program c.with_version-settings.result c.as_slice.result.now c.in-Ok.world =
     subst (ReplayGives c.args.read.now.program c.with_version-settings.result c.as_slice.result.now) c.in-Ok.is c.in_ok-replayed.ensures in
     IfOk-weaker c.answer_made-answer.result _ _
