@@ -312,6 +312,44 @@ class Verdict:
                 if block in self.releases and self.releases[block][0] != strand and self.precedes(self.releases[block][0], strand):
                     self.stale_uses.append(act)
 
+    def ancestors(self, task):
+        """The task, its parent, and so on up to the root."""
+        line = [task]
+        while line[-1] != 0:
+            line.append(self.log.spawner[line[-1]][0])
+        return line
+
+    def depth(self, task):
+        return len(self.ancestors(task)) - 1
+
+    def home(self, block, strand):
+        """The depth of the heap that the block is in at a strand; None if its birth doesn't happen before."""
+        birth = self.log.births.get(block)
+        if birth is None or birth[0] not in self.reached:
+            return 0
+        if not self.precedes(birth[0], strand):
+            return None
+        above = self.ancestors(strand[0])
+        return max(self.depth(task) for task in self.ancestors(birth[0][0]) if task in above)
+
+    def names(self, act):
+        """The blocks that an act accesses or releases, or to which it reads or stores a reference."""
+        blocks = {act.numbers[0]} if act.letter in "rwRWgpf" else set()
+        return blocks | ({act.numbers[2]} - {0} if act.letter in "gp" else set())
+
+    def heaps(self):
+        """By depth the blocks, the words and the words of blocks that no other task names; stores, and those that lead down."""
+        depths = {}
+        for strand, act in self.acts():
+            if act.letter == "a":
+                block, words = act.numbers
+                others = any(other[0] != strand[0] and block in self.names(what) for other, what in self.acts())
+                row = depths.setdefault(self.depth(strand[0]), [0, 0, 0])
+                row[0], row[1], row[2] = row[0] + 1, row[1] + words, row[2] + (0 if others else words)
+        stores = [(self.home(act.numbers[0], strand), self.home(act.numbers[2], strand))
+                  for strand, act in self.acts() if act.letter == "p" and act.numbers[2] != 0]
+        return depths, len(stores), sum(1 for upper, lower in stores if None not in (upper, lower) and upper < lower)
+
     def weigh(self, leads):
         weight = {s: sum(a.numbers[0] for a in self.log.strands.get(s, []) if a.letter == "k") for s in self.reached}
         best = {}

@@ -1,10 +1,11 @@
 #!/usr/bin/env python3
-"""compare.py PROGRAM.. [--logs N] [--seed S]    compares checkers of logs with brute force, on N random logs (20,000).
+"""compare.py PROGRAM.. [--logs N] [--seed S] [--heaps]    compares checkers of logs with brute force, on N random logs (20,000).
 
 Each PROGRAM is called as `PROGRAM check [--all] FILE..`: bench/logs/peer.rs built, or hhlog. Its status must be that of the
 definition. With --all each racing location stands on a line, with its first access that races and one that it races with.
 Without, the merged lines count the same locations. Refusals must name the same line or task. Work, span and the numbers of
-entangled and stale uses must agree. What differs is printed with the seed of its log; the status is then 1.
+entangled and stale uses must agree. With --heaps each log is also checked with that option, whose lines must be those of the
+definition (the peer doesn't have it). What differs is printed with the seed of its log; the status is then 1.
 """
 import argparse
 import random
@@ -20,6 +21,8 @@ RACE = re.compile(r"race (\d+) (\d+): (.*) line (\d+):(\d+), (.*) line (\d+):(\d
 MERGED = re.compile(r"race (\d+) (\d+) (\d+): .*, .*; locations (\d+)\Z")
 WORK = re.compile(r"work (\d+) span (\d+) parallelism ")
 END = re.compile(r"end: races (\d+) reads (\d+) uses (\d+) stale (\d+)(?: cut (\d+))?\Z")
+HEAP_DEPTH = re.compile(r"heaps depth (\d+) blocks (\d+) words (\d+) own (\d+)\Z")
+HEAP_STORES = re.compile(r"heaps stores (\d+) down (\d+)\Z")
 REFUSED = re.compile(r"end: log refused (?:line (\d+):(\d+)|task (\d+)) ([a-z-]+)\Z")
 # hhlog names the file and says the cause in words, and a task's fault with the last line of the strand at fault.
 REFUSED_LINE = re.compile(r"end: log refused \S*log\.(\d+) line (\d+): (?!task \d)(.*)\Z")
@@ -141,7 +144,19 @@ def check_end(verdict, lines):
     expect("what is left out", left_out, str(verdict.left_out) if verdict.is_cut else None)
 
 
-def check(program, files, verdict, refused, folder):
+def check_heaps(verdict, lines, without):
+    """The lines of --heaps: those without it, and between the last two those on heaps."""
+    end = next(at for at, line in enumerate(lines) if HEAP_STORES.match(line))
+    start = next(at for at, line in enumerate(lines) if line.startswith("heaps "))
+    expect("the other lines", lines[:start] + lines[end + 1:], without)
+    expect("the place of the lines on heaps", end, len(lines) - 2)
+    depths, stores, down = verdict.heaps()
+    expect("the depths", [HEAP_DEPTH.match(line).groups() for line in lines[start:end]],
+           [tuple(map(str, (depth, *depths[depth]))) for depth in sorted(depths)])
+    expect("the stores", HEAP_STORES.match(lines[end]).groups(), (str(stores), str(down)))
+
+
+def check(program, files, verdict, refused, folder, heaps):
     site_names = learn_names(files)
     names = []
     for at, data in enumerate(files):
@@ -157,7 +172,16 @@ def check(program, files, verdict, refused, folder):
         check_end(verdict, lines)
         if options:
             check_merged(check_all(verdict, site_names, lines), merged)
+        else:
+            plain = lines
         merged = lines
+    if heaps:
+        status, lines = call(program, names, "--heaps")
+        if refused:
+            check_refusal(refused, status, lines)
+        else:
+            expect("the status with heaps", status, verdict.status())
+            check_heaps(verdict, lines, plain)
 
 
 def without_releases(data):
@@ -169,13 +193,14 @@ def main():
     words.add_argument("programs", nargs="+")
     words.add_argument("--logs", type=int, default=20000)
     words.add_argument("--seed", type=int, default=0)
+    words.add_argument("--heaps", action="store_true")
     words.add_argument("--without-releases", action="store_true")
     words = words.parse_args()
     counts = {"refused": 0, "cut": 0, "with a finding": 0}
     differ = 0
     with tempfile.TemporaryDirectory(dir="/dev/shm" if sys.platform == "linux" else None) as folder:
         for seed in range(words.seed, words.seed + words.logs):
-            files = random_logs.random_log(random.Random(seed))
+            files = random_logs.random_log(random.Random(seed), words.heaps)
             if words.without_releases:
                 files = [without_releases(data) for data in files]
             verdict = refused = None
@@ -188,7 +213,7 @@ def main():
                 counts["refused"] += 1
             for program in words.programs:
                 try:
-                    check(program, files, verdict, refused, folder)
+                    check(program, files, verdict, refused, folder, words.heaps)
                 except Differs as differs:
                     differ += 1
                     print(f"seed {seed}: {program}: {differs}")

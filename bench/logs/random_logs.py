@@ -2,7 +2,8 @@
 """random_logs.py SEED FOLDER    writes a random log of a nested fork-join program, one file a thread, into a folder.
 
 Half of the logs are cut: files end anywhere, some with the zeros of a mapped file's tail. Some have a fault. Children are
-joined in any order, strands come in pieces, and pieces stand in any order over all files. compare.py uses `random_log`.
+joined in any order, strands come in pieces, and pieces stand in any order over all files. compare.py uses `random_log`; for
+heaps half of the acts are births and stored references.
 """
 import os
 import random
@@ -10,8 +11,8 @@ import sys
 
 
 class Maker:
-    def __init__(self, rng):
-        self.rng = rng
+    def __init__(self, rng, heaps=False):
+        self.rng, self.heaps = rng, heaps
         self.numbers = list(range(1, 40))
         rng.shuffle(self.numbers)
         self.budget = rng.randrange(1, 12)
@@ -21,6 +22,8 @@ class Maker:
         self.scale = rng.choice([1, 1, 1, 2, 8])      # all places are multiples of it, but for a few
         self.references = rng.random() < 0.5
         self.strands = []
+        if heaps:
+            self.blocks = rng.randrange(2, 9)
 
     def place(self):
         rng = self.rng
@@ -38,15 +41,25 @@ class Maker:
     def site(self):
         return f" @{self.rng.randrange(4)}" if self.rng.random() < 0.6 else ""
 
+    def heap_act(self):
+        """A birth, or a reference that is stored."""
+        block = self.rng.randrange(1, self.blocks + 1)
+        if block not in self.born and self.rng.random() < 0.7:
+            self.born.add(block)
+            return f"a {block} {8191 + block}"
+        return f"p {block} {self.rng.randrange(2)} {self.rng.randrange(self.blocks + 1)}"
+
     def act(self):
         rng = self.rng
+        if self.heaps and rng.random() < 0.5:
+            return self.heap_act()
         kind = rng.random()
         block = rng.randrange(1, self.blocks + 1)
         if kind < 0.12:
             return f"k {rng.randrange(20)}"
         if kind < 0.18 and block not in self.born:
             self.born.add(block)
-            return f"a {block} 8192"
+            return f"a {block} {8191 + block}"
         if kind < 0.22 and block not in self.freed:
             self.freed.add(block)
             return f"f {block}"
@@ -135,9 +148,9 @@ def spoil(rng, lines):
         lines[at] = " ".join(words)
 
 
-def random_log(rng):
+def random_log(rng, heaps=False):
     """The bytes of a log's files."""
-    maker = Maker(rng)
+    maker = Maker(rng, heaps)
     maker.task(0)
     files = maker.files()
     if rng.random() < 0.15:

@@ -7,7 +7,7 @@ module _ (tasks : LogTasks) (events : List Event) (walk : WalkValue) (known : Li
   pub serial : IsSerialOrder (tasks_in tasks.turns) walk.order
   serial = subst (λ (rows : List (List GraphTurn)). IsSerialOrder (tasks_in rows) walk.order) scene.turns (walk_is_serial walk scene.walked)
 
-  same_event : (n : ℕ) (e f : Event) → slice_get events n ≡ Some e → slice_get events n ≡ Some f → e ≡ f
+  pub same_event : (n : ℕ) (e f : Event) → slice_get events n ≡ Some e → slice_get events n ≡ Some f → e ≡ f
   same_event n e f g h = same_Some e f (sym g ∙ h)
 
   -- the act that is known of a block is the only one
@@ -44,15 +44,15 @@ module _ (tasks : LogTasks) (events : List Event) (walk : WalkValue) (known : Li
         nowhere all.0 (record { strand = v; at = all.1; known = d.known; is = ap (λ (x : Event). x.strand) same })
 
     module _ (place : ℕ) (stands : StrandStandsAt tasks walk.order s place) where
-      seen_block : (b : ℕ) (v : GraphStrand) → DoesToBlock sees events tasks b n v → sees a ≡ Some b
+      pub seen_block : (b : ℕ) (v : GraphStrand) → DoesToBlock sees events tasks b n v → sees a ≡ Some b
       seen_block b v d = ap (λ (x : Event). sees x.act) (same_event n (event s a) (event (log_strand tasks.numbers v) d.act) at d.at) ∙ d.block
 
-      seen_strand : (b : ℕ) (v : GraphStrand) → DoesToBlock sees events tasks b n v → stands.strand ≡ v
+      pub seen_strand : (b : ℕ) (v : GraphStrand) → DoesToBlock sees events tasks b n v → stands.strand ≡ v
       seen_strand b v d =
           one_strand tasks scene.ascending scene.size stands.strand v stands.known d.known
           (stands.is ∙ ap (λ (x : Event). x.strand) (same_event n (event s a) (event (log_strand tasks.numbers v) d.act) at d.at))
 
-      see : (b : ℕ) → sees a ≡ Some b → DoesToBlock sees events tasks b n stands.strand
+      pub see : (b : ℕ) → sees a ≡ Some b → DoesToBlock sees events tasks b n stands.strand
       see b e = at_done sees tasks walk.order events serial b n place (record { event = event s a; at = at; block = e; stands = stands })
 
       module _ (does : Act → Option ℕ) (table : BlockLines) (know : Know does tasks walk.order events (length events) table) (once : IsDoneOnce does events)

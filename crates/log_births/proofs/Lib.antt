@@ -1,11 +1,12 @@
-mod Parts
+pub mod Parts
 mod Noting
 mod Accepted
-mod Standing
-mod Adding
-mod Answering
-mod Whole
-mod Going
-mod Making
+pub mod Standing
+pub mod Adding
+pub mod Answering
+pub mod Whole
+pub mod Going
+pub mod Making
 mod Telling
 mod Common
+pub mod below

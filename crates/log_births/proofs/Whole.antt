@@ -14,10 +14,10 @@ module _ (tasks : LogTasks) (events : List Event) (walk : WalkValue) (known : Li
         ∙ ap (λ (x : GraphStrand). StrandPrecedes (tasks_in tasks.turns) x (strand_at walk.order q)) (get_or_from_slice_get walk.order p u (strand 0 0) at_p)
         ∙ ap (λ (x : GraphStrand). StrandPrecedes (tasks_in tasks.turns) u x) (get_or_from_slice_get walk.order q v (strand 0 0) at_q)
 
-    precedes_by_position : PrecedesAt walk p q → StrandPrecedes (tasks_in tasks.turns) u v
+    pub precedes_by_position : PrecedesAt walk p q → StrandPrecedes (tasks_in tasks.turns) u v
     precedes_by_position h = subst (λ (X : Type 0). X) at_strands h
 
-    back : StrandPrecedes (tasks_in tasks.turns) u v → PrecedesAt walk p q
+    pub back : StrandPrecedes (tasks_in tasks.turns) u v → PrecedesAt walk p q
     back h = subst (λ (X : Type 0). X) (sym at_strands) h
 
     early : IsEarly walk p q ↔ (StrandPrecedes (tasks_in tasks.turns) u v → ⊥)

@@ -5,3 +5,4 @@ pub mod Checks
 pub mod Found
 pub mod Laws
 mod Common
+pub mod below

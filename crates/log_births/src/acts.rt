@@ -6,7 +6,7 @@ ghost use Rattle.log_births.specs.Blocks.{born, released, yielded, used};
 use log_strands::Act;
 
 /// The block that is born.
-pub(crate) fn born(act: Act) -> Option<u64>
+pub fn born(act: Act) -> Option<u64>
     ensures { result ≡ born act }
 {
     match act {
@@ -16,7 +16,7 @@ pub(crate) fn born(act: Act) -> Option<u64>
 }
 
 /// The block that is released.
-pub(crate) fn released(act: Act) -> Option<u64>
+pub fn released(act: Act) -> Option<u64>
     ensures { result ≡ released act }
 {
     match act {
@@ -36,7 +36,7 @@ pub(crate) fn yielded(act: Act) -> Option<u64>
 }
 
 /// The block that is accessed.
-pub(crate) fn used(act: Act) -> Option<u64>
+pub fn used(act: Act) -> Option<u64>
     ensures { result ≡ used act }
 {
     match act {

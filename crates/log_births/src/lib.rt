@@ -8,6 +8,8 @@ mod findings;
 mod laws;
 mod lines;
 
+pub use acts::{born, released, used};
 pub use find::{FindError, find_uses};
 pub use findings::{Finding, Findings};
 pub use laws::uses_tell_reads;
+pub use lines::{BlockLines, Lifetimes, LineAt, lifetimes_of};

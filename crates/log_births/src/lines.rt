@@ -19,14 +19,14 @@ use std::collections::HashMap;
 
 /// Where an act stands: the place of its strand in the serial order, and its number in the log.
 #[derive(Clone, Copy)]
-pub(crate) struct LineAt {
-    pub(crate) place: usize,
-    pub(crate) line: u32,
+pub struct LineAt {
+    pub place: usize,
+    pub line: u32,
 }
 
 /// For each block of some an act that does something to it.
 #[derive(Drop)]
-pub(crate) struct BlockLines {
+pub struct BlockLines {
     pub(crate) lines: HashMap<u64, LineAt>,
 }
 
@@ -50,7 +50,7 @@ impl BlockLines {
     }
 
     /// The act that does something to a block.
-    pub(crate) fn line(&self, block: u64) -> Option<LineAt>
+    pub fn line(&self, block: u64) -> Option<LineAt>
         ensures { result ≡ line_told self.now block }
     {
         self.lines.get(&block).copied()
@@ -59,9 +59,9 @@ impl BlockLines {
 
 /// The births and releases of blocks.
 #[derive(Drop)]
-pub(crate) struct Lifetimes {
-    pub(crate) births: BlockLines,
-    pub(crate) releases: BlockLines,
+pub struct Lifetimes {
+    pub births: BlockLines,
+    pub releases: BlockLines,
 }
 
 impl Lifetimes {
@@ -98,7 +98,7 @@ impl Lifetimes {
 }
 
 /// The births and releases of all blocks, by strands that have places.
-pub(crate) fn lifetimes_of(
+pub fn lifetimes_of(
     alloc: Global,
     texts: &[Listed<u8>],
     pieces: &[LogPiece],

@@ -25,7 +25,7 @@ files_for (Check view names) = names
 -- WHAT IS WRITTEN OF THEM
 
 abbrev pub usage : List ℕ
-usage = codes "usage: hhlog check FILE.. [--all] [--json] [--blocks N ..]\n"
+usage = codes "usage: hhlog check FILE.. [--all] [--json] [--heaps] [--blocks N ..]\n"
 
 abbrev pub words_line : List ℕ
 words_line = codes "end: words refused\n"

@@ -19,6 +19,8 @@ pub(crate) fn words_refusal(alloc: Global) -> Result<Reply, AllocError>
 pub(crate) fn usage(alloc: Global) -> Result<Reply, AllocError>
     ensures { IfOk result (Says AnswerStatus.Done usage) }
 {
-    let text = format!(in alloc; "usage: hhlog check FILE.. [--all] [--json] [--blocks N ..]\n")?;
+    let text = format!(in alloc;
+        "usage: hhlog check FILE.. [--all] [--json] [--heaps] [--blocks N ..]\n"
+    )?;
     Ok(Reply::of_text(AnswerStatus::Done, text))
 }

@@ -1,11 +1,12 @@
 -- What is reported of a log.
 use Rattle.std.specs.Prelude.{◌≡◌, ℕ, Bool, true, false, Option, Some, None, List, length, map, sum}
 use Rattle.std.specs.List.Sorted.{IsPermutation, IsNonDecreasingBy}
-use Rattle.log_walk.specs.Value.{WalkValue}
+use Rattle.log_heaps.specs.below.log_walk.{WalkValue}
 use Rattle.log_races.specs.below.log_verdict.{AreVerdicts}
 use Rattle.log_races.specs.Touches.{touches_of}
 use Rattle.log_births.specs.declared.findings.Findings.{Findings}
 use Rattle.log_births.specs.Findings.{AreFindings}
+use Rattle.log_heaps.specs.Heaps.{AreHeaps}
 use Rattle.log_weights.specs.declared.cost.Cost.{Cost}
 use Rattle.log_weights.specs.Weights.{weight_of, weights_of}
 use Rattle.log_weights.specs.below.ancestor_laws.{IsSpan, serial_order}
@@ -13,6 +14,7 @@ use Rattle.log_left.specs.Left.{HasLeftOut}
 use Rattle.log_left.specs.below.fork_graph.{GraphStrand, tasks_in}
 use Rattle.log_left.specs.below.log_form.{events_of}
 use Rattle.log_left.specs.below.log_tasks.{LogTasks}
+use Rattle.log_report.specs.declared.heaps.LogHeaps.{LogHeaps}
 use Rattle.log_report.specs.declared.told.ToldRace.{ToldRace}
 use Rattle.log_report.specs.declared.told.LogReport.{LogReport}
 use Rattle.log_report.specs.Told.{first_place}
@@ -50,8 +52,13 @@ abbrev pub IsLeftOutIf : Bool → List (List ℕ) → LogTasks → Option ℕ �
 IsLeftOutIf false texts tasks left = left ≡ None
 IsLeftOutIf true texts tasks left = (n : ℕ) × (left ≡ Some n) × HasLeftOut (events_of texts) tasks (order_of tasks) n
 
--- the report of a log with these texts and tasks, which was cut off or wasn't
-pub record IsReportOf (texts : List (List ℕ)) (tasks : LogTasks) (cut : Bool) (report : LogReport) : Type 0 where
+-- what a manager of hierarchical heaps would meet, where that is asked for
+abbrev pub AreHeapsIf : Bool → List (List ℕ) → LogTasks → Option LogHeaps → Type 0
+AreHeapsIf false texts tasks heaps = heaps ≡ None
+AreHeapsIf true texts tasks heaps = (h : LogHeaps) × (heaps ≡ Some h) × AreHeaps (events_of texts) tasks h
+
+-- the report of a log with these texts and tasks, which was cut off or wasn't, with heaps if they are asked for
+pub record IsReportOf (texts : List (List ℕ)) (tasks : LogTasks) (cut asked : Bool) (report : LogReport) : Type 0 where
   pub told : ToldFindings
   pub found : AreFindingsOf texts tasks told
   pub races : IsToldInOrder told.races report.races
@@ -59,4 +66,5 @@ pub record IsReportOf (texts : List (List ℕ)) (tasks : LogTasks) (cut : Bool) 
   pub uses : report.entangled_uses ≡ told.entangled_uses
   pub stale : report.stale_uses ≡ told.stale_uses
   pub cost : HasCost texts tasks report.work report.span
+  pub heaps : AreHeapsIf asked texts tasks report.heaps
   pub left : IsLeftOutIf cut texts tasks report.left_out

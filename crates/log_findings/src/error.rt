@@ -1,6 +1,7 @@
 // Why nothing is reported.
 
 use log_births::FindError;
+use log_heaps::HeapsError;
 use log_races::RacesError;
 use log_weights::CostError;
 use std::alloc::AllocError;
@@ -14,6 +15,8 @@ pub enum ReportError {
     TooManyStretches,
     /// Its work doesn't fit in 64 bits.
     TooMuchWork,
+    /// The words that tasks of one depth bear don't fit in 64 bits.
+    TooManyWords,
     /// Out of memory.
     NoMemory,
 }
@@ -68,6 +71,21 @@ impl From<CostError> for ReportError {
         match cause {
             CostError::TooMuchWork => ReportError::TooMuchWork,
             CostError::NoMemory => ReportError::NoMemory,
+        }
+    }
+}
+
+impl From<HeapsError> for ReportError {
+    ghost use Rattle.std.specs.Prelude.{◌≡◌};
+    ghost use Rattle.log_findings.specs.Errors.{of_heaps};
+
+    ghost from_gives = { λ cause e. e ≡ of_heaps cause };
+
+    fn from(cause: HeapsError) -> ReportError {
+        match cause {
+            HeapsError::TooLong => ReportError::TooLong,
+            HeapsError::TooManyWords => ReportError::TooManyWords,
+            HeapsError::NoMemory => ReportError::NoMemory,
         }
     }
 }

@@ -1,4 +1,4 @@
-// What is reported of a log: its races, its entangled and stale uses, its work and its span.
+// What is reported of a log: its races, its entangled and stale uses, its work and its span, its heaps.
 #![tactic(auto)]
 
 mod error;

@@ -4,12 +4,14 @@ pub use Rattle.json_text.specs.below.quoted_text.{quoted}
 pub use Rattle.log_form.specs.declared.fault.LogPosition.{LogPosition}
 pub use Rattle.log_groups.specs.Groups.{groups_of}
 pub use Rattle.log_groups.specs.declared.item.Group.{Group}
-pub use Rattle.log_json.specs.Pieces.{location_piece, pieces_from, group_piece, locations_piece, use_group_piece}
+pub use Rattle.log_json.specs.Pieces.{array_piece, depth_piece, location_piece, pieces_from, group_piece, locations_piece, use_group_piece}
 pub use Rattle.log_report.specs.Ends.{hundredths, hundredths_text}
 pub use Rattle.log_report.specs.Labels.{Names, kind_word}
 pub use Rattle.log_report.specs.Races.{race_items, run_length}
 pub use Rattle.log_report.specs.Told.{racing_locations}
 pub use Rattle.log_report.specs.Uses.{use_items, since_of}
+pub use Rattle.log_report.specs.declared.heaps.HeapDepth.{HeapDepth}
+pub use Rattle.log_report.specs.declared.heaps.LogHeaps.{LogHeaps}
 pub use Rattle.log_report.specs.declared.report.Detail.{Detail}
 pub use Rattle.log_report.specs.declared.report.Detail.TheVariants.{Merged, Locations}
 pub use Rattle.log_report.specs.declared.told.LogReport.{LogReport}

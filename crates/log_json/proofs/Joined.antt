@@ -26,7 +26,15 @@ pub counts_parts : (b r u s c z races reads uses stale left : List ℕ)
     → (b ++ races ++ r ++ reads ++ u ++ uses ++ s ++ stale) ++ (c ++ left) ++ z ≡ b ++ ((races ++ (r ++ (reads ++ (u ++ (uses ++ (s ++ (stale ++ (c ++ (left ++ []))))))))) ++ z)
 counts_parts b r u s c z races reads uses stale left = simp (append_assoc, append-nil)
 
-pub report_parts : (b e u s w p q n z y races reads uses stale work span quotient counts left : List ℕ)
-    → b ++ races ++ ((e ++ reads) ++ (u ++ uses) ++ (s ++ stale)) ++ (((w ++ work) ++ (p ++ span) ++ q ++ quotient) ++ n ++ (counts ++ left) ++ z) ++ (z ++ y)
-    ≡ b ++ ((races ++ (e ++ (reads ++ (u ++ (uses ++ (s ++ (stale ++ (w ++ (work ++ (p ++ (span ++ (q ++ (quotient ++ (n ++ ((counts ++ left ++ z) ++ []))))))))))))))) ++ z) ++ y
-report_parts b e u s w p q n z y races reads uses stale work span quotient counts left = simp (append_assoc, append-nil)
+pub report_parts : (b e u s w p q n z y races reads uses stale work span quotient heaps counts left : List ℕ)
+    → b ++ races ++ ((e ++ reads) ++ (u ++ uses) ++ (s ++ stale)) ++ (((w ++ work) ++ (p ++ span) ++ q ++ quotient) ++ heaps ++ n ++ (counts ++ left) ++ z) ++ (z ++ y)
+    ≡ b ++ ((races ++ (e ++ (reads ++ (u ++ (uses ++ (s ++ (stale ++ (w ++ (work ++ (p ++ (span ++ (q ++ (quotient ++ (heaps ++ (n ++ ((counts ++ left ++ z) ++ [])))))))))))))))) ++ z) ++ y
+report_parts b e u s w p q n z y races reads uses stale work span quotient heaps counts left = simp (append_assoc, append-nil)
+
+pub depth_parts : (d b w o z depth blocks words own : List ℕ)
+    → (d ++ depth) ++ (b ++ blocks) ++ (w ++ words) ++ (o ++ own) ++ z ≡ d ++ ((depth ++ (b ++ (blocks ++ (w ++ (words ++ (o ++ (own ++ []))))))) ++ z)
+depth_parts d b w o z depth blocks words own = simp (append_assoc, append-nil)
+
+pub heaps_parts : (h d s o z depths stores down rest : List ℕ)
+    → ((h ++ d) ++ depths ++ (s ++ stores) ++ (o ++ down) ++ z) ++ rest ≡ h ++ ((d ++ ((depths ++ (s ++ (stores ++ (o ++ (down ++ []))))) ++ z)) ++ rest)
+heaps_parts h d s o z depths stores down rest = simp (append_assoc, append-nil)

@@ -1,7 +1,7 @@
 -- The pieces of a report's object are the text of its value.
-use Rattle.log_json.proofs.Common.{◌≡◌, ◌∙◌, ◌+◌, ◌-◌, ℕ, zero, suc, List, [], ◌∷◌, ◌++◌, length, drop, refl, ap, sym, append_assoc, append-nil, Option, Some, None, codes, slice_get, flat_map, decimal, flat_map-append, quoted, Json, Members, Array, Object, Number, Word, json, values, further, first_values, more_values, more_members, first_members, LogPosition, Group, groups_of, Told, ToldRace, ToldUse, LogReport, Detail, Merged, Locations, UseFault, EntangledRead, EntangledUse, StaleUse, racing_locations, Names, kind_word, race_items, run_length, use_items, since_of, hundredths, hundredths_text}
+use Rattle.log_json.proofs.Common.{◌≡◌, ◌∙◌, ◌+◌, ◌-◌, ℕ, zero, suc, List, [], ◌∷◌, ◌++◌, length, drop, refl, ap, sym, append_assoc, append-nil, Option, Some, None, codes, slice_get, flat_map, decimal, flat_map-append, quoted, Json, Members, Array, Object, Number, Word, json, values, further, first_values, more_values, more_members, first_members, LogPosition, Group, groups_of, Told, ToldRace, ToldUse, LogReport, HeapDepth, LogHeaps, Detail, Merged, Locations, UseFault, EntangledRead, EntangledUse, StaleUse, racing_locations, Names, kind_word, race_items, run_length, use_items, since_of, hundredths, hundredths_text}
 use Rattle.log_json.specs.Values
-use Rattle.log_json.proofs.Joined.{plain_parts, site_parts, merged_parts, location_parts, use_parts, counts_parts, report_parts}
+use Rattle.log_json.proofs.Joined.{plain_parts, site_parts, merged_parts, location_parts, use_parts, counts_parts, depth_parts, heaps_parts, report_parts}
 use Rattle.log_json.specs.Pieces
 
 -- MEMBERS of texts
@@ -140,14 +140,44 @@ counts_by : (races reads uses stale : ℕ) (left : Option ℕ)
 counts_by races reads uses stale None = counts_whole (decimal races) (decimal reads) (decimal uses) (decimal stale)
 counts_by races reads uses stale (Some n) = counts_cut (decimal races) (decimal reads) (decimal uses) (decimal stale) (decimal n)
 
-report_flat : (races reads uses stale work span quotient counts left : List ℕ)
+depth_flat : (depth blocks words own : List ℕ)
+    → (codes ",\n{\"depth\":" ++ depth) ++ (codes ",\"blocks\":" ++ blocks) ++ (codes ",\"words\":" ++ words) ++ (codes ",\"own\":" ++ own) ++ codes "}"
+    ≡ 44 ∷ 10 ∷ braced (first (codes "depth") depth (more (codes "blocks") blocks (more (codes "words") words (more (codes "own") own []))))
+depth_flat depth blocks words own = depth_parts (codes ",\n{\"depth\":") (codes ",\"blocks\":") (codes ",\"words\":") (codes ",\"own\":") (codes "}") depth blocks words own
+
+depth_is : (d : HeapDepth) → Pieces.depth_piece d ≡ flat_map further (Values.depth_values d)
+depth_is d = depth_flat (decimal d.depth) (decimal d.blocks) (decimal d.words) (decimal d.own) ∙ sym (append-nil (further (Values.depth_value d)))
+
+depths_array : (rows : List HeapDepth) → Pieces.array_piece (flat_map Pieces.depth_piece rows) ≡ json (Array (values (flat_map Values.depth_values rows)))
+depths_array rows = ap Pieces.array_piece (nested Pieces.depth_piece Values.depth_values depth_is rows) ∙ array_is (flat_map Values.depth_values rows)
+
+heaps_flat : (depths stores down rest : List ℕ)
+    → (codes ",\"heaps\":{\"depths\":" ++ depths ++ (codes ",\"stores\":" ++ stores) ++ (codes ",\"down\":" ++ down) ++ codes "}") ++ rest
+    ≡ more (codes "heaps") (braced (first (codes "depths") depths (more (codes "stores") stores (more (codes "down") down [])))) rest
+heaps_flat depths stores down rest = heaps_parts (codes ",\"heaps\":") (codes "{\"depths\":") (codes ",\"stores\":") (codes ",\"down\":") (codes "}") depths stores down rest
+
+heaps_are : (heaps : Option LogHeaps) (ms : Members) → Pieces.heaps_piece_if heaps ++ more_members ms ≡ more_members (Values.with_heaps heaps ms)
+heaps_are None ms = refl
+heaps_are (Some h) ms =
+    (λ i. (codes ",\"heaps\":{\"depths\":" ++ depths_array h.depths i ++ (codes ",\"stores\":" ++ decimal h.stores) ++ (codes ",\"down\":" ++ decimal h.down) ++ codes "}") ++ more_members ms)
+    ∙ heaps_flat (json (Array (values (flat_map Values.depth_values h.depths)))) (decimal h.stores) (decimal h.down) (more_members ms)
+
+-- the members after parallelism
+ends_are : (r : LogReport)
+    → Pieces.heaps_piece_if r.heaps ++ more (codes "end") (Pieces.counts_piece (racing_locations r.races) (length r.entangled_reads) (length r.entangled_uses) (length r.stale_uses) ++ Pieces.left_piece r.left_out ++ codes "}") []
+    ≡ more_members (Values.with_heaps r.heaps (Values.end_members r))
+ends_are r =
+    ap (λ x. Pieces.heaps_piece_if r.heaps ++ more (codes "end") x []) (counts_by (racing_locations r.races) (length r.entangled_reads) (length r.entangled_uses) (length r.stale_uses) r.left_out)
+    ∙ heaps_are r.heaps (Values.end_members r)
+
+report_flat : (races reads uses stale work span quotient heaps counts left : List ℕ)
     → codes "{\"races\":" ++ races ++ ((codes ",\"entangled_reads\":" ++ reads) ++ (codes ",\"entangled_uses\":" ++ uses) ++ (codes ",\"stale_uses\":" ++ stale))
-    ++ (((codes ",\"work\":" ++ work) ++ (codes ",\"span\":" ++ span) ++ codes ",\"parallelism\":" ++ quotient) ++ codes ",\"end\":" ++ (counts ++ left) ++ codes "}") ++ codes "}\n"
+    ++ (((codes ",\"work\":" ++ work) ++ (codes ",\"span\":" ++ span) ++ codes ",\"parallelism\":" ++ quotient) ++ heaps ++ codes ",\"end\":" ++ (counts ++ left) ++ codes "}") ++ codes "}\n"
     ≡ braced (first (codes "races") races (more (codes "entangled_reads") reads (more (codes "entangled_uses") uses (more (codes "stale_uses") stale
-    (more (codes "work") work (more (codes "span") span (more (codes "parallelism") quotient (more (codes "end") (counts ++ left ++ codes "}") [])))))))) ++ 10 ∷ []
-report_flat races reads uses stale work span quotient counts left =
+    (more (codes "work") work (more (codes "span") span (more (codes "parallelism") quotient (heaps ++ more (codes "end") (counts ++ left ++ codes "}") [])))))))) ++ 10 ∷ []
+report_flat races reads uses stale work span quotient heaps counts left =
     report_parts (codes "{\"races\":") (codes ",\"entangled_reads\":") (codes ",\"entangled_uses\":") (codes ",\"stale_uses\":") (codes ",\"work\":") (codes ",\"span\":") (codes ",\"parallelism\":") (codes ",\"end\":") (codes "}") (10 ∷ [])
-    races reads uses stale work span quotient counts left
+    races reads uses stale work span quotient heaps counts left
 
 pub report_is : (names : Names) (detail : Detail) (r : LogReport) → Pieces.report_piece names detail r ≡ Values.report_json names detail r
 report_is names detail r =
@@ -155,8 +185,8 @@ report_is names detail r =
     ++ ((codes ",\"entangled_reads\":" ++ uses_array names EntangledRead r.entangled_reads i) ++ (codes ",\"entangled_uses\":" ++ uses_array names EntangledUse r.entangled_uses i) ++ (codes ",\"stale_uses\":" ++ uses_array names StaleUse r.stale_uses i))
     ++ Pieces.ends_piece r ++ codes "}\n")
     ∙ report_flat (json (Array (values (Values.race_values names detail r.races)))) (json (Array (values (Values.use_values names EntangledRead r.entangled_reads)))) (json (Array (values (Values.use_values names EntangledUse r.entangled_uses)))) (json (Array (values (Values.use_values names StaleUse r.stale_uses))))
-    (decimal r.work) (decimal r.span) (quoted (hundredths_text (hundredths r.work r.span)))
+    (decimal r.work) (decimal r.span) (quoted (hundredths_text (hundredths r.work r.span))) (Pieces.heaps_piece_if r.heaps)
     (Pieces.counts_piece (racing_locations r.races) (length r.entangled_reads) (length r.entangled_uses) (length r.stale_uses)) (Pieces.left_piece r.left_out)
     ∙ ap (λ x. braced (first (codes "races") (json (Array (values (Values.race_values names detail r.races)))) (more (codes "entangled_reads") (json (Array (values (Values.use_values names EntangledRead r.entangled_reads)))) (more (codes "entangled_uses") (json (Array (values (Values.use_values names EntangledUse r.entangled_uses)))) (more (codes "stale_uses") (json (Array (values (Values.use_values names StaleUse r.stale_uses))))
-    (more (codes "work") (decimal r.work) (more (codes "span") (decimal r.span) (more (codes "parallelism") (quoted (hundredths_text (hundredths r.work r.span))) (more (codes "end") x [])))))))) ++ 10 ∷ [])
-    (counts_by (racing_locations r.races) (length r.entangled_reads) (length r.entangled_uses) (length r.stale_uses) r.left_out)
+    (more (codes "work") (decimal r.work) (more (codes "span") (decimal r.span) (more (codes "parallelism") (quoted (hundredths_text (hundredths r.work r.span))) x))))))) ++ 10 ∷ [])
+    (ends_are r)

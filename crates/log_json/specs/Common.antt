@@ -9,6 +9,8 @@ pub use Rattle.log_report.specs.Labels.{Names, kind_word}
 pub use Rattle.log_report.specs.Races.{race_items, run_length}
 pub use Rattle.log_report.specs.Told.{racing_locations}
 pub use Rattle.log_report.specs.Uses.{use_items, since_of}
+pub use Rattle.log_report.specs.declared.heaps.HeapDepth.{HeapDepth}
+pub use Rattle.log_report.specs.declared.heaps.LogHeaps.{LogHeaps}
 pub use Rattle.log_report.specs.declared.report.Detail.{Detail}
 pub use Rattle.log_report.specs.declared.report.Detail.TheVariants.{Merged, Locations}
 pub use Rattle.log_report.specs.declared.told.LogReport.{LogReport}

@@ -2,7 +2,7 @@
 use Rattle.std.specs.Prelude.{ℕ, zero, suc, ◌+◌, ◌-◌, Option, Some, None, List, [], ◌∷◌, ◌++◌, codes, drop, length, slice_get}
 use Rattle.std.specs.List.{flat_map}
 use Rattle.std.specs.Fmt.{decimal}
-use Rattle.log_json.specs.Common.{quoted, LogPosition, Group, groups_of, Told, ToldRace, ToldUse, LogReport, Detail, Merged, Locations, UseFault, EntangledRead, EntangledUse, StaleUse, racing_locations, Names, kind_word, race_items, run_length, use_items, since_of, hundredths, hundredths_text}
+use Rattle.log_json.specs.Common.{quoted, LogPosition, Group, groups_of, Told, ToldRace, ToldUse, LogReport, Detail, Merged, Locations, UseFault, EntangledRead, EntangledUse, StaleUse, HeapDepth, LogHeaps, racing_locations, Names, kind_word, race_items, run_length, use_items, since_of, hundredths, hundredths_text}
 use Rattle.log_json.specs.Values.{site_word}
 
 -- LINES
@@ -88,12 +88,24 @@ all_counts_piece r = counts_piece (racing_locations r.races) (length r.entangled
 abbrev pub cost_piece : ℕ → ℕ → List ℕ → List ℕ
 cost_piece work span quotient = (codes ",\"work\":" ++ decimal work) ++ (codes ",\"span\":" ++ decimal span) ++ codes ",\"parallelism\":" ++ quoted quotient
 
-abbrev pub ends_piece : LogReport → List ℕ
-ends_piece r = cost_piece r.work r.span (hundredths_text (hundredths r.work r.span)) ++ codes ",\"end\":" ++ all_counts_piece r ++ codes "}"
-
 -- the array of values that are each written after a comma
 abbrev pub array_piece : List ℕ → List ℕ
 array_piece further = 91 ∷ (drop 2 further ++ 93 ∷ [])
+
+-- the blocks that tasks of one depth bear, after a comma
+abbrev pub depth_piece : HeapDepth → List ℕ
+depth_piece d = (codes ",\n{\"depth\":" ++ decimal d.depth) ++ (codes ",\"blocks\":" ++ decimal d.blocks) ++ (codes ",\"words\":" ++ decimal d.words) ++ (codes ",\"own\":" ++ decimal d.own) ++ codes "}"
+
+abbrev pub heaps_piece : LogHeaps → List ℕ
+heaps_piece h =
+    codes ",\"heaps\":{\"depths\":" ++ array_piece (flat_map depth_piece h.depths) ++ (codes ",\"stores\":" ++ decimal h.stores) ++ (codes ",\"down\":" ++ decimal h.down) ++ codes "}"
+
+abbrev pub heaps_piece_if : Option LogHeaps → List ℕ
+heaps_piece_if None = []
+heaps_piece_if (Some h) = heaps_piece h
+
+abbrev pub ends_piece : LogReport → List ℕ
+ends_piece r = cost_piece r.work r.span (hundredths_text (hundredths r.work r.span)) ++ heaps_piece_if r.heaps ++ codes ",\"end\":" ++ all_counts_piece r ++ codes "}"
 
 abbrev pub array_name : UseFault → List ℕ
 array_name EntangledRead = codes ",\"entangled_reads\":"

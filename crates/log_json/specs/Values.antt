@@ -2,7 +2,7 @@
 use Rattle.std.specs.Prelude.{ℕ, zero, suc, ◌+◌, ◌-◌, Option, Some, None, List, [], ◌∷◌, ◌++◌, codes, length, drop, slice_get}
 use Rattle.std.specs.List.{flat_map}
 use Rattle.std.specs.Fmt.{decimal}
-use Rattle.log_json.specs.Common.{Json, Members, Number, Word, Array, Object, NoMember, Member, json, values, further, LogPosition, Group, groups_of, Told, ToldRace, ToldUse, LogReport, Detail, Merged, Locations, UseFault, EntangledRead, EntangledUse, StaleUse, racing_locations, Names, kind_word, race_items, run_length, use_items, since_of, hundredths, hundredths_text}
+use Rattle.log_json.specs.Common.{Json, Members, Number, Word, Array, Object, NoMember, Member, json, values, further, LogPosition, Group, groups_of, Told, ToldRace, ToldUse, LogReport, Detail, Merged, Locations, UseFault, EntangledRead, EntangledUse, StaleUse, HeapDepth, LogHeaps, racing_locations, Names, kind_word, race_items, run_length, use_items, since_of, hundredths, hundredths_text}
 
 -- LINES
 
@@ -101,12 +101,39 @@ counts_members r =
     Member (codes "stale") (Number (length r.stale_uses)) (
     left_members r.left_out))))
 
+-- the blocks that tasks of one depth bear
+abbrev pub depth_value : HeapDepth → Json
+depth_value d =
+    Object (
+    Member (codes "depth") (Number d.depth) (
+    Member (codes "blocks") (Number d.blocks) (
+    Member (codes "words") (Number d.words) (
+    Member (codes "own") (Number d.own) NoMember))))
+
+abbrev pub depth_values : HeapDepth → List Json
+depth_values d = depth_value d ∷ []
+
+abbrev pub heaps_value : LogHeaps → Json
+heaps_value h =
+    Object (
+    Member (codes "depths") (Array (values (flat_map depth_values h.depths))) (
+    Member (codes "stores") (Number h.stores) (
+    Member (codes "down") (Number h.down) NoMember)))
+
+-- heaps, if they are told, before other members
+abbrev pub with_heaps : Option LogHeaps → Members → Members
+with_heaps None ms = ms
+with_heaps (Some h) ms = Member (codes "heaps") (heaps_value h) ms
+
+abbrev pub end_members : LogReport → Members
+end_members r = Member (codes "end") (Object (counts_members r)) NoMember
+
 abbrev pub cost_members : LogReport → Members
 cost_members r =
     Member (codes "work") (Number r.work) (
     Member (codes "span") (Number r.span) (
     Member (codes "parallelism") (Word (hundredths_text (hundredths r.work r.span))) (
-    Member (codes "end") (Object (counts_members r)) NoMember)))
+    with_heaps r.heaps (end_members r))))
 
 abbrev pub report_value : Names → Detail → LogReport → Json
 report_value names detail r =

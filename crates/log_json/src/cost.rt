@@ -4,6 +4,7 @@ ghost use Rattle.std.specs.Prelude.{◌≡◌, ◌++◌, OnOk, IfOk, string_byte
 ghost use Rattle.log_report.specs.Ends.{hundredths, hundredths_text};
 ghost use Rattle.log_json.specs.Pieces.{left_piece, counts_piece, all_counts_piece, cost_piece, ends_piece};
 
+use crate::heaps::add_heaps_if;
 use crate::value::{add, add_number};
 use json_text::add_word;
 use log_report::{LogReport, parallelism_text, racing_locations};
@@ -59,7 +60,7 @@ fn add_counts(alloc: Global, text: &mut Vec<u8>, report: &LogReport) -> Result<(
     add(text, left.as_str())
 }
 
-/// Adds work and span, and what the end line counts.
+/// Adds work and span, heaps if they are told, and what the end line counts.
 pub(crate) fn add_ends(
     alloc: Global,
     text: &mut Vec<u8>,
@@ -68,6 +69,7 @@ pub(crate) fn add_ends(
     ensures { OnOk result (text.new.items ≡ text.old.items ++ ends_piece report.now) }
 {
     add_cost(alloc, text, report.work, report.span)?;
+    add_heaps_if(alloc, text, &report.heaps)?;
     add(text, ",\"end\":")?;
     add_counts(alloc, text, report)?;
     add(text, "}")

@@ -2,6 +2,7 @@
 #![tactic(auto)]
 
 mod cost;
+mod heaps;
 mod line;
 mod races;
 mod report;

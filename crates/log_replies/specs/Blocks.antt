@@ -15,7 +15,7 @@ races_of blocks races = filter (λ (race : ToldRace). is_shown blocks race.block
 abbrev pub uses_of : List ℕ → List ToldUse → List ToldUse
 uses_of blocks uses = filter (λ (told : ToldUse). is_shown blocks told.block) uses
 
--- work, span and the strands left out are those of the whole log
+-- work, span, heaps and the strands left out are those of the whole log
 abbrev pub of_blocks : List ℕ → LogReport → LogReport
 of_blocks blocks r = record {
   races = races_of blocks r.races;
@@ -24,5 +24,6 @@ of_blocks blocks r = record {
   stale_uses = uses_of blocks r.stale_uses;
   work = r.work;
   span = r.span;
+  heaps = r.heaps;
   left_out = r.left_out;
 }

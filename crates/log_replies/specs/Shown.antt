@@ -14,7 +14,7 @@ use Rattle.log_request.specs.declared.view.ReportForm.{ReportForm}
 use Rattle.log_request.specs.declared.view.ReportForm.TheVariants.{Lines, Json}
 use Rattle.log_request.specs.declared.view.LogView.{LogView}
 use Rattle.log_findings.specs.declared.error.ReportError.{ReportError}
-use Rattle.log_findings.specs.declared.error.ReportError.TheVariants.{TooLong, TooManyStretches, TooMuchWork, NoMemory}
+use Rattle.log_findings.specs.declared.error.ReportError.TheVariants.{TooLong, TooManyStretches, TooMuchWork, TooManyWords, NoMemory}
 use Rattle.log_findings.specs.Errors.{LogIsTooLarge}
 use Rattle.log_findings.specs.Reported.{IsReportOf}
 use Rattle.log_findings.specs.below.fork_graph.{Cut, Extent, Whole}
@@ -39,6 +39,7 @@ abbrev pub size_text : ReportError → List ℕ
 size_text TooLong = codes "too many lines or strands"
 size_text TooManyStretches = codes "too many locations"
 size_text TooMuchWork = codes "too much work"
+size_text TooManyWords = codes "too many words"
 size_text NoMemory = codes "out of memory"
 
 abbrev pub size_line : ReportError → List ℕ
@@ -67,12 +68,12 @@ pub record RefusesTask (names texts : List (List ℕ)) (reply : Reply) : Type 0 
   pub says : Says Trace (task_refusal names texts fault) reply
 
 -- no task is at fault, but it is too large
-pub record RefusesSize (texts : List (List ℕ)) (reply : Reply) : Type 0 where
+pub record RefusesSize (texts : List (List ℕ)) (view : LogView) (reply : Reply) : Type 0 where
   pub tasks : LogTasks
   pub are : IsLog (events_of texts) (log_extent texts) tasks
   pub cause : ReportError
   pub no_memory : cause ≢ NoMemory
-  pub too_large : LogIsTooLarge texts tasks cause
+  pub too_large : LogIsTooLarge view.heaps texts tasks cause
   pub says : Says Trace (size_line cause) reply
 
 -- no task is at fault, and it is reported
@@ -80,12 +81,12 @@ pub record Reports (texts : List (List ℕ)) (view : LogView) (reply : Reply) : 
   pub tasks : LogTasks
   pub are : IsLog (events_of texts) (log_extent texts) tasks
   pub report : LogReport
-  pub reported : IsReportOf texts tasks (is_cut texts) report
+  pub reported : IsReportOf texts tasks (is_cut texts) view.heaps report
   pub says : SaysReport texts view report reply
 
 -- what is written of a log without a faulty line
 abbrev pub ShowsTasks : List (List ℕ) → List (List ℕ) → LogView → Reply → Type 0
-ShowsTasks names texts view reply = RefusesTask names texts reply ⊎ (RefusesSize texts reply ⊎ Reports texts view reply)
+ShowsTasks names texts view reply = RefusesTask names texts reply ⊎ (RefusesSize texts view reply ⊎ Reports texts view reply)
 
 abbrev pub ShowsFault : List (List ℕ) → List (List ℕ) → LogView → Option LocatedFault → Reply → Type 0
 ShowsFault names texts view None = ShowsTasks names texts view

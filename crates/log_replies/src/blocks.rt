@@ -48,6 +48,7 @@ pub(crate) fn of_blocks(report: LogReport, blocks: &[u64]) -> LogReport
         stale_uses,
         work,
         span,
+        heaps,
         left_out,
     } = report;
     LogReport {
@@ -57,6 +58,7 @@ pub(crate) fn of_blocks(report: LogReport, blocks: &[u64]) -> LogReport
         stale_uses: uses_of(stale_uses, blocks),
         work,
         span,
+        heaps,
         left_out,
     }
 }

@@ -37,9 +37,9 @@ fn show_tasks(
     requires pieces { events_of_pieces texts.now pieces.now ≡ events_of texts.now }
     requires extent { cut ≡ is_cut texts.now }
     requires tasks { IsLog (events_of texts.now) (log_extent texts.now) tasks.now }
-    ensures { IfOk result (λ reply. RefusesSize texts.now reply ⊎ Reports texts.now view.now reply) }
+    ensures { IfOk result (λ reply. RefusesSize texts.now view.now reply ⊎ Reports texts.now view.now reply) }
 {
-    match report_log(alloc, texts, pieces, tasks, cut) {
+    match report_log(alloc, texts, pieces, tasks, cut, view.heaps) {
         Ok(report) => show_report(alloc, texts, view, report),
         Err(ReportError::NoMemory) => Err(AllocError),
         Err(cause) => size_refusal(alloc, cause),

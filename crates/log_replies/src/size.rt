@@ -15,6 +15,7 @@ fn size_text(cause: ReportError) -> &'static str
         ReportError::TooLong => "too many lines or strands",
         ReportError::TooManyStretches => "too many locations",
         ReportError::TooMuchWork => "too much work",
+        ReportError::TooManyWords => "too many words",
         ReportError::NoMemory => "out of memory",
     }
 }

@@ -4,4 +4,5 @@ pub mod Races
 pub mod Locations
 pub mod Uses
 pub mod Ends
+pub mod HeapLines
 pub mod LogReport

@@ -3,6 +3,7 @@
 
 mod cost;
 mod end;
+mod heaps;
 mod label;
 mod locations;
 mod order;
@@ -13,6 +14,7 @@ mod uses;
 
 pub use cost::parallelism_text;
 pub use end::racing_locations;
+pub use heaps::{HeapDepth, LogHeaps};
 pub use label::kind_word;
 pub use order::in_order;
 pub use races::{race_groups, run_length};

@@ -6,6 +6,7 @@ ghost use Rattle.log_report.specs.LogReport.{races_text, uses_text, ends_text, r
 
 use crate::cost::cost_line;
 use crate::end::end_line;
+use crate::heaps::add_heaps_if;
 use crate::label::add;
 use crate::locations::add_all_lines;
 use crate::races::add_race_lines;
@@ -56,12 +57,13 @@ fn add_uses(
     add_use_lines(alloc, text, names, UseFault::StaleUse, stale)
 }
 
-// Adds the last two lines.
+// Adds the lines on work and span, on heaps, and the end line.
 fn add_ends(alloc: Global, text: &mut Vec<u8>, report: &LogReport) -> Result<(), AllocError>
     ensures { OnOk result (text.new.items ≡ text.old.items ++ ends_text report.now) }
 {
     let cost = cost_line(alloc, report.work, report.span)?;
     add(text, cost.as_str())?;
+    add_heaps_if(alloc, text, &report.heaps)?;
     let end = end_line(alloc, report)?;
     add(text, end.as_str())
 }

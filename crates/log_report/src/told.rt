@@ -3,6 +3,7 @@
 ghost use Rattle.std.specs.Prelude.{◌≡◌};
 ghost use Rattle.log_report.specs.Told.{kind_number, label_kind, label_site};
 
+use crate::heaps::LogHeaps;
 use log_form::LogPosition;
 use plain_vec::Listed;
 
@@ -54,6 +55,8 @@ pub struct LogReport {
     pub stale_uses: Listed<ToldUse>,
     pub work: u64,
     pub span: u64,
+    /// What is told of heaps, if they are asked for.
+    pub heaps: Option<LogHeaps>,
     /// How many strands were left out, if the log was cut off.
     pub left_out: Option<usize>,
 }

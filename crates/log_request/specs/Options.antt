@@ -1,4 +1,4 @@
--- The options of a call: `--all`, `--json`, and `--blocks` with one or more numbers of blocks.
+-- The options of a call: `--all`, `--json`, `--heaps`, and `--blocks` with one or more numbers of blocks.
 use Rattle.std.specs.Prelude.{ℕ, ◌==◌, Bool, true, false, Option, Some, None, List, [], ◌∷◌, ◌++◌, codes, length, if◌then◌else◌}
 use Rattle.std.specs.Str.{bytes_eq}
 use Rattle.log_lines.specs.Words.{numeral_value}
@@ -11,9 +11,9 @@ use Rattle.log_request.specs.declared.options.NextNumber.{NextNumber}
 use Rattle.log_request.specs.declared.options.NextNumber.TheVariants.{Unexpected, Due, Possible}
 use Rattle.log_request.specs.declared.options.Options.{Options}
 
--- without options all findings are shown, as lines that are merged
+-- without options all findings are shown, as lines that are merged, without heaps
 abbrev pub no_options : Options
-no_options = record { view = record { detail = Merged; form = Lines; blocks = [] }; numbers = Unexpected }
+no_options = record { view = record { detail = Merged; form = Lines; heaps = false; blocks = [] }; numbers = Unexpected }
 
 -- each option is given once
 abbrev pub with_all : Detail → Options → Option Options
@@ -24,6 +24,10 @@ abbrev pub with_json : ReportForm → Options → Option Options
 with_json Lines o = Some (record { view = record o.view { form = Json }; numbers = Unexpected })
 with_json Json o = None
 
+abbrev pub with_heaps : Bool → Options → Option Options
+with_heaps false o = Some (record { view = record o.view { heaps = true }; numbers = Unexpected })
+with_heaps true o = None
+
 abbrev pub with_blocks : Options → Option Options
 with_blocks o = if length o.view.blocks == 0 then Some (record o { numbers = Due }) else None
 
@@ -31,6 +35,7 @@ abbrev pub flag_at : Options → List ℕ → Option Options
 flag_at o w =
     if bytes_eq w (codes "--all") then with_all o.view.detail o
     else if bytes_eq w (codes "--json") then with_json o.view.form o
+    else if bytes_eq w (codes "--heaps") then with_heaps o.view.heaps o
     else if bytes_eq w (codes "--blocks") then with_blocks o
     else None
 

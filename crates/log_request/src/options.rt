@@ -2,7 +2,7 @@
 
 ghost use Rattle.std.specs.Prelude.{◌≡◌, ◌++◌, ◌∷◌, ◌≤◌, [], IfOk, OnOk, OnErr, Some, None, drop, false, length, map, string_bytes, if◌then◌else◌};
 ghost use Rattle.std.specs.Str.{bytes_eq};
-ghost use Rattle.log_request.specs.Options.{no_options, with_all, with_json, with_blocks, flag_at, number_at, option_at, leading, is_due};
+ghost use Rattle.log_request.specs.Options.{no_options, with_all, with_json, with_heaps, with_blocks, flag_at, number_at, option_at, leading, is_due};
 
 use crate::number::read_number;
 use crate::view::{LogView, ReportForm};
@@ -44,6 +44,7 @@ impl Options {
             view: LogView {
                 detail: Detail::Merged,
                 form: ReportForm::Lines,
+                heaps: false,
                 blocks: Listed::new(alloc),
             },
             numbers: NextNumber::Unexpected,
@@ -80,6 +81,19 @@ impl Options {
         }
     }
 
+    // Takes `--heaps`, unless it came before.
+    fn take_heaps(&mut self) -> bool
+        ensures option { with_heaps self.old.view.heaps self.old ≡ (if result then Some self.new else None) }
+        ensures kept { result ≡ false → self.new ≡ self.old }
+    {
+        if self.view.heaps {
+            return false;
+        }
+        self.view.heaps = true;
+        self.numbers = NextNumber::Unexpected;
+        true
+    }
+
     // Takes `--blocks`, unless it came before.
     fn take_blocks(&mut self) -> bool
         ensures option { with_blocks self.old ≡ (if result then Some self.new else None) }
@@ -102,6 +116,9 @@ impl Options {
         }
         if word_is(word, "--json") {
             return self.take_json();
+        }
+        if word_is(word, "--heaps") {
+            return self.take_heaps();
         }
         if word_is(word, "--blocks") {
             return self.take_blocks();

@@ -17,6 +17,8 @@ pub enum ReportForm {
 pub struct LogView {
     pub detail: Detail,
     pub form: ReportForm,
+    /// Whether heaps are told.
+    pub heaps: bool,
     /// The blocks whose findings are shown; without any, those of all blocks are.
     pub blocks: Listed<u64>,
 }

@@ -4,7 +4,7 @@ use io_traits::{MemSink, MemSource};
 use log_command::check;
 use std::alloc::{AllocError, Global};
 
-const USAGE: &str = "usage: hhlog check FILE.. [--all] [--json] [--blocks N ..]\n";
+const USAGE: &str = "usage: hhlog check FILE.. [--all] [--json] [--heaps] [--blocks N ..]\n";
 
 const WORDS: &str = "end: words refused\n";
 
@@ -270,7 +270,7 @@ fn writes(
 }
 
 // Whether a call of which these calls fail is answered so.
-fn answers(
+pub(crate) fn answers(
     alloc: Global,
     line: &str,
     bytes: &[u8],

@@ -6,6 +6,8 @@ mod calls;
 #[cfg(test)]
 mod findings;
 #[cfg(test)]
+mod heaps;
+#[cfg(test)]
 mod lines;
 #[cfg(test)]
 mod logs;

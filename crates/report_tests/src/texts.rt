@@ -178,6 +178,7 @@ fn report_of(alloc: Global, case: &Case) -> Result<LogReport, AllocError> {
         stale_uses: uses_of(alloc, stale)?,
         work,
         span,
+        heaps: None,
         left_out: None,
     })
 }

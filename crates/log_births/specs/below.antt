@@ -1,0 +1,3 @@
+-- Re-exports from lower crates for the crates above.
+pub mod fork_graph
+pub mod ancestor_laws

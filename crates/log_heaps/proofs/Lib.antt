@@ -1,0 +1,14 @@
+mod Those
+mod Counts
+mod Depths
+mod BornBlocks
+mod BlockHomes
+mod Sharing
+mod Naming
+mod Few
+mod Taking
+mod Going
+mod Sums
+mod DepthRows
+mod TallyRows
+mod Making

@@ -1,0 +1,12 @@
+use Rattle.std.proofs.Common.{◌≡◌, ◌≤◌, ◌^◌, length, take}
+use Rattle.std.specs.Prelude.{not}
+use Rattle.log_heaps.specs.Sums.{HasSums, AreAbove}
+use Rattle.log_heaps.specs.Tally.{is_shared}
+use Rattle.log_heaps.proofs.rows.sums_of.Given as goal
+
+abbrev pub invariant-loop-birth : goal.invariant-loop-birth
+invariant-loop-birth l = record {
+  above : AreAbove l.births (length l.sums);
+  small : length l.sums ≤ 2 ^ 32;
+  has : HasSums (take l.birth-index l.births) (λ b. not (is_shared l.shared b)) l.sums;
+}
