@@ -244,6 +244,10 @@ typed docs/LOGS.md 12 'race 1 0 1: write add_one:14 line 1:26, atomic write add_
 ./hhview log lock.trace > lock.log
 ./hhlog check lock.log
 END
+typed docs/LOGS.md 0 .. 'heaps depth 0 blocks 2 words 4 own 2' 'heaps depth 1 blocks 3 words 72 own 64' \
+  'heaps stores 4 down 2' .. <<'END'
+./hhlog check examples/tree.log --heaps
+END
 
 # The page of options has the ranges and defaults of the table.
 while IFS='|' read -r _ name value least most default _; do
