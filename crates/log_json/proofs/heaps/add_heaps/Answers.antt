@@ -4,7 +4,7 @@ use Rattle.log_json.proofs.heaps.add_heaps.Goals as goal
 
 pub returns : goal.returns
 returns c =
-    on_ok_weaker c.add.result
+    on_ok_weaker c.add-2.result
     (λ e. five_second c.args.text.now.items _ _ _ _ _ _ _ _ _ _ _ c.in_ok-add.ensures c.in_ok-add_array.ensures c.in_ok-add_number.ensures c.in_ok-add_number-2.ensures e
     (ap array_piece (c.as_slice-2.ensures.value ∙ c.in_ok-further.ensures ∙ ap (flat_map depth_piece) c.as_slice.ensures)))
     c.add-2.ensures
