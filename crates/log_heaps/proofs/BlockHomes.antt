@@ -1,31 +1,5 @@
 -- In which heaps blocks are.
-use Rattle.std.proofs.Common.{◌≡◌, ◌<◌, ◌∙◌, ◌⊎◌, inl, inr, ℕ, Bool, true, false, List, refl, sym, ap, subst, arith, Option, Some, None, slice_get}
-use Rattle.std.proofs.lemmas.Bool.Decides.{nat_tests}
-use Rattle.std.proofs.lemmas.Option.{same_Some, get_or_from_slice_get}
-use Rattle.std.specs.Prelude.{nat_lt}
-use Rattle.log_walk.specs.Meetings.{IsDepthAt, IsExitAt}
-use Rattle.log_walk.specs.Tables.{strand_at, task_at}
-use Rattle.log_walk.specs.Value.{WalkValue}
-use Rattle.log_tasks.specs.declared.tasks.LogTasks.{LogTasks}
-use Rattle.log_tasks.specs.Numbers.{log_strand}
-use Rattle.log_strands.specs.Places.{StrandStandsAt}
-use Rattle.log_strands.specs.below.log_form.{Event, event}
-use Rattle.log_strands.specs.below.log_lines.{Act}
-use Rattle.log_births.specs.below.fork_graph.{GraphStrand, GraphTurn, TaskTurns, strand, tasks_in, IsAncestor, StrandPrecedes}
-use Rattle.log_births.specs.below.ancestor_laws.{IsLowestCommon}
-use Rattle.log_births.specs.declared.lines.LineAt.{LineAt}
-use Rattle.log_births.specs.declared.lines.Lifetimes.{Lifetimes}
-use Rattle.log_births.specs.Blocks.{born}
-use Rattle.log_births.specs.Findings.{DoesToBlock}
-use Rattle.log_births.specs.Found.{IsScene}
-use Rattle.log_births.specs.Lines.{line_told, DoesToBlockAt}
-use Rattle.log_births.proofs.below.ancestor_laws.{IsLine, attached_rooted}
-use Rattle.log_births.proofs.Answering.{serial, is_told, seen_block, seen_strand, see}
-use Rattle.log_births.proofs.Whole.{precedes_by_position, back}
-use Rattle.log_heaps.specs.Acts.{stored, stored_into}
-use Rattle.log_heaps.specs.Heaps.{HasDepth, IsUnborn, IsInherited, HasHome, IsDownPointer}
-use Rattle.log_heaps.specs.Homes.{MeetAtDepth, IsHomeAfter, IsHomeBy, IsHomeAt, is_higher, LeadsDownIf}
-use Rattle.log_heaps.specs.Tally.{IsDownBy, IsDownIf}
+use Rattle.log_heaps.proofs.Common.{◌≡◌, ◌<◌, ◌∙◌, ◌⊎◌, inl, inr, ℕ, Bool, true, false, List, refl, sym, ap, subst, arith, Option, Some, None, slice_get, nat_tests, same_Some, get_or_from_slice_get, nat_lt, IsDepthAt, IsExitAt, strand_at, task_at, WalkValue, LogTasks, log_strand, StrandStandsAt, Event, event, Act, GraphStrand, GraphTurn, TaskTurns, strand, tasks_in, IsAncestor, StrandPrecedes, IsLowestCommon, LineAt, Lifetimes, born, DoesToBlock, IsScene, line_told, DoesToBlockAt, IsLine, attached_rooted, serial, is_told, seen_block, seen_strand, see, precedes_by_position, back, stored, stored_into, HasDepth, IsUnborn, IsInherited, HasHome, IsDownPointer, MeetAtDepth, IsHomeAfter, IsHomeBy, IsHomeAt, is_higher, LeadsDownIf, IsDownBy, IsDownIf}
 use Rattle.log_heaps.proofs.Depths.{one_depth, one_lowest}
 use Rattle.log_heaps.proofs.BornBlocks.{nested, one_birth, unborn_untold, told_birth, birth_done, depth_there}
 

@@ -1,28 +1,5 @@
 -- Births of blocks on strands of the graph.
-use Rattle.std.proofs.Common.{◌≡◌, ◌∙◌, ◌⊎◌, ℕ, List, length, refl, sym, ap, subst, Option, Some, None, slice_get}
-use Rattle.std.proofs.lemmas.Option.{same_Some, get_or_from_slice_get}
-use Rattle.log_walk.specs.Meetings.{IsDepthAt}
-use Rattle.log_walk.specs.Tables.{strand_at, task_at}
-use Rattle.log_walk.specs.Value.{WalkValue}
-use Rattle.log_tasks.specs.declared.tasks.LogTasks.{LogTasks}
-use Rattle.log_tasks.specs.Numbers.{log_strand}
-use Rattle.log_strands.specs.Places.{StrandStandsAt}
-use Rattle.log_strands.specs.below.log_form.{Event, event}
-use Rattle.log_strands.specs.below.log_lines.{Act}
-use Rattle.log_births.specs.below.fork_graph.{GraphStrand, GraphTurn, TaskTurns, strand, tasks_in, IsParent, IsForkJoin, IsAncestor}
-use Rattle.log_births.specs.declared.lines.LineAt.{LineAt}
-use Rattle.log_births.specs.declared.lines.Lifetimes.{Lifetimes}
-use Rattle.log_births.specs.Blocks.{born}
-use Rattle.log_births.specs.Findings.{DoesToBlock}
-use Rattle.log_births.specs.Found.{IsScene}
-use Rattle.log_births.specs.Lines.{line_told, DoesToBlockAt}
-use Rattle.log_births.proofs.below.ancestor_laws.{IsLine, attached_rooted}
-use Rattle.log_births.proofs.Standing.{one_strand, at_done, strand_is}
-use Rattle.log_births.proofs.Answering.{serial, same_event, is_told, told_does, seen_block, seen_strand, see}
-use Rattle.log_heaps.specs.declared.births.BlockBirth.{BlockBirth}
-use Rattle.log_heaps.specs.Acts.{words_born}
-use Rattle.log_heaps.specs.Heaps.{HasDepth, IsBirth, IsUnborn}
-use Rattle.log_heaps.specs.Tally.{IsBirthAt}
+use Rattle.log_heaps.proofs.Common.{◌≡◌, ◌∙◌, ◌⊎◌, ℕ, List, length, refl, sym, ap, subst, Option, Some, None, slice_get, same_Some, get_or_from_slice_get, IsDepthAt, strand_at, task_at, WalkValue, LogTasks, log_strand, StrandStandsAt, Event, event, Act, GraphStrand, GraphTurn, TaskTurns, strand, tasks_in, IsParent, IsForkJoin, IsAncestor, LineAt, Lifetimes, born, DoesToBlock, IsScene, line_told, DoesToBlockAt, IsLine, attached_rooted, one_strand, at_done, strand_is, serial, same_event, is_told, told_does, seen_block, seen_strand, see, BlockBirth, words_born, HasDepth, IsBirth, IsUnborn, IsBirthAt}
 use Rattle.log_heaps.proofs.Depths.{one_depth}
 
 module _ (tasks : LogTasks) (events : List Event) (walk : WalkValue) (known : Lifetimes) (scene : IsScene tasks events walk known) where

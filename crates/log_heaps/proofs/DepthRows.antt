@@ -1,15 +1,5 @@
 -- The rows on depths.
-use Rattle.std.proofs.Common.{◌≡◌, ◌<◌, ◌≤◌, ◌+◌, ◌++◌, ◌∙◌, ◌⊎◌, ℕ, Bool, true, false, List, length, get_or, refl, sym, ap, subst, Option, Some, None, slice_get, arith}
-use Rattle.std.proofs.lemmas.Bool.Decides.{nat_tests}
-use Rattle.std.proofs.lemmas.Option.{same_Some, slice_get-get_or}
-use Rattle.std.specs.Prelude.{◌==◌, option_to_list, if◌then◌else◌}
-use Rattle.log_report.specs.declared.heaps.HeapDepth.{HeapDepth}
-use Rattle.log_heaps.specs.declared.births.BlockBirth.{BlockBirth}
-use Rattle.log_heaps.specs.declared.rows.DepthSums.{DepthSums}
-use Rattle.log_heaps.specs.Heaps.{AreThose, IsRow}
-use Rattle.log_heaps.specs.Rows.{depth_row, blocks_at}
-use Rattle.log_heaps.specs.Tally.{IsBelow}
-use Rattle.log_heaps.specs.Sums.{row_if, sums_at, HasSums, AreAbove}
+use Rattle.log_heaps.proofs.Common.{◌≡◌, ◌<◌, ◌≤◌, ◌+◌, ◌++◌, ◌∙◌, ◌⊎◌, ℕ, Bool, true, false, List, length, get_or, refl, sym, ap, subst, Option, Some, None, slice_get, arith, nat_tests, same_Some, slice_get-get_or, ◌==◌, option_to_list, if◌then◌else◌, HeapDepth, BlockBirth, DepthSums, AreThose, IsDepthRow, depth_row, blocks_at, IsBelow, row_if, sums_at, HasSums, AreAbove}
 use Rattle.log_heaps.proofs.Those.{answer_more, all_below}
 use Rattle.log_heaps.proofs.Sums.{some_birth}
 
@@ -17,11 +7,11 @@ abbrev depth_of : HeapDepth → ℕ
 depth_of row = row.depth
 
 module _ (births : List BlockBirth) (own : ℕ → Bool) where
-  row_by : (depth : ℕ) (test : Bool) → (blocks_at depth births == 0) ≡ test → (row : HeapDepth) → (if test then None else Some (depth_row births own depth)) ≡ Some row → (row.depth ≡ depth) × IsRow births own row
+  row_by : (depth : ℕ) (test : Bool) → (blocks_at depth births == 0) ≡ test → (row : HeapDepth) → (if test then None else Some (depth_row births own depth)) ≡ Some row → (row.depth ≡ depth) × IsDepthRow births own row
   row_by depth true e row is = absurd (let z : ◌≡◌ {A = Option HeapDepth} None (Some row) = is in cc)
   row_by depth false e row is =
       let some : 0 < blocks_at depth births = grind (arith, nat_tests, e) in
-      subst (λ (r : HeapDepth). (r.depth ≡ depth) × IsRow births own r) (same_Some (depth_row births own depth) row is) (refl, (refl, some))
+      subst (λ (r : HeapDepth). (r.depth ≡ depth) × IsDepthRow births own r) (same_Some (depth_row births own depth) row is) (refl, (refl, some))
 
   by_row : (depth : ℕ) (test : Bool) → (blocks_at depth births == 0) ≡ test → 0 < blocks_at depth births → (if test then None else Some (depth_row births own depth)) ≡ Some (depth_row births own depth)
   by_row depth true e lt = absurd (let z : blocks_at depth births ≡ 0 = grind (arith, nat_tests, e) in omega (arith, z, lt))
@@ -29,9 +19,9 @@ module _ (births : List BlockBirth) (own : ℕ → Bool) where
 
   -- the row on one depth more
   pub rows_more : (depth : ℕ) (sums : DepthSums) (before after : List HeapDepth) → sums ≡ sums_at births own depth → after ≡ before ++ option_to_list (row_if depth sums)
-      → AreThose depth_of (IsBelow depth_of (IsRow births own) depth) before → AreThose depth_of (IsBelow depth_of (IsRow births own) (depth + 1)) after
+      → AreThose depth_of (IsBelow depth_of (IsDepthRow births own) depth) before → AreThose depth_of (IsBelow depth_of (IsDepthRow births own) (depth + 1)) after
   rows_more depth sums before after e is those =
-      answer_more depth_of (IsRow births own) depth before those (row_if depth (sums_at births own depth)) after (is ∙ ap (λ (x : DepthSums). before ++ option_to_list (row_if depth x)) e)
+      answer_more depth_of (IsDepthRow births own) depth before those (row_if depth (sums_at births own depth)) after (is ∙ ap (λ (x : DepthSums). before ++ option_to_list (row_if depth x)) e)
       (λ row some. row_by depth (blocks_at depth births == 0) refl row some)
       (λ row same is_row.
       let row_is : row ≡ depth_row births own depth = is_row.0 ∙ ap (depth_row births own) same in
@@ -39,10 +29,10 @@ module _ (births : List BlockBirth) (own : ℕ → Bool) where
       by_row depth (blocks_at depth births == 0) refl lt ∙ ap (λ (r : HeapDepth). Some r) (sym row_is))
 
   -- all rows
-  pub all_rows : (depth : ℕ) (rows : List HeapDepth) → AreAbove births depth → AreThose depth_of (IsBelow depth_of (IsRow births own) depth) rows → AreThose depth_of (IsRow births own) rows
-  all_rows depth rows above those = all_below depth_of (IsRow births own) depth rows below those
+  pub all_rows : (depth : ℕ) (rows : List HeapDepth) → AreAbove births depth → AreThose depth_of (IsBelow depth_of (IsDepthRow births own) depth) rows → AreThose depth_of (IsDepthRow births own) rows
+  all_rows depth rows above those = all_below depth_of (IsDepthRow births own) depth rows below those
     where
-      below : (row : HeapDepth) → IsRow births own row → row.depth < depth
+      below : (row : HeapDepth) → IsDepthRow births own row → row.depth < depth
       below row is =
           let some = some_birth row.depth births (subst (λ (r : HeapDepth). 0 < r.blocks) is.0 is.1) in
           let lt : some.1.depth < depth = above some.0 some.1 some.2 in

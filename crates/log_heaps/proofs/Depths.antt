@@ -1,8 +1,5 @@
 -- A task has one depth, and two tasks have one lowest common ancestor.
-use Rattle.std.proofs.Common.{◌≡◌, ◌⊎◌, inl, inr, ℕ, zero, suc, refl, sym, ap, subst}
-use Rattle.log_births.specs.below.fork_graph.{TaskTurns, IsParent, IsAncestor, IsForkJoin}
-use Rattle.log_births.specs.below.ancestor_laws.{IsLowestCommon}
-use Rattle.log_births.proofs.below.ancestor_laws.{IsLine, through, child_above, up_cases, one_parent, no_root_parent, no_self, rooted_above}
+use Rattle.log_heaps.proofs.Common.{◌≡◌, ◌⊎◌, inl, inr, ℕ, zero, suc, refl, sym, ap, subst, TaskTurns, IsParent, IsAncestor, IsForkJoin, IsLowestCommon, IsLine, through, child_above, up_cases, one_parent, no_root_parent, no_self, rooted_above}
 
 module _ (tasks : TaskTurns) (fj : IsForkJoin tasks) where
   pub one_depth : (k m t : ℕ) → IsLine tasks 0 k t → IsLine tasks 0 m t → k ≡ m

@@ -1,12 +1,5 @@
 -- Counts that few acts can reach.
-use Rattle.std.proofs.Common.{◌≡◌, ◌≤◌, ◌+◌, ℕ, Bool, true, false, arith}
-use Rattle.std.specs.Prelude.{is_some}
-use Rattle.log_walk.specs.Value.{WalkValue}
-use Rattle.log_strands.specs.below.log_lines.{Act}
-use Rattle.log_births.specs.declared.lines.BlockLines.{BlockLines}
-use Rattle.log_heaps.specs.declared.tally.Tally.{Tally}
-use Rattle.log_heaps.specs.Acts.{stored}
-use Rattle.log_heaps.specs.Tally.{counted, AreTakenAt, HasFew}
+use Rattle.log_heaps.proofs.Common.{◌≡◌, ◌≤◌, ◌+◌, ℕ, Bool, true, false, arith, is_some, WalkValue, Act, BlockLines, Tally, stored, counted, AreTakenAt, HasFew}
 
 counted_most : (n : ℕ) (more : Bool) → counted n more ≤ n + 1
 counted_most n true = omega arith

@@ -1,19 +1,5 @@
 -- Along the pieces of a log.
-use Rattle.std.proofs.Common.{◌≡◌, ◌<◌, ◌≤◌, ◌+◌, ℕ, List, length, get_or, take, slice_range, Option, Some, slice_get, arith}
-use Rattle.std.proofs.lemmas.Option.{slice_get-get_or}
-use Rattle.log_walk.specs.Value.{WalkValue}
-use Rattle.log_pieces.specs.declared.piece.LogPiece.{LogPiece}
-use Rattle.log_pieces.specs.Pieces.{text_at, acts_in, events_of_pieces}
-use Rattle.log_tasks.specs.declared.tasks.LogTasks.{LogTasks}
-use Rattle.log_strands.specs.Places.{IsPlaceOf, ArePiecePlaces}
-use Rattle.log_strands.specs.below.log_form.{Event}
-use Rattle.log_births.specs.below.fork_graph.{GraphStrand}
-use Rattle.log_births.specs.declared.lines.Lifetimes.{Lifetimes}
-use Rattle.log_births.specs.Found.{IsScene}
-use Rattle.log_births.specs.Lines.{IsPart}
-use Rattle.log_births.proofs.Parts.{part_of}
-use Rattle.log_heaps.specs.declared.tally.Tally.{Tally}
-use Rattle.log_heaps.specs.Tally.{AreTallied}
+use Rattle.log_heaps.proofs.Common.{◌≡◌, ◌<◌, ◌≤◌, ◌+◌, ℕ, List, length, get_or, take, slice_range, Option, Some, slice_get, arith, slice_get-get_or, WalkValue, LogPiece, text_at, acts_in, events_of_pieces, LogTasks, IsPlaceOf, ArePiecePlaces, Event, GraphStrand, Lifetimes, IsScene, IsPart, part_of, Tally, AreTallied}
 
 -- the acts of one piece more are taken
 pub tallied_on : (texts : List (List ℕ)) (pieces : List LogPiece) (places : List (Option ℕ)) (i : ℕ) (d : LogPiece) (e : Option ℕ) (text : List ℕ) (first line : ℕ) → i < length pieces → length places ≡ length pieces

@@ -12,3 +12,4 @@ mod Sums
 mod DepthRows
 mod TallyRows
 mod Making
+mod Common

@@ -1,27 +1,5 @@
 -- What is told of a log's heaps.
-use Rattle.std.proofs.Common.{◌≡◌, ◌<◌, ◌≤◌, ◌^◌, ◌∙◌, ℕ, Bool, true, false, List, [], length, refl, sym, ap, subst, arith, Option, None, Some, slice_get}
-use Rattle.std.specs.Prelude.{not}
-use Rattle.std.proofs.lemmas.Option.{slice_get_within}
-use Rattle.log_walk.specs.Value.{WalkValue, IsWalked}
-use Rattle.log_pieces.specs.declared.piece.LogPiece.{LogPiece}
-use Rattle.log_pieces.specs.Pieces.{events_of_pieces}
-use Rattle.log_tasks.specs.declared.tasks.LogTasks.{LogTasks}
-use Rattle.log_tasks.specs.Log.{IsLog}
-use Rattle.log_strands.specs.Places.{ArePiecePlaces}
-use Rattle.log_strands.specs.below.log_form.{Event, events_of, log_fault}
-use Rattle.log_births.specs.below.fork_graph.{Extent, GraphStrand}
-use Rattle.log_births.specs.declared.lines.Lifetimes.{Lifetimes}
-use Rattle.log_births.specs.Found.{IsScene}
-use Rattle.log_births.specs.Lines.{KnowAll}
-use Rattle.log_births.proofs.Whole.{scene_is}
-use Rattle.log_report.specs.declared.heaps.LogHeaps.{LogHeaps}
-use Rattle.log_heaps.specs.declared.births.BlockBirth.{BlockBirth}
-use Rattle.log_heaps.specs.declared.tally.Tally.{Tally}
-use Rattle.log_heaps.specs.declared.error.HeapsError.{HeapsError}
-use Rattle.log_heaps.specs.declared.error.HeapsError.TheVariants.{TooLong, TooManyWords, NoMemory}
-use Rattle.log_heaps.specs.Heaps.{IsBirth, StoresReference, IsDownPointer, CountsActs, AreHeaps, IsTooMuch}
-use Rattle.log_heaps.specs.Sums.{IsTooManyAt}
-use Rattle.log_heaps.specs.Tally.{is_shared, AreTallied, IsToldOf}
+use Rattle.log_heaps.proofs.Common.{◌≡◌, ◌<◌, ◌≤◌, ◌^◌, ◌∙◌, ℕ, Bool, true, false, List, [], length, refl, sym, ap, subst, arith, Option, None, Some, slice_get, not, slice_get_within, WalkValue, IsWalked, LogPiece, events_of_pieces, LogTasks, IsLog, ArePiecePlaces, Event, events_of, log_fault, Extent, GraphStrand, Lifetimes, IsScene, KnowAll, scene_is, LogHeaps, BlockBirth, Tally, HeapsError, TooLong, TooManyWords, NoMemory, IsBirth, StoresReference, IsDownPointer, CountsActs, AreHeaps, HeapsAreTooLarge, IsTooManyAt, is_shared, AreTallied, IsToldOf}
 use Rattle.log_heaps.proofs.Those.{nothing_below, all_below}
 use Rattle.log_heaps.proofs.Counts.{no_count, count_all}
 use Rattle.log_heaps.proofs.Sharing.{are_own}
@@ -58,7 +36,7 @@ module _ (texts : List (List ℕ)) (pieces : List LogPiece) (tasks : LogTasks) (
     down = subst (CountsActs (IsDownPointer (events_of texts) tasks)) (sym told.down) (count_all (IsDownPointer (events_of texts) tasks) (length (events_of texts)) tally.down (λ k is. slice_get_within (events_of texts) k _ is.into.at) tallied.down);
   }
 
-  pub too_many : (cause : HeapsError) → IsTooManyAt tally.births cause → IsTooMuch (events_of texts) tasks cause
+  pub too_many : (cause : HeapsError) → IsTooManyAt tally.births cause → HeapsAreTooLarge (events_of texts) tasks cause
   too_many TooLong h = absurd h
   too_many TooManyWords h = record {
     births = tally.births;

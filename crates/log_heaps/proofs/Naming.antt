@@ -1,14 +1,5 @@
 -- What an act shares, step by step, and whether it stores a reference that leads down.
-use Rattle.std.proofs.Common.{◌≡◌, ◌∙◌, ℕ, Bool, ap, subst, Option}
-use Rattle.std.specs.Prelude.{◌||◌}
-use Rattle.plain_vec.specs.Options.{option_is}
-use Rattle.log_walk.specs.Value.{WalkValue}
-use Rattle.log_strands.specs.below.log_lines.{Act}
-use Rattle.log_births.specs.declared.lines.BlockLines.{BlockLines}
-use Rattle.log_births.specs.Blocks.{released, used}
-use Rattle.log_heaps.specs.declared.shared.SharedBlocks.{SharedBlocks}
-use Rattle.log_heaps.specs.Acts.{referred, stored, stored_into}
-use Rattle.log_heaps.specs.Tally.{is_shared, shared_after, IsDownBy, IsDownIf}
+use Rattle.log_heaps.proofs.Common.{◌≡◌, ◌∙◌, ℕ, Bool, ap, subst, Option, ◌||◌, option_is, WalkValue, Act, BlockLines, released, used, SharedBlocks, referred, stored, stored_into, is_shared, shared_after, IsDownBy, IsDownIf}
 
 -- the three blocks that an act names are noted one after the other
 pub shared_told : (alien : Option ℕ → Option ℕ) (act : Act) (old one two new : SharedBlocks) (u r l : Option ℕ) → u ≡ alien (used act) → r ≡ alien (referred act) → l ≡ alien (released act)

@@ -1,31 +1,5 @@
 -- Blocks that other tasks name than those that bear them.
-use Rattle.std.proofs.Common.{◌≡◌, ◌≢◌, ◌<◌, ◌+◌, ◌∙◌, ◌⊎◌, ◌↔◌, inl, inr, ℕ, Bool, true, false, List, refl, sym, ap, subst, arith, Option, Some, None, slice_get}
-use Rattle.std.proofs.lemmas.Bool.{or_cases, cases_eq, not-true}
-use Rattle.std.proofs.lemmas.Bool.Decides.{nat_tests}
-use Rattle.std.proofs.lemmas.Option.{same_Some, get_or_from_slice_get}
-use Rattle.std.specs.Prelude.{◌==◌, ◌||◌, not, IsTrue, if◌then◌else◌}
-use Rattle.plain_vec.specs.Options.{option_is}
-use Rattle.plain_vec.proofs.Numbers.{below_next}
-use Rattle.log_walk.specs.Tables.{strand_at, task_at}
-use Rattle.log_walk.specs.Value.{WalkValue}
-use Rattle.log_tasks.specs.declared.tasks.LogTasks.{LogTasks}
-use Rattle.log_tasks.specs.Numbers.{log_strand}
-use Rattle.log_strands.specs.Places.{StrandStandsAt, StandsNowhere}
-use Rattle.log_strands.specs.below.log_form.{Event, event}
-use Rattle.log_strands.specs.below.log_lines.{Act}
-use Rattle.log_births.specs.below.fork_graph.{GraphStrand, strand}
-use Rattle.log_births.specs.declared.lines.LineAt.{LineAt}
-use Rattle.log_births.specs.declared.lines.Lifetimes.{Lifetimes}
-use Rattle.log_births.specs.Blocks.{born, released, used}
-use Rattle.log_births.specs.Findings.{DoesToBlock}
-use Rattle.log_births.specs.Found.{IsScene}
-use Rattle.log_births.specs.Lines.{line_told}
-use Rattle.log_births.proofs.Answering.{is_told, not_seen, seen_block, seen_strand, see}
-use Rattle.log_heaps.specs.declared.shared.SharedBlocks.{SharedBlocks}
-use Rattle.log_heaps.specs.Acts.{referred}
-use Rattle.log_heaps.specs.Heaps.{IsOfTask, IsNamedAlone, AreOwn}
-use Rattle.log_heaps.specs.Homes.{foreign, foreign_by}
-use Rattle.log_heaps.specs.Tally.{is_shared, shared_after, NamesForeign, AreSharedBelow}
+use Rattle.log_heaps.proofs.Common.{◌≡◌, ◌≢◌, ◌<◌, ◌+◌, ◌∙◌, ◌⊎◌, ◌↔◌, inl, inr, ℕ, Bool, true, false, List, refl, sym, ap, subst, arith, Option, Some, None, slice_get, or_cases, cases_eq, not-true, nat_tests, same_Some, get_or_from_slice_get, ◌==◌, ◌||◌, not, IsTrue, if◌then◌else◌, option_is, below_next, strand_at, task_at, WalkValue, LogTasks, log_strand, StrandStandsAt, StandsNowhere, Event, event, Act, GraphStrand, strand, LineAt, Lifetimes, born, released, used, DoesToBlock, IsScene, line_told, is_told, not_seen, seen_block, seen_strand, see, SharedBlocks, referred, IsOfTask, IsNamedAlone, AreOwn, foreign, foreign_by, is_shared, shared_after, NamesForeign, AreSharedBelow}
 use Rattle.log_heaps.proofs.BornBlocks.{one_birth, told_birth, birth_done}
 
 or_left : (x y : Bool) → x ≡ true → (x || y) ≡ true

@@ -1,23 +1,5 @@
 -- One act more is taken.
-use Rattle.std.proofs.Common.{◌≡◌, ◌<◌, ◌+◌, ◌∙◌, ℕ, Bool, true, false, List, refl, sym, ap, subst, Option, Some, None, slice_get}
-use Rattle.std.specs.Prelude.{is_some}
-use Rattle.log_walk.specs.Value.{WalkValue}
-use Rattle.log_tasks.specs.declared.tasks.LogTasks.{LogTasks}
-use Rattle.log_tasks.specs.Numbers.{log_strand}
-use Rattle.log_strands.specs.Places.{StrandStandsAt, StandsNowhere, IsPlaceOf}
-use Rattle.log_strands.specs.below.log_form.{Event, event}
-use Rattle.log_strands.specs.below.log_lines.{Act}
-use Rattle.log_births.specs.below.fork_graph.{GraphStrand}
-use Rattle.log_births.specs.declared.lines.Lifetimes.{Lifetimes}
-use Rattle.log_births.specs.Blocks.{born}
-use Rattle.log_births.specs.Findings.{DoesToBlock}
-use Rattle.log_births.specs.Found.{IsScene}
-use Rattle.log_births.proofs.Answering.{not_seen, seen_block, see}
-use Rattle.log_heaps.specs.declared.births.BlockBirth.{BlockBirth}
-use Rattle.log_heaps.specs.declared.tally.Tally.{Tally}
-use Rattle.log_heaps.specs.Acts.{stored}
-use Rattle.log_heaps.specs.Heaps.{IsBirth, StoresReference, IsDownPointer}
-use Rattle.log_heaps.specs.Tally.{AreTakenAt, AreTaken, AreTallied, is_shared}
+use Rattle.log_heaps.proofs.Common.{◌≡◌, ◌<◌, ◌+◌, ◌∙◌, ℕ, Bool, true, false, List, refl, sym, ap, subst, Option, Some, None, slice_get, is_some, WalkValue, LogTasks, log_strand, StrandStandsAt, StandsNowhere, IsPlaceOf, Event, event, Act, GraphStrand, Lifetimes, born, DoesToBlock, IsScene, not_seen, seen_block, see, BlockBirth, Tally, stored, IsBirth, StoresReference, IsDownPointer, AreTakenAt, AreTaken, AreTallied, is_shared}
 use Rattle.log_heaps.proofs.Those.{none_more, answer_more}
 use Rattle.log_heaps.proofs.Counts.{count_more}
 use Rattle.log_heaps.proofs.BornBlocks.{birth_sound, birth_complete}

@@ -1,16 +1,5 @@
 -- Lists of those things that are so, by ascending keys.
-use Rattle.std.proofs.Common.{◌≡◌, ◌<◌, ◌≤◌, ◌+◌, ◌++◌, ◌∷◌, ◌∙◌, ◌⊎◌, inl, inr, ℕ, List, [], length, get_or, map, refl, sym, ap, subst, Option, Some, None, append-nil, arith}
-use Rattle.std.specs.Prelude.{option_to_list}
-use Rattle.std.specs.List.Sorted.{IsStrictlyIncreasing}
-use Rattle.std.proofs.lemmas.List.{map-append}
-use Rattle.std.proofs.lemmas.Option.{get_or_from_slice_get}
-use Rattle.plain_vec.specs.Members.{In}
-use Rattle.plain_vec.proofs.Members.{got_in, in_append_left, in_append_right, in_append_cases}
-use Rattle.plain_vec.proofs.Places.{got_some, map_got}
-use Rattle.plain_vec.proofs.Numbers.{below_next}
-use Rattle.log_births.proofs.Adding.{ascending_push}
-use Rattle.log_heaps.specs.Heaps.{AreThose}
-use Rattle.log_heaps.specs.Tally.{IsBelow}
+use Rattle.log_heaps.proofs.Common.{◌≡◌, ◌<◌, ◌≤◌, ◌+◌, ◌++◌, ◌∷◌, ◌∙◌, ◌⊎◌, inl, inr, ℕ, List, [], length, get_or, map, refl, sym, ap, subst, Option, Some, None, append-nil, arith, option_to_list, IsStrictlyIncreasing, map-append, get_or_from_slice_get, In, got_in, in_append_left, in_append_right, in_append_cases, got_some, map_got, below_next, ascending_push, AreThose, IsBelow}
 
 -- ONE KEY MORE
 

@@ -1,7 +1,6 @@
 -- What acts do to references.
 use Rattle.std.specs.Prelude.{ℕ, Option, Some, None}
-use Rattle.log_strands.specs.below.log_lines.{Act, Yield, Store, Birth}
-use Rattle.log_births.specs.Blocks.{if_some}
+use Rattle.log_heaps.specs.Common.{Act, Yield, Store, Birth, if_some}
 
 -- the block to which a reference is read or stored
 abbrev pub referred : Act → Option ℕ

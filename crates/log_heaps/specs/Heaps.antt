@@ -1,17 +1,7 @@
 -- What a manager of hierarchical heaps would meet on a log's run: words by the depth of tasks, and down-pointers.
 use Rattle.std.specs.Prelude.{◌≡◌, ◌⊎◌, ◌↔◌, ◌≤◌, ◌<◌, ◌^◌, ℕ, Bool, IsTrue, Option, List, length, map}
 use Rattle.std.specs.List.Sorted.{IsStrictlyIncreasing}
-use Rattle.walk_laws.specs.Reached.{IsWalk}
-use Rattle.plain_vec.specs.Members.{In}
-use Rattle.log_tasks.specs.declared.tasks.LogTasks.{LogTasks}
-use Rattle.log_strands.specs.below.log_form.{Event}
-use Rattle.log_strands.specs.below.log_lines.{Act}
-use Rattle.log_births.specs.below.fork_graph.{GraphStrand, tasks_in, IsParent, StrandPrecedes}
-use Rattle.log_births.specs.below.ancestor_laws.{IsLowestCommon}
-use Rattle.log_births.specs.Blocks.{born, released, used}
-use Rattle.log_births.specs.Findings.{DoesToBlock}
-use Rattle.log_report.specs.declared.heaps.HeapDepth.{HeapDepth}
-use Rattle.log_report.specs.declared.heaps.LogHeaps.{LogHeaps}
+use Rattle.log_heaps.specs.Common.{IsWalk, In, LogTasks, Event, Act, GraphStrand, tasks_in, IsParent, StrandPrecedes, IsLowestCommon, born, released, used, DoesToBlock, HeapDepth, LogHeaps}
 use Rattle.log_heaps.specs.declared.births.BlockBirth.{BlockBirth}
 use Rattle.log_heaps.specs.declared.error.HeapsError.{HeapsError}
 use Rattle.log_heaps.specs.declared.error.HeapsError.TheVariants.{TooLong, TooManyWords, NoMemory}
@@ -95,15 +85,15 @@ AreOwn events tasks own = (b n : ℕ) (u : GraphStrand) → DoesToBlock born eve
 -- ALL
 
 -- blocks are born at this depth, and the row is on them
-abbrev pub IsRow : List BlockBirth → (ℕ → Bool) → HeapDepth → Type 0
-IsRow births own row = (row ≡ depth_row births own row.depth) × (0 < row.blocks)
+abbrev pub IsDepthRow : List BlockBirth → (ℕ → Bool) → HeapDepth → Type 0
+IsDepthRow births own row = (row ≡ depth_row births own row.depth) × (0 < row.blocks)
 
 pub record AreHeaps (events : List Event) (tasks : LogTasks) (heaps : LogHeaps) : Type 0 where
   pub births : List BlockBirth
   pub own : ℕ → Bool
   pub are_births : AreThose (λ (b : BlockBirth). b.line) (IsBirth events tasks) births
   pub are_own : AreOwn events tasks own
-  pub depths : AreThose (λ (row : HeapDepth). row.depth) (IsRow births own) heaps.depths
+  pub depths : AreThose (λ (row : HeapDepth). row.depth) (IsDepthRow births own) heaps.depths
   pub stores : CountsActs (StoresReference events tasks) heaps.stores
   pub down : CountsActs (IsDownPointer events tasks) heaps.down
 
@@ -115,7 +105,7 @@ pub record HasTooManyWords (events : List Event) (tasks : LogTasks) : Type 0 whe
   pub many : 2 ^ 64 ≤ words_at depth births
 
 -- why heaps aren't told
-abbrev pub IsTooMuch : List Event → LogTasks → HeapsError → Type 0
-IsTooMuch events tasks TooLong = 2 ^ 32 ≤ length events
-IsTooMuch events tasks TooManyWords = HasTooManyWords events tasks
-IsTooMuch events tasks NoMemory = Unit {0}
+abbrev pub HeapsAreTooLarge : List Event → LogTasks → HeapsError → Type 0
+HeapsAreTooLarge events tasks TooLong = 2 ^ 32 ≤ length events
+HeapsAreTooLarge events tasks TooManyWords = HasTooManyWords events tasks
+HeapsAreTooLarge events tasks NoMemory = Unit {0}

@@ -1,13 +1,6 @@
 -- What is known of the homes of blocks, by the places of strands.
 use Rattle.std.specs.Prelude.{◌≡◌, ◌==◌, ℕ, Bool, false, Option, Some, None, List, nat_lt, if◌then◌else◌}
-use Rattle.log_walk.specs.Meetings.{IsDepthAt, IsExitAt}
-use Rattle.log_walk.specs.Tables.{task_at}
-use Rattle.log_walk.specs.Value.{WalkValue}
-use Rattle.log_births.specs.below.fork_graph.{GraphStrand, tasks_in}
-use Rattle.log_births.specs.declared.lines.LineAt.{LineAt}
-use Rattle.log_births.specs.declared.lines.BlockLines.{BlockLines}
-use Rattle.log_births.specs.Checks.{PrecedesAt}
-use Rattle.log_births.specs.Lines.{line_told}
+use Rattle.log_heaps.specs.Common.{IsDepthAt, IsExitAt, task_at, WalkValue, GraphStrand, tasks_in, LineAt, BlockLines, PrecedesAt, line_told}
 
 -- the depth of the lowest common ancestor of the tasks at two places
 pub record MeetAtDepth (walk : WalkValue) (p q depth : ℕ) : Type 0 where

@@ -5,3 +5,4 @@ pub mod Homes
 pub mod Tally
 pub mod Sums
 pub mod below
+mod Common

@@ -1,23 +1,12 @@
 -- What is counted of the acts of a log, by the places of their strands.
 use Rattle.std.specs.Prelude.{◌≡◌, ◌≢◌, ◌⊎◌, ◌↔◌, ◌≤◌, ◌<◌, ◌+◌, ◌++◌, ◌||◌, ℕ, Bool, true, false, not, IsTrue, Option, Some, None, List, nat_eq, is_some, option_to_list}
 use Rattle.std.specs.HashSet.{contains}
-use Rattle.plain_vec.specs.Options.{option_is}
-use Rattle.log_walk.specs.Meetings.{IsDepthAt}
-use Rattle.log_walk.specs.Value.{WalkValue}
-use Rattle.log_tasks.specs.declared.tasks.LogTasks.{LogTasks}
-use Rattle.log_strands.specs.below.log_form.{Event}
-use Rattle.log_strands.specs.below.log_lines.{Act}
-use Rattle.log_births.specs.below.fork_graph.{GraphStrand, tasks_in}
-use Rattle.log_births.specs.declared.lines.BlockLines.{BlockLines}
-use Rattle.log_births.specs.Blocks.{born, released, used}
-use Rattle.log_births.specs.Findings.{DoesToBlock}
-use Rattle.log_report.specs.declared.heaps.HeapDepth.{HeapDepth}
-use Rattle.log_report.specs.declared.heaps.LogHeaps.{LogHeaps}
+use Rattle.log_heaps.specs.Common.{option_is, IsDepthAt, WalkValue, LogTasks, Event, Act, GraphStrand, tasks_in, BlockLines, born, released, used, DoesToBlock, HeapDepth, LogHeaps}
 use Rattle.log_heaps.specs.declared.births.BlockBirth.{BlockBirth}
 use Rattle.log_heaps.specs.declared.shared.SharedBlocks.{SharedBlocks}
 use Rattle.log_heaps.specs.declared.tally.Tally.{Tally}
 use Rattle.log_heaps.specs.Acts.{referred, stored, stored_into, words_born}
-use Rattle.log_heaps.specs.Heaps.{AreThose, CountsActs, IsBirth, StoresReference, IsDownPointer, IsRow}
+use Rattle.log_heaps.specs.Heaps.{AreThose, CountsActs, IsBirth, StoresReference, IsDownPointer, IsDepthRow}
 use Rattle.log_heaps.specs.Homes.{LeadsDownIf, foreign}
 
 -- ONE ACT
@@ -96,6 +85,6 @@ pub record AreTallied (events : List Event) (tasks : LogTasks) (n : ℕ) (tally 
 -- WHAT IS TOLD
 
 pub record IsToldOf (tally : Tally) (heaps : LogHeaps) : Type 0 where
-  pub depths : AreThose (λ (row : HeapDepth). row.depth) (IsRow tally.births (λ b. not (is_shared tally.shared b))) heaps.depths
+  pub depths : AreThose (λ (row : HeapDepth). row.depth) (IsDepthRow tally.births (λ b. not (is_shared tally.shared b))) heaps.depths
   pub stores : heaps.stores ≡ tally.stores
   pub down : heaps.down ≡ tally.down

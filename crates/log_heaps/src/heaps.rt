@@ -5,7 +5,7 @@ ghost use Rattle.log_births.specs.below.fork_graph.{Extent};
 ghost use Rattle.log_pieces.specs.Pieces.{events_of_pieces};
 ghost use Rattle.log_tasks.specs.Log.{IsLog};
 ghost use Rattle.log_strands.specs.below.log_form.{events_of, log_fault};
-ghost use Rattle.log_heaps.specs.Heaps.{AreHeaps, IsTooMuch};
+ghost use Rattle.log_heaps.specs.Heaps.{AreHeaps, HeapsAreTooLarge};
 ghost use Rattle.log_heaps.specs.Tally.{IsToldOf};
 ghost use Rattle.log_heaps.specs.Sums.{IsTooManyAt};
 
@@ -49,7 +49,7 @@ pub fn log_heaps(
     requires tasks { (extent : Extent) × IsLog (events_of texts.now) extent tasks.now }
     requires walk { walk.now.tasks ≡ tasks.now.turns }
     ensures heaps { IfOk result (AreHeaps (events_of texts.now) tasks.now) }
-    ensures too_much { IfErr result (IsTooMuch (events_of texts.now) tasks.now) }
+    ensures too_much { IfErr result (HeapsAreTooLarge (events_of texts.now) tasks.now) }
 {
     let Some(_count) = count_acts(texts, pieces) else {
         return Err(HeapsError::TooLong);

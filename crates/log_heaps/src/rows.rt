@@ -3,7 +3,7 @@
 ghost use Rattle.std.specs.Prelude.{◌≡◌, ◌≤◌, ◌<◌, ◌+◌, ◌^◌, ◌++◌, ℕ, Bool, List, IfOk, IfErr, OnOk, MatchOption, not, length, option_to_list};
 ghost use Rattle.log_report.specs.declared.heaps.HeapDepth.{HeapDepth};
 ghost use Rattle.log_heaps.specs.declared.births.BlockBirth.{BlockBirth};
-ghost use Rattle.log_heaps.specs.Heaps.{AreThose, IsRow};
+ghost use Rattle.log_heaps.specs.Heaps.{AreThose, IsDepthRow};
 ghost use Rattle.log_heaps.specs.Tally.{is_shared, IsBelow};
 ghost use Rattle.log_heaps.specs.Sums.{added, row_if, HasSums, AreAbove, IsTooManyAt};
 
@@ -96,7 +96,7 @@ fn add_row(rows: &mut Listed<HeapDepth>, depth: u32, sums: DepthSums) -> Result<
 pub(crate) fn rows_of(alloc: Global, sums: &[DepthSums]) -> Result<Listed<HeapDepth>, AllocError>
     requires { length sums.now ≤ 2 ^ 32 }
     ensures { IfOk result (λ rows. (births : List BlockBirth) (own : ℕ → Bool) → HasSums births own sums.now
-        → AreThose (λ (row : HeapDepth). row.depth) (IsBelow (λ (row : HeapDepth). row.depth) (IsRow births own) (length sums.now)) rows) }
+        → AreThose (λ (row : HeapDepth). row.depth) (IsBelow (λ (row : HeapDepth). row.depth) (IsDepthRow births own) (length sums.now)) rows) }
 {
     let mut rows = Listed::new(alloc);
     for depth in 0..sums.len() {

@@ -1,8 +1,4 @@
-use Rattle.std.proofs.Common.{length}
-use Rattle.std.proofs.lemmas.Result.{IfOk-weaker, IfErr-weaker}
-use Rattle.log_pieces.specs.Pieces.{events_of_pieces}
-use Rattle.log_births.proofs.Making.{places_are}
-use Rattle.log_births.proofs.Whole.{are_within, places_within}
+use Rattle.log_heaps.proofs.Common.{length, IfOk-weaker, IfErr-weaker, events_of_pieces, places_are, are_within, places_within}
 use Rattle.log_heaps.proofs.Making.{nothing_tallied, heaps_are, too_many}
 use Rattle.log_heaps.proofs.heaps.log_heaps.Goals as goal
 

@@ -1,5 +1,4 @@
-use Rattle.std.proofs.Common.{◌≡◌, ◌<◌, ◌≤◌, ◌^◌, ℕ, Some, slice_get}
-use Rattle.log_heaps.specs.declared.births.BlockBirth.{BlockBirth}
+use Rattle.log_heaps.proofs.Common.{◌≡◌, ◌<◌, ◌≤◌, ◌^◌, ℕ, Some, slice_get, BlockBirth}
 use Rattle.log_heaps.proofs.rows.depth_below.Given as goal
 
 abbrev pub invariant-loop-birth : goal.invariant-loop-birth

@@ -1,10 +1,4 @@
-use Rattle.std.proofs.Common.{◌∙◌, ◌≡◌, ◌≤◌, ◌<◌, ◌^◌, ℕ, Bool, List, length, get_or, ap, sym, subst, arith}
-use Rattle.std.specs.Prelude.{not, slice_set}
-use Rattle.std.proofs.lemmas.List.{length-set}
-use Rattle.std.proofs.lemmas.Option.{slice_get-get_or}
-use Rattle.log_heaps.specs.declared.births.BlockBirth.{BlockBirth}
-use Rattle.log_heaps.specs.declared.rows.DepthSums.{DepthSums}
-use Rattle.log_heaps.specs.Sums.{added, AreAbove}
+use Rattle.log_heaps.proofs.Common.{◌∙◌, ◌≡◌, ◌≤◌, ◌<◌, ◌^◌, ℕ, Bool, List, length, get_or, ap, sym, subst, arith, not, slice_set, length-set, slice_get-get_or, BlockBirth, DepthSums, added, AreAbove}
 use Rattle.log_heaps.proofs.Sums.{blocks_fit, own_fits, words_over, sums_next}
 use Rattle.log_heaps.proofs.rows.sums_of.Goals as goal
 

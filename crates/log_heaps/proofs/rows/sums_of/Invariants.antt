@@ -1,7 +1,4 @@
-use Rattle.std.proofs.Common.{◌≡◌, ◌≤◌, ◌^◌, length, take}
-use Rattle.std.specs.Prelude.{not}
-use Rattle.log_heaps.specs.Sums.{HasSums, AreAbove}
-use Rattle.log_heaps.specs.Tally.{is_shared}
+use Rattle.log_heaps.proofs.Common.{◌≡◌, ◌≤◌, ◌^◌, length, take, not, HasSums, AreAbove, is_shared}
 use Rattle.log_heaps.proofs.rows.sums_of.Given as goal
 
 abbrev pub invariant-loop-birth : goal.invariant-loop-birth

@@ -1,6 +1,4 @@
-use Rattle.std.proofs.Common.{◌∙◌, ap}
-use Rattle.std.proofs.lemmas.Result.{on_ok_weaker}
-use Rattle.log_heaps.specs.Homes.{foreign}
+use Rattle.log_heaps.proofs.Common.{◌∙◌, ap, on_ok_weaker, foreign}
 use Rattle.log_heaps.proofs.Naming.{shared_told}
 use Rattle.log_heaps.proofs.tally.share.Goals as goal
 

@@ -1,9 +1,4 @@
-use Rattle.std.proofs.Common.{ℕ, subst, arith}
-use Rattle.log_pieces.specs.Pieces.{events_of_pieces}
-use Rattle.log_strands.proofs.Counted.{no_more}
-use Rattle.log_births.proofs.Parts.{count_more}
-use Rattle.log_births.proofs.Going.{place_there, count_all}
-use Rattle.log_heaps.specs.Tally.{AreTallied}
+use Rattle.log_heaps.proofs.Common.{ℕ, subst, arith, events_of_pieces, no_more, count_more, place_there, count_all, AreTallied}
 use Rattle.log_heaps.proofs.Going.{tallied_on}
 use Rattle.log_heaps.proofs.tally.Tally.take_pieces.Goals as goal
 

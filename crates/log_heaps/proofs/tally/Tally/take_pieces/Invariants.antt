@@ -1,9 +1,4 @@
-use Rattle.std.proofs.Common.{◌≡◌, length, take}
-use Rattle.log_pieces.specs.Pieces.{events_of_pieces}
-use Rattle.log_tasks.specs.declared.tasks.LogTasks.{LogTasks}
-use Rattle.log_strands.specs.Places.{ArePiecePlaces}
-use Rattle.log_births.specs.Found.{IsScene}
-use Rattle.log_heaps.specs.Tally.{HasFew, AreTallied}
+use Rattle.log_heaps.proofs.Common.{◌≡◌, length, take, events_of_pieces, LogTasks, ArePiecePlaces, IsScene, HasFew, AreTallied}
 use Rattle.log_heaps.proofs.tally.Tally.take_pieces.Given as goal
 
 abbrev pub invariant-loop-at : goal.invariant-loop-at

@@ -1,8 +1,4 @@
-use Rattle.std.proofs.Common.{List, length, ap, subst, arith}
-use Rattle.log_strands.specs.below.log_lines.{Act}
-use Rattle.log_pieces.specs.Pieces.{acts_in}
-use Rattle.log_births.specs.Lines.{IsPart}
-use Rattle.log_births.proofs.Parts.{part_first, part_rest}
+use Rattle.log_heaps.proofs.Common.{List, length, ap, subst, arith, Act, acts_in, IsPart, part_first, part_rest}
 use Rattle.log_heaps.proofs.Taking.{tallied_more}
 use Rattle.log_heaps.proofs.tally.Tally.take_text.Goals as goal
 

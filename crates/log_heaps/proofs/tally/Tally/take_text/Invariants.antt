@@ -1,12 +1,4 @@
-use Rattle.std.proofs.Common.{◌≡◌, ◌+◌, List, length}
-use Rattle.log_births.specs.below.fork_graph.{GraphStrand}
-use Rattle.log_pieces.specs.Pieces.{acts_in}
-use Rattle.log_tasks.specs.declared.tasks.LogTasks.{LogTasks}
-use Rattle.log_strands.specs.Places.{IsPlaceOf}
-use Rattle.log_strands.specs.below.log_form.{Event}
-use Rattle.log_births.specs.Found.{IsScene}
-use Rattle.log_births.specs.Lines.{IsPart}
-use Rattle.log_heaps.specs.Tally.{HasFew, AreTallied}
+use Rattle.log_heaps.proofs.Common.{◌≡◌, ◌+◌, List, length, GraphStrand, acts_in, LogTasks, IsPlaceOf, Event, IsScene, IsPart, HasFew, AreTallied}
 use Rattle.log_heaps.proofs.tally.Tally.take_text.Given as goal
 
 abbrev pub invariant-loop-act : goal.invariant-loop-act
