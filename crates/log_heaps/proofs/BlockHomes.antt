@@ -1,5 +1,5 @@
 -- In which heaps blocks are.
-use Rattle.log_heaps.proofs.Common.{◌≡◌, ◌<◌, ◌∙◌, ◌⊎◌, inl, inr, ℕ, Bool, true, false, List, refl, sym, ap, subst, arith, Option, Some, None, slice_get, nat_tests, same_Some, get_or_from_slice_get, nat_lt, IsDepthAt, IsExitAt, strand_at, task_at, WalkValue, LogTasks, log_strand, StrandStandsAt, Event, event, Act, GraphStrand, GraphTurn, TaskTurns, strand, tasks_in, IsAncestor, StrandPrecedes, IsLowestCommon, LineAt, Lifetimes, born, DoesToBlock, IsScene, line_told, DoesToBlockAt, IsLine, attached_rooted, serial, is_told, seen_block, seen_strand, see, precedes_by_position, back, stored, stored_into, HasDepth, IsUnborn, IsInherited, HasHome, IsDownPointer, MeetAtDepth, IsHomeAfter, IsHomeBy, IsHomeAt, is_higher, LeadsDownIf, IsDownBy, IsDownIf}
+use Rattle.log_heaps.proofs.Common.{◌≡◌, ◌<◌, ◌∙◌, inl, inr, ℕ, Bool, true, false, List, refl, sym, ap, subst, arith, Option, Some, None, slice_get, nat_tests, same_Some, get_or_from_slice_get, nat_lt, task_at, WalkValue, LogTasks, StrandStandsAt, Event, event, Act, GraphStrand, GraphTurn, strand, tasks_in, IsAncestor, StrandPrecedes, IsLowestCommon, LineAt, Lifetimes, IsScene, line_told, attached_rooted, seen_block, seen_strand, see, precedes_by_position, back, stored, stored_into, HasDepth, IsInherited, HasHome, IsDownPointer, IsHomeAfter, IsHomeBy, IsHomeAt, is_higher, IsDownBy, IsDownIf}
 use Rattle.log_heaps.proofs.Depths.{one_depth, one_lowest}
 use Rattle.log_heaps.proofs.BornBlocks.{nested, one_birth, unborn_untold, told_birth, birth_done, depth_there}
 

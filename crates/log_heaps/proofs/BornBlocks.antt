@@ -1,5 +1,5 @@
 -- Births of blocks on strands of the graph.
-use Rattle.log_heaps.proofs.Common.{◌≡◌, ◌∙◌, ◌⊎◌, ℕ, List, length, refl, sym, ap, subst, Option, Some, None, slice_get, same_Some, get_or_from_slice_get, IsDepthAt, strand_at, task_at, WalkValue, LogTasks, log_strand, StrandStandsAt, Event, event, Act, GraphStrand, GraphTurn, TaskTurns, strand, tasks_in, IsParent, IsForkJoin, IsAncestor, LineAt, Lifetimes, born, DoesToBlock, IsScene, line_told, DoesToBlockAt, IsLine, attached_rooted, one_strand, at_done, strand_is, serial, same_event, is_told, told_does, seen_block, seen_strand, see, BlockBirth, words_born, HasDepth, IsBirth, IsUnborn, IsBirthAt}
+use Rattle.log_heaps.proofs.Common.{◌≡◌, ◌∙◌, ℕ, List, sym, ap, subst, Option, Some, None, slice_get, same_Some, get_or_from_slice_get, IsDepthAt, WalkValue, LogTasks, log_strand, StrandStandsAt, Event, event, Act, GraphStrand, GraphTurn, strand, tasks_in, IsForkJoin, LineAt, Lifetimes, born, DoesToBlock, IsScene, line_told, DoesToBlockAt, IsLine, one_strand, at_done, serial, same_event, is_told, told_does, BlockBirth, words_born, HasDepth, IsBirth, IsUnborn, IsBirthAt}
 use Rattle.log_heaps.proofs.Depths.{one_depth}
 
 module _ (tasks : LogTasks) (events : List Event) (walk : WalkValue) (known : Lifetimes) (scene : IsScene tasks events walk known) where

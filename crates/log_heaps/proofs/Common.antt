@@ -4,7 +4,7 @@ pub use Rattle.log_births.proofs.Answering.{serial, is_told, seen_block, seen_st
 pub use Rattle.log_births.proofs.Going.{place_there, count_all}
 pub use Rattle.log_births.proofs.Making.{places_are}
 pub use Rattle.log_births.proofs.Parts.{part_of, count_more, part_first, part_rest}
-pub use Rattle.log_births.proofs.Standing.{one_strand, at_done, strand_is}
+pub use Rattle.log_births.proofs.Standing.{one_strand, at_done}
 pub use Rattle.log_births.proofs.Whole.{precedes_by_position, back, scene_is, are_within, places_within}
 pub use Rattle.log_births.proofs.below.ancestor_laws.{IsLine, attached_rooted, through, child_above, up_cases, one_parent, no_root_parent, no_self, rooted_above}
 pub use Rattle.log_births.specs.Blocks.{born, released, used}
@@ -18,7 +18,7 @@ pub use Rattle.log_births.specs.declared.lines.Lifetimes.{Lifetimes}
 pub use Rattle.log_births.specs.declared.lines.LineAt.{LineAt}
 pub use Rattle.log_heaps.specs.Acts.{stored, stored_into, words_born, referred}
 pub use Rattle.log_heaps.specs.Heaps.{HasDepth, IsUnborn, IsInherited, HasHome, IsDownPointer, IsBirth, AreThose, CountsActs, IsDepthRow, StoresReference, AreHeaps, HeapsAreTooLarge, IsOfTask, IsNamedAlone, AreOwn}
-pub use Rattle.log_heaps.specs.Homes.{MeetAtDepth, IsHomeAfter, IsHomeBy, IsHomeAt, is_higher, LeadsDownIf, foreign, foreign_by}
+pub use Rattle.log_heaps.specs.Homes.{IsHomeAfter, IsHomeBy, IsHomeAt, is_higher, foreign, foreign_by}
 pub use Rattle.log_heaps.specs.Rows.{depth_row, blocks_at, at_depth, words_at, own_at, words_if}
 pub use Rattle.log_heaps.specs.Sums.{row_if, sums_at, HasSums, AreAbove, IsTooManyAt, added}
 pub use Rattle.log_heaps.specs.Tally.{IsDownBy, IsDownIf, IsBirthAt, counted, IsBelow, AreTakenAt, HasFew, AreTallied, is_shared, IsToldOf, shared_after, NamesForeign, AreSharedBelow, AreTaken}
@@ -39,15 +39,15 @@ pub use Rattle.log_strands.specs.below.log_lines.{Act}
 pub use Rattle.log_tasks.specs.Log.{IsLog}
 pub use Rattle.log_tasks.specs.Numbers.{log_strand}
 pub use Rattle.log_tasks.specs.declared.tasks.LogTasks.{LogTasks}
-pub use Rattle.log_walk.specs.Meetings.{IsDepthAt, IsExitAt}
-pub use Rattle.log_walk.specs.Tables.{strand_at, task_at}
+pub use Rattle.log_walk.specs.Meetings.{IsDepthAt}
+pub use Rattle.log_walk.specs.Tables.{task_at}
 pub use Rattle.log_walk.specs.Value.{WalkValue, IsWalked}
 pub use Rattle.plain_vec.proofs.Members.{got_same, got_other, got_in, in_append_left, in_append_right, in_append_cases}
 pub use Rattle.plain_vec.proofs.Numbers.{below_next}
 pub use Rattle.plain_vec.proofs.Places.{got_some, map_got}
 pub use Rattle.plain_vec.specs.Members.{In}
 pub use Rattle.plain_vec.specs.Options.{option_is}
-pub use Rattle.std.proofs.Common.{◌≡◌, ◌<◌, ◌∙◌, ◌⊎◌, inl, inr, ℕ, Bool, true, false, List, refl, sym, ap, subst, arith, Option, Some, None, slice_get, length, ◌+◌, ◌++◌, ◌∷◌, [], ◌≤◌, get_or, zero, suc, take, slice_range, ◌^◌, ◌≢◌, ◌↔◌, map, append-nil}
+pub use Rattle.std.proofs.Common.{◌≡◌, ◌<◌, ◌∙◌, ◌⊎◌, inl, inr, ℕ, Bool, true, false, List, refl, sym, ap, subst, arith, Option, Some, None, slice_get, length, ◌+◌, ◌++◌, ◌∷◌, [], ◌≤◌, get_or, zero, suc, take, slice_range, ◌^◌, ◌≢◌, map, append-nil}
 pub use Rattle.std.proofs.lemmas.Bool.{or_cases, cases_eq, not-true}
 pub use Rattle.std.proofs.lemmas.Bool.Decides.{nat_tests}
 pub use Rattle.std.proofs.lemmas.List.{length_push, map-append, length-set}
@@ -55,4 +55,4 @@ pub use Rattle.std.proofs.lemmas.List.Sums.{sum_by_more, sum_by_more_le, sum_by-
 pub use Rattle.std.proofs.lemmas.Option.{same_Some, get_or_from_slice_get, slice_get-get_or, slice_get_within}
 pub use Rattle.std.proofs.lemmas.Result.{IfOk-weaker, IfErr-weaker, on_ok_weaker}
 pub use Rattle.std.specs.List.Sorted.{IsStrictlyIncreasing}
-pub use Rattle.std.specs.Prelude.{nat_lt, ◌==◌, option_to_list, if◌then◌else◌, is_some, not, ◌||◌, IsTrue, sum_by, slice_set}
+pub use Rattle.std.specs.Prelude.{nat_lt, ◌==◌, option_to_list, if◌then◌else◌, is_some, not, ◌||◌, sum_by, slice_set}

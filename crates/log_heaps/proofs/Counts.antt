@@ -1,5 +1,5 @@
 -- Counts of acts.
-use Rattle.log_heaps.proofs.Common.{◌≡◌, ◌<◌, ◌+◌, ◌++◌, ◌∷◌, ◌∙◌, ℕ, Bool, true, false, [], length, refl, sym, ap, subst, length_push, AreThose, CountsActs, counted, IsBelow}
+use Rattle.log_heaps.proofs.Common.{◌≡◌, ◌<◌, ◌+◌, ◌++◌, ◌∷◌, ◌∙◌, ℕ, Bool, true, false, [], refl, sym, ap, subst, length_push, CountsActs, counted, IsBelow}
 use Rattle.log_heaps.proofs.Those.{none_more, one_more, nothing_below, all_below}
 
 module _ (Is : ℕ → Type 0) where

@@ -1,5 +1,5 @@
 -- The rows on depths.
-use Rattle.log_heaps.proofs.Common.{◌≡◌, ◌<◌, ◌≤◌, ◌+◌, ◌++◌, ◌∙◌, ◌⊎◌, ℕ, Bool, true, false, List, length, get_or, refl, sym, ap, subst, Option, Some, None, slice_get, arith, nat_tests, same_Some, slice_get-get_or, ◌==◌, option_to_list, if◌then◌else◌, HeapDepth, BlockBirth, DepthSums, AreThose, IsDepthRow, depth_row, blocks_at, IsBelow, row_if, sums_at, HasSums, AreAbove}
+use Rattle.log_heaps.proofs.Common.{◌≡◌, ◌<◌, ◌+◌, ◌++◌, ◌∙◌, ℕ, Bool, true, false, List, length, get_or, refl, sym, ap, subst, Option, Some, None, arith, nat_tests, same_Some, slice_get-get_or, ◌==◌, option_to_list, if◌then◌else◌, HeapDepth, BlockBirth, DepthSums, AreThose, IsDepthRow, depth_row, blocks_at, IsBelow, row_if, sums_at, HasSums, AreAbove}
 use Rattle.log_heaps.proofs.Those.{answer_more, all_below}
 use Rattle.log_heaps.proofs.Sums.{some_birth}
 

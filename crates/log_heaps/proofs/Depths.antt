@@ -1,5 +1,5 @@
 -- A task has one depth, and two tasks have one lowest common ancestor.
-use Rattle.log_heaps.proofs.Common.{◌≡◌, ◌⊎◌, inl, inr, ℕ, zero, suc, refl, sym, ap, subst, TaskTurns, IsParent, IsAncestor, IsForkJoin, IsLowestCommon, IsLine, through, child_above, up_cases, one_parent, no_root_parent, no_self, rooted_above}
+use Rattle.log_heaps.proofs.Common.{◌≡◌, inl, inr, ℕ, zero, suc, refl, sym, ap, subst, TaskTurns, IsParent, IsAncestor, IsForkJoin, IsLowestCommon, IsLine, through, child_above, up_cases, one_parent, no_root_parent, no_self, rooted_above}
 
 module _ (tasks : TaskTurns) (fj : IsForkJoin tasks) where
   pub one_depth : (k m t : ℕ) → IsLine tasks 0 k t → IsLine tasks 0 m t → k ≡ m

@@ -1,5 +1,5 @@
 -- Along the pieces of a log.
-use Rattle.log_heaps.proofs.Common.{◌≡◌, ◌<◌, ◌≤◌, ◌+◌, ℕ, List, length, get_or, take, slice_range, Option, Some, slice_get, arith, slice_get-get_or, WalkValue, LogPiece, text_at, acts_in, events_of_pieces, LogTasks, IsPlaceOf, ArePiecePlaces, Event, GraphStrand, Lifetimes, IsScene, IsPart, part_of, Tally, AreTallied}
+use Rattle.log_heaps.proofs.Common.{◌≡◌, ◌<◌, ℕ, List, length, get_or, take, slice_range, Option, arith, slice_get-get_or, WalkValue, LogPiece, text_at, acts_in, events_of_pieces, LogTasks, IsPlaceOf, ArePiecePlaces, Event, GraphStrand, Lifetimes, IsScene, IsPart, part_of, Tally, AreTallied}
 
 -- the acts of one piece more are taken
 pub tallied_on : (texts : List (List ℕ)) (pieces : List LogPiece) (places : List (Option ℕ)) (i : ℕ) (d : LogPiece) (e : Option ℕ) (text : List ℕ) (first line : ℕ) → i < length pieces → length places ≡ length pieces

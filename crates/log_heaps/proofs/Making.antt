@@ -1,5 +1,5 @@
 -- What is told of a log's heaps.
-use Rattle.log_heaps.proofs.Common.{◌≡◌, ◌<◌, ◌≤◌, ◌^◌, ◌∙◌, ℕ, Bool, true, false, List, [], length, refl, sym, ap, subst, arith, Option, None, Some, slice_get, not, slice_get_within, WalkValue, IsWalked, LogPiece, events_of_pieces, LogTasks, IsLog, ArePiecePlaces, Event, events_of, log_fault, Extent, GraphStrand, Lifetimes, IsScene, KnowAll, scene_is, LogHeaps, BlockBirth, Tally, HeapsError, TooLong, TooManyWords, NoMemory, IsBirth, StoresReference, IsDownPointer, CountsActs, AreHeaps, HeapsAreTooLarge, IsTooManyAt, is_shared, AreTallied, IsToldOf}
+use Rattle.log_heaps.proofs.Common.{◌≡◌, ◌<◌, ◌∙◌, ℕ, true, false, List, [], length, sym, subst, arith, Option, None, not, slice_get_within, WalkValue, IsWalked, LogPiece, events_of_pieces, LogTasks, IsLog, ArePiecePlaces, Event, events_of, log_fault, Extent, Lifetimes, IsScene, KnowAll, scene_is, LogHeaps, BlockBirth, Tally, HeapsError, TooLong, TooManyWords, NoMemory, IsBirth, StoresReference, IsDownPointer, CountsActs, AreHeaps, HeapsAreTooLarge, IsTooManyAt, is_shared, AreTallied, IsToldOf}
 use Rattle.log_heaps.proofs.Those.{nothing_below, all_below}
 use Rattle.log_heaps.proofs.Counts.{no_count, count_all}
 use Rattle.log_heaps.proofs.Sharing.{are_own}

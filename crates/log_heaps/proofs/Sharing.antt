@@ -1,5 +1,5 @@
 -- Blocks that other tasks name than those that bear them.
-use Rattle.log_heaps.proofs.Common.{◌≡◌, ◌≢◌, ◌<◌, ◌+◌, ◌∙◌, ◌⊎◌, ◌↔◌, inl, inr, ℕ, Bool, true, false, List, refl, sym, ap, subst, arith, Option, Some, None, slice_get, or_cases, cases_eq, not-true, nat_tests, same_Some, get_or_from_slice_get, ◌==◌, ◌||◌, not, IsTrue, if◌then◌else◌, option_is, below_next, strand_at, task_at, WalkValue, LogTasks, log_strand, StrandStandsAt, StandsNowhere, Event, event, Act, GraphStrand, strand, LineAt, Lifetimes, born, released, used, DoesToBlock, IsScene, line_told, is_told, not_seen, seen_block, seen_strand, see, SharedBlocks, referred, IsOfTask, IsNamedAlone, AreOwn, foreign, foreign_by, is_shared, shared_after, NamesForeign, AreSharedBelow}
+use Rattle.log_heaps.proofs.Common.{◌≡◌, ◌≢◌, ◌<◌, ◌+◌, ◌∙◌, ◌⊎◌, inl, inr, ℕ, Bool, true, false, List, refl, sym, ap, subst, arith, Option, Some, None, slice_get, or_cases, cases_eq, not-true, nat_tests, same_Some, get_or_from_slice_get, ◌==◌, ◌||◌, not, if◌then◌else◌, option_is, below_next, task_at, WalkValue, LogTasks, log_strand, StrandStandsAt, StandsNowhere, Event, event, Act, GraphStrand, strand, LineAt, Lifetimes, born, released, used, DoesToBlock, IsScene, line_told, is_told, not_seen, seen_block, seen_strand, see, SharedBlocks, referred, IsOfTask, IsNamedAlone, AreOwn, foreign, foreign_by, is_shared, shared_after, NamesForeign, AreSharedBelow}
 use Rattle.log_heaps.proofs.BornBlocks.{one_birth, told_birth, birth_done}
 
 or_left : (x y : Bool) → x ≡ true → (x || y) ≡ true

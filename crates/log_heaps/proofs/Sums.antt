@@ -1,5 +1,5 @@
 -- Sums of births by depth.
-use Rattle.log_heaps.proofs.Common.{◌≡◌, ◌<◌, ◌≤◌, ◌+◌, ◌^◌, ◌∙◌, ◌⊎◌, inl, inr, ℕ, Bool, true, false, List, [], ◌∷◌, length, get_or, take, refl, sym, ap, subst, Option, Some, None, slice_get, arith, zero, suc, ◌==◌, sum_by, slice_set, if◌then◌else◌, cases_eq, nat_tests, sum_by_more, sum_by_more_le, sum_by-cons, sum_by-take-le, same_Some, slice_get-get_or, get_or_from_slice_get, In, got_same, got_other, BlockBirth, DepthSums, at_depth, blocks_at, words_at, own_at, words_if, added, sums_at, HasSums, AreAbove}
+use Rattle.log_heaps.proofs.Common.{◌≡◌, ◌<◌, ◌≤◌, ◌+◌, ◌^◌, ◌∙◌, inl, inr, ℕ, Bool, true, false, List, [], ◌∷◌, length, get_or, take, refl, sym, ap, subst, Some, slice_get, arith, suc, ◌==◌, sum_by, slice_set, if◌then◌else◌, cases_eq, nat_tests, sum_by_more, sum_by_more_le, sum_by-cons, sum_by-take-le, same_Some, slice_get-get_or, get_or_from_slice_get, got_same, got_other, BlockBirth, DepthSums, at_depth, blocks_at, words_at, own_at, words_if, added, sums_at, HasSums}
 
 here_is : (depth : ℕ) (birth : BlockBirth) (n : ℕ) → birth.depth ≡ depth → at_depth depth birth n ≡ n
 here_is depth birth n e = ap (λ (b : Bool). if b then n else 0) (let t : (birth.depth == depth) ≡ true = grind (arith, nat_tests, e) in t)

@@ -1,5 +1,5 @@
 -- One act more is taken.
-use Rattle.log_heaps.proofs.Common.{◌≡◌, ◌<◌, ◌+◌, ◌∙◌, ℕ, Bool, true, false, List, refl, sym, ap, subst, Option, Some, None, slice_get, is_some, WalkValue, LogTasks, log_strand, StrandStandsAt, StandsNowhere, IsPlaceOf, Event, event, Act, GraphStrand, Lifetimes, born, DoesToBlock, IsScene, not_seen, seen_block, see, BlockBirth, Tally, stored, IsBirth, StoresReference, IsDownPointer, AreTakenAt, AreTaken, AreTallied, is_shared}
+use Rattle.log_heaps.proofs.Common.{◌≡◌, ◌+◌, ℕ, true, false, List, refl, sym, ap, subst, Option, Some, None, slice_get, is_some, WalkValue, LogTasks, IsPlaceOf, Event, event, Act, GraphStrand, Lifetimes, born, DoesToBlock, IsScene, not_seen, seen_block, see, BlockBirth, Tally, stored, IsBirth, StoresReference, IsDownPointer, AreTaken, AreTallied, is_shared}
 use Rattle.log_heaps.proofs.Those.{none_more, answer_more}
 use Rattle.log_heaps.proofs.Counts.{count_more}
 use Rattle.log_heaps.proofs.BornBlocks.{birth_sound, birth_complete}

@@ -1,5 +1,5 @@
 -- Lists of those things that are so, by ascending keys.
-use Rattle.log_heaps.proofs.Common.{◌≡◌, ◌<◌, ◌≤◌, ◌+◌, ◌++◌, ◌∷◌, ◌∙◌, ◌⊎◌, inl, inr, ℕ, List, [], length, get_or, map, refl, sym, ap, subst, Option, Some, None, append-nil, arith, option_to_list, IsStrictlyIncreasing, map-append, get_or_from_slice_get, In, got_in, in_append_left, in_append_right, in_append_cases, got_some, map_got, below_next, ascending_push, AreThose, IsBelow}
+use Rattle.log_heaps.proofs.Common.{◌≡◌, ◌<◌, ◌+◌, ◌++◌, ◌∷◌, ◌∙◌, ◌⊎◌, inl, inr, ℕ, List, [], length, get_or, map, refl, sym, ap, subst, Option, Some, None, append-nil, arith, option_to_list, IsStrictlyIncreasing, map-append, get_or_from_slice_get, In, got_in, in_append_left, in_append_right, in_append_cases, got_some, map_got, below_next, ascending_push, AreThose, IsBelow}
 
 -- ONE KEY MORE
 

@@ -1,4 +1,3 @@
-use Rattle.std.proofs.Common.{arith}
 use Rattle.log_heaps.proofs.DepthRows.{rows_more, sums_there}
 use Rattle.log_heaps.proofs.rows.rows_of.Goals as goal
 

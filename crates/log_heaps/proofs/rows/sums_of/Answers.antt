@@ -1,4 +1,4 @@
-use Rattle.log_heaps.proofs.Common.{◌∙◌, ◌≡◌, ◌≤◌, ◌<◌, ◌^◌, ℕ, Bool, List, length, get_or, ap, sym, subst, arith, not, slice_set, length-set, slice_get-get_or, BlockBirth, DepthSums, added, AreAbove}
+use Rattle.log_heaps.proofs.Common.{◌∙◌, ◌≡◌, ◌<◌, ℕ, Bool, List, length, get_or, ap, sym, subst, arith, not, slice_set, length-set, slice_get-get_or, BlockBirth, DepthSums, added, AreAbove}
 use Rattle.log_heaps.proofs.Sums.{blocks_fit, own_fits, words_over, sums_next}
 use Rattle.log_heaps.proofs.rows.sums_of.Goals as goal
 

@@ -1,4 +1,4 @@
-use Rattle.log_heaps.proofs.Common.{◌≡◌, ◌≤◌, ◌^◌, length, take, not, HasSums, AreAbove, is_shared}
+use Rattle.log_heaps.proofs.Common.{◌≤◌, ◌^◌, length, take, not, HasSums, AreAbove, is_shared}
 use Rattle.log_heaps.proofs.rows.sums_of.Given as goal
 
 abbrev pub invariant-loop-birth : goal.invariant-loop-birth
