@@ -61,13 +61,13 @@ module _ (jd wt : ℕ → Bool) (js : ℕ → ℕ) (es : List Edge) (R : Rows jd
   abbrev forked : List Edge
   forked = es ++ d1 ∷ d2 ∷ []
 
-  own_turns : turns_of forked t ≡ turns_of es t ++ Spawn n ∷ Spawn (n + 1) ∷ []
+  pub own_turns : turns_of forked t ≡ turns_of es t ++ Spawn n ∷ Spawn (n + 1) ∷ []
   own_turns = turns_more es d1 d2 t ∙ rw (eq-eqb t t refl) refl
 
-  other_turns : (u : ℕ) → (u ≡ t → ⊥) → turns_of forked u ≡ turns_of es u
+  pub other_turns : (u : ℕ) → (u ≡ t → ⊥) → turns_of forked u ≡ turns_of es u
   other_turns u ne = turns_more es d1 d2 u ∙ rw (ne_eqb t u (λ e. ne (sym e))) (append-nil (turns_of es u))
 
-  size : length (turns_of es t) ≡ 4 * js t
+  pub size : length (turns_of es t) ≡ 4 * js t
   size = R.count t ∙ (ap (λ b. 4 * js t + open_turns b) idle ∙ (let e : 4 * js t + 0 ≡ 4 * js t = omega arith in e))
 
   count' : (u : ℕ) → length (turns_of forked u) ≡ 4 * js u + open_turns (wt' u)
@@ -87,7 +87,7 @@ module _ (jd wt : ℕ → Bool) (js : ℕ → ℕ) (es : List Edge) (R : Rows jd
   in_second = in_append_right es (d1 ∷ d2 ∷ []) d2 (inr (inl refl))
 
   -- a turn of the tasks before
-  kept : (u i : ℕ) (turn : GraphTurn) → graph.Does (turns_of es) u i turn → graph.Does (turns_of forked) u i turn
+  pub kept : (u i : ℕ) (turn : GraphTurn) → graph.Does (turns_of es) u i turn → graph.Does (turns_of forked) u i turn
   kept u i turn h = elim (cases_eq u t) [
     | inl e ↦ subst (λ x. slice_get (turns_of forked x) i ≡ Some turn) (sym e) (ap (λ xs. slice_get xs i) own_turns ∙ kept_more (turns_of es t) (Spawn n ∷ Spawn (n + 1) ∷ []) i turn (subst (λ x. slice_get (turns_of es x) i ≡ Some turn) e h))
     | inr ne ↦ ap (λ xs. slice_get xs i) (other_turns u ne) ∙ h
@@ -97,7 +97,7 @@ module _ (jd wt : ℕ → Bool) (js : ℕ → ℕ) (es : List Edge) (R : Rows jd
   abbrev Old : ℕ → ℕ → GraphTurn → Type 0
   Old u i turn = graph.Does (turns_of es) u i turn ⊎ ((u ≡ t) × (((i ≡ 4 * js t) × (Spawn n ≡ turn)) ⊎ ((i ≡ 4 * js t + 1) × (Spawn (n + 1) ≡ turn))))
 
-  was : (u i : ℕ) (turn : GraphTurn) → graph.Does (turns_of forked) u i turn → Old u i turn
+  pub was : (u i : ℕ) (turn : GraphTurn) → graph.Does (turns_of forked) u i turn → Old u i turn
   was u i turn h = elim (cases_eq u t) [
     | inl e ↦ elim (two_more (turns_of es t) (Spawn n) (Spawn (n + 1)) turn i (sym (ap (λ xs. slice_get xs i) own_turns) ∙ subst (λ x. slice_get (turns_of forked x) i ≡ Some turn) e h)) [
       | inl old ↦ inl (subst (λ x. slice_get (turns_of es x) i ≡ Some turn) (sym e) old)
@@ -106,7 +106,7 @@ module _ (jd wt : ℕ → Bool) (js : ℕ → ℕ) (es : List Edge) (R : Rows jd
     | inr ne ↦ inl (sym (ap (λ xs. slice_get xs i) (other_turns u ne)) ∙ h)
   ]
 
-  spawn_child : (a b : ℕ) → Spawn a ≡ Spawn b → a ≡ b
+  pub spawn_child : (a b : ℕ) → Spawn a ≡ Spawn b → a ≡ b
   spawn_child a b e = cc
 
   spawn_old : (u i c : ℕ) → SpawnsAt es u i c → SpawnsAt forked u i c
@@ -147,7 +147,7 @@ module _ (jd wt : ℕ → Bool) (js : ℕ → ℕ) (es : List Edge) (R : Rows jd
   no_join : (x c : ℕ) → Spawn x ≡ Join c → ⊥
   no_join x c e = cc
 
-  join_was : (u i c : ℕ) → graph.Does (turns_of forked) u i (Join c) → graph.Does (turns_of es) u i (Join c)
+  pub join_was : (u i c : ℕ) → graph.Does (turns_of forked) u i (Join c) → graph.Does (turns_of es) u i (Join c)
   join_was u i c h = elim (was u i (Join c) h) [
     | inl old ↦ old
     | inr new ↦ elim new.1 [ inl a ↦ absurd (no_join n c a.1) | inr b ↦ absurd (no_join (n + 1) c b.1) ]
@@ -156,20 +156,26 @@ module _ (jd wt : ℕ → Bool) (js : ℕ → ℕ) (es : List Edge) (R : Rows jd
   joins' : (u i c : ℕ) → graph.Does (turns_of forked) u i (Join c) → JoinsAt jd js forked (turns_of forked) u i c
   joins' u i c h = join_old u i c (R.turns.joins u i c (join_was u i c h))
 
+  pub first_turn : graph.Does (turns_of forked) t (4 * js t + 0) (Spawn n)
+  first_turn = subst (λ k. slice_get (turns_of forked t) k ≡ Some (Spawn n)) (let s = size in let e : length (turns_of es t) ≡ 4 * js t + 0 = omega (arith, s) in e)
+      (ap (λ xs. slice_get xs (length (turns_of es t))) own_turns ∙ first_more (turns_of es t) (Spawn n) (Spawn (n + 1)))
+
   fork_first : IsFork (turns_of forked) d1
   fork_first = record {
     side = 0;
     two = omega arith;
-    turn = subst (λ k. slice_get (turns_of forked t) k ≡ Some (Spawn n)) (let s = size in let e : length (turns_of es t) ≡ 4 * js t + 0 = omega (arith, s) in e)
-        (ap (λ xs. slice_get xs (length (turns_of es t))) own_turns ∙ first_more (turns_of es t) (Spawn n) (Spawn (n + 1)));
+    turn = first_turn;
   }
+
+  pub second_turn : graph.Does (turns_of forked) t (4 * js t + 1) (Spawn (n + 1))
+  second_turn = subst (λ k. slice_get (turns_of forked t) k ≡ Some (Spawn (n + 1))) (let s = size in let e : length (turns_of es t) + 1 ≡ 4 * js t + 1 = omega (arith, s) in e)
+      (ap (λ xs. slice_get xs (length (turns_of es t) + 1)) own_turns ∙ second_more (turns_of es t) (Spawn n) (Spawn (n + 1)))
 
   fork_second : IsFork (turns_of forked) d2
   fork_second = record {
     side = 1;
     two = omega arith;
-    turn = subst (λ k. slice_get (turns_of forked t) k ≡ Some (Spawn (n + 1))) (let s = size in let e : length (turns_of es t) + 1 ≡ 4 * js t + 1 = omega (arith, s) in e)
-        (ap (λ xs. slice_get xs (length (turns_of es t) + 1)) own_turns ∙ second_more (turns_of es t) (Spawn n) (Spawn (n + 1)));
+    turn = second_turn;
   }
 
   forks' : (e : Edge) → In forked e → e.target.joins ≡ 0 → IsFork (turns_of forked) e
@@ -184,7 +190,7 @@ module _ (jd wt : ℕ → Bool) (js : ℕ → ℕ) (es : List Edge) (R : Rows jd
   first_strand : (e : Edge) (d : Edge) (fork : ℕ) → d ≡ e → d.target.joins ≡ 0 → e.target.joins ≡ fork + 1 → ⊥
   first_strand e d fork is none later = let z : e.target.joins ≡ 0 = ap (λ (x : Edge). x.target.joins) (sym is) ∙ none in omega (arith, z, later)
 
-  longer : (u : ℕ) → length (turns_of es u) ≤ length (turns_of forked u)
+  pub longer : (u : ℕ) → length (turns_of es u) ≤ length (turns_of forked u)
   longer u = elim (cases_eq u t) [
     | inl e ↦ subst (λ x. length (turns_of es x) ≤ length (turns_of forked x)) (sym e) (let l : length (turns_of forked t) ≡ length (turns_of es t) + 2 = ap length own_turns ∙ length-append (turns_of es t) (Spawn n ∷ Spawn (n + 1) ∷ []) in omega (arith, l))
     | inr ne ↦ let l : length (turns_of forked u) ≡ length (turns_of es u) = ap length (other_turns u ne) in omega (arith, l)
@@ -229,13 +235,13 @@ module _ (jd wt : ℕ → Bool) (js : ℕ → ℕ) (es : List Edge) (R : Rows jd
   no_first : (k : ℕ) → (k + 1 == 0) ≡ false
   no_first k = ne_eqb (k + 1) 0 (λ e. omega (arith, e))
 
-  own_joins : turns_of joined p ≡ turns_of es p ++ Join l ∷ Join r ∷ []
+  pub own_joins : turns_of joined p ≡ turns_of es p ++ Join l ∷ Join r ∷ []
   own_joins = turns_more es b1 b2 p ∙ rw (no_first (js p), eq-eqb p p refl) refl
 
-  other_joins : (u : ℕ) → (u ≡ p → ⊥) → turns_of joined u ≡ turns_of es u
+  pub other_joins : (u : ℕ) → (u ≡ p → ⊥) → turns_of joined u ≡ turns_of es u
   other_joins u ne = turns_more es b1 b2 u ∙ rw (no_first (js p), ne_eqb p u (λ e. ne (sym e))) (append-nil (turns_of es u))
 
-  size_open : length (turns_of es p) ≡ 4 * js p + 2
+  pub size_open : length (turns_of es p) ≡ 4 * js p + 2
   size_open = R.count p ∙ ap (λ b. 4 * js p + open_turns b) wp
 
   count_joined : (u : ℕ) → length (turns_of joined u) ≡ 4 * js' u + open_turns (wt' u)
@@ -258,7 +264,7 @@ module _ (jd wt : ℕ → Bool) (js : ℕ → ℕ) (es : List Edge) (R : Rows jd
   in_right : In joined b2
   in_right = in_append_right es (b1 ∷ b2 ∷ []) b2 (inr (inl refl))
 
-  kept_joined : (u i : ℕ) (turn : GraphTurn) → graph.Does (turns_of es) u i turn → graph.Does (turns_of joined) u i turn
+  pub kept_joined : (u i : ℕ) (turn : GraphTurn) → graph.Does (turns_of es) u i turn → graph.Does (turns_of joined) u i turn
   kept_joined u i turn h = elim (cases_eq u p) [
     | inl e ↦ subst (λ x. slice_get (turns_of joined x) i ≡ Some turn) (sym e) (ap (λ xs. slice_get xs i) own_joins ∙ kept_more (turns_of es p) (Join l ∷ Join r ∷ []) i turn (subst (λ x. slice_get (turns_of es x) i ≡ Some turn) e h))
     | inr ne ↦ ap (λ xs. slice_get xs i) (other_joins u ne) ∙ h
@@ -267,7 +273,7 @@ module _ (jd wt : ℕ → Bool) (js : ℕ → ℕ) (es : List Edge) (R : Rows jd
   abbrev Before : ℕ → ℕ → GraphTurn → Type 0
   Before u i turn = graph.Does (turns_of es) u i turn ⊎ ((u ≡ p) × (((i ≡ 4 * js p + 2) × (Join l ≡ turn)) ⊎ ((i ≡ 4 * js p + 3) × (Join r ≡ turn))))
 
-  before : (u i : ℕ) (turn : GraphTurn) → graph.Does (turns_of joined) u i turn → Before u i turn
+  pub before : (u i : ℕ) (turn : GraphTurn) → graph.Does (turns_of joined) u i turn → Before u i turn
   before u i turn h = elim (cases_eq u p) [
     | inl e ↦ elim (two_more (turns_of es p) (Join l) (Join r) turn i (sym (ap (λ xs. slice_get xs i) own_joins) ∙ subst (λ x. slice_get (turns_of joined x) i ≡ Some turn) e h)) [
       | inl old ↦ inl (subst (λ x. slice_get (turns_of es x) i ≡ Some turn) (sym e) old)
@@ -279,10 +285,10 @@ module _ (jd wt : ℕ → Bool) (js : ℕ → ℕ) (es : List Edge) (R : Rows jd
     | inr ne ↦ inl (sym (ap (λ xs. slice_get xs i) (other_joins u ne)) ∙ h)
   ]
 
-  no_spawn : (x c : ℕ) → Join x ≡ Spawn c → ⊥
+  pub no_spawn : (x c : ℕ) → Join x ≡ Spawn c → ⊥
   no_spawn x c e = cc
 
-  join_child : (a b : ℕ) → Join a ≡ Join b → a ≡ b
+  pub join_child : (a b : ℕ) → Join a ≡ Join b → a ≡ b
   join_child a b e = cc
 
   spawn_before : (u i c : ℕ) → SpawnsAt es u i c → SpawnsAt joined u i c
@@ -338,7 +344,7 @@ module _ (jd wt : ℕ → Bool) (js : ℕ → ℕ) (es : List Edge) (R : Rows jd
     ]
   ]
 
-  longer_joined : (u : ℕ) → length (turns_of es u) ≤ length (turns_of joined u)
+  pub longer_joined : (u : ℕ) → length (turns_of es u) ≤ length (turns_of joined u)
   longer_joined u = elim (cases_eq u p) [
     | inl e ↦ subst (λ x. length (turns_of es x) ≤ length (turns_of joined x)) (sym e) (let a : length (turns_of joined p) ≡ length (turns_of es p) + 2 = ap length own_joins ∙ length-append (turns_of es p) (Join l ∷ Join r ∷ []) in omega (arith, a))
     | inr ne ↦ let a : length (turns_of joined u) ≡ length (turns_of es u) = ap length (other_joins u ne) in omega (arith, a)
@@ -356,22 +362,28 @@ module _ (jd wt : ℕ → Bool) (js : ℕ → ℕ) (es : List Edge) (R : Rows jd
       later_strand : (e d : Edge) → d ≡ e → d.target.joins ≡ js p + 1 → e.target.joins ≡ 0 → ⊥
       later_strand e d is later first = let z : e.target.joins ≡ js p + 1 = ap (λ (x : Edge). x.target.joins) (sym is) ∙ later in omega (arith, z, first)
 
+  pub left_turn : graph.Does (turns_of joined) p (4 * js p + 2 + 0) (Join l)
+  left_turn = subst (λ k. slice_get (turns_of joined p) k ≡ Some (Join l)) (let s = size_open in let e : length (turns_of es p) ≡ 4 * js p + 2 + 0 = omega (arith, s) in e)
+      (ap (λ xs. slice_get xs (length (turns_of es p))) own_joins ∙ first_more (turns_of es p) (Join l) (Join r))
+
   end_left : IsJoin js' (turns_of joined) b1 (js p)
   end_left = record {
     side = 0;
     two = omega arith;
-    turn = subst (λ k. slice_get (turns_of joined p) k ≡ Some (Join l)) (let s = size_open in let e : length (turns_of es p) ≡ 4 * js p + 2 + 0 = omega (arith, s) in e)
-        (ap (λ xs. slice_get xs (length (turns_of es p))) own_joins ∙ first_more (turns_of es p) (Join l) (Join r));
+    turn = left_turn;
     whole = let c = count_joined p in let j = jp in omega (arith, c, j);
     last = sym (jrest l (λ e. not_l (sym e)));
   }
+
+  pub right_turn : graph.Does (turns_of joined) p (4 * js p + 2 + 1) (Join r)
+  right_turn = subst (λ k. slice_get (turns_of joined p) k ≡ Some (Join r)) (let s = size_open in let e : length (turns_of es p) + 1 ≡ 4 * js p + 2 + 1 = omega (arith, s) in e)
+      (ap (λ xs. slice_get xs (length (turns_of es p) + 1)) own_joins ∙ second_more (turns_of es p) (Join l) (Join r))
 
   end_right : IsJoin js' (turns_of joined) b2 (js p)
   end_right = record {
     side = 1;
     two = omega arith;
-    turn = subst (λ k. slice_get (turns_of joined p) k ≡ Some (Join r)) (let s = size_open in let e : length (turns_of es p) + 1 ≡ 4 * js p + 2 + 1 = omega (arith, s) in e)
-        (ap (λ xs. slice_get xs (length (turns_of es p) + 1)) own_joins ∙ second_more (turns_of es p) (Join l) (Join r));
+    turn = right_turn;
     whole = let c = count_joined p in let j = jp in omega (arith, c, j);
     last = sym (jrest r (λ e. not_r (sym e)));
   }
