@@ -19,7 +19,10 @@ pub use Rattle.hh_model.specs.declared.data.Task.{Task}
 pub use Rattle.hh_model.specs.declared.data.TaskStatus.{TaskStatus}
 pub use Rattle.hh_model.specs.declared.data.TaskStatus.TheVariants.{Running, Waiting, Ended, Joined}
 pub use Rattle.hh_model.specs.declared.data.Trap.{Trap}
-pub use Rattle.log_lines.specs.declared.line.Act.{Act}
+pub use Rattle.log_places.specs.Places.{Covers}
+pub use Rattle.log_places.specs.declared.region.Region.{Region}
+pub use Rattle.log_touches.specs.Accesses.{region_of}
+pub use Rattle.log_touches.specs.declared.access.ActAccess.{ActAccess}
 pub use Rattle.path_laws.proofs.Objects.{objects_stay}
 pub use Rattle.path_laws.proofs.Stored.{names_are_stored}
 pub use Rattle.race_report.proofs.LabelSteps.{Begun, run_keeps, begun_running}
@@ -29,25 +32,25 @@ pub use Rattle.race_report.specs.LabelLaw.{TaskRuns}
 pub use Rattle.race_report.specs.Races.{IsRace, RaceAt}
 pub use Rattle.race_report.specs.declared.data.Field.{Field}
 pub use Rattle.race_report.specs.declared.data.FieldAccess.{FieldAccess}
-pub use Rattle.run_deltas.specs.Deeds.{deed, if_there, number_place, reference_in, number_in, act_of, act_by, step_act_of}
-pub use Rattle.run_deltas.specs.declared.data.Deed.{Deed}
-pub use Rattle.run_log.specs.Acts.{location, act_of_deed, block_of}
-pub use Rattle.run_log.specs.Lines.{moved_lines}
-pub use Rattle.run_log.specs.Log.{lines_of}
 pub use Rattle.run_log_laws.proofs.Rows.{open_turns}
 pub use Rattle.run_log_laws.proofs.Runs.{walks_agree, run_rows}
 pub use Rattle.run_log_laws.proofs.below.plain_vec.{contains_from_in, In, got_in, in_got, in_map, map_in, in_append_cases, in_from_contains, got_more}
 pub use Rattle.run_log_laws.specs.Graph.{in_log, turns_of, WalksAgree}
 pub use Rattle.run_log_laws.specs.below.fork_graph.{GraphStrand, StrandPrecedes}
 pub use Rattle.run_log_laws.specs.below.hh_lang.{Instr, Set, Mov, Movr, Nil, Calc, Same, Jmp, Jz, Newm, Pack, Getr, Geti, Putr, Puti, Cntr, Cnti, Freeze, Cas, Call, Par, Ret, Out, ProgramText, Line}
-pub use Rattle.run_race_laws.specs.Accesses.{ToldAccess, told_access, accesses_told, as_told, access_kind_of, field_location, index_among, accesses_by, LogsTellAccesses}
-pub use Rattle.run_race_laws.specs.Races.{HasField, PlaceCovers, writes, is_atomic, kinds_clash, ToldRaceAt, count_of, LogsTellRaces}
+pub use Rattle.run_race_laws.specs.Accesses.{ToldAccess, told_access, accesses_told, as_told, access_kind_of, field_region, index_among, accesses_by, LogsTellAccesses}
+pub use Rattle.race_cells.specs.CellAccess.{writes, is_atomic, clash}
+pub use Rattle.race_cells.specs.declared.access.CellAccessKind.TheVariants.{PlainRead, PlainWrite}
+pub use Rattle.run_race_laws.specs.Races.{HasField, ToldRaceAt, count_of, LogsTellFields, LogsTellRaces}
 pub use Rattle.run_turn_laws.proofs.Along.{act_told, on_strand, strand_now, turn_events, step_act, told_along}
 pub use Rattle.run_turn_laws.proofs.Legal.{logs_tell_edges, legal_ready}
 pub use Rattle.run_turn_laws.proofs.Told.{spot}
 pub use Rattle.run_turn_laws.specs.Events.{events_told, spot_after}
 pub use Rattle.run_turn_laws.specs.Turns.{turns_told, TellEdges}
 pub use Rattle.run_turn_laws.specs.below.log_form.{Event, event}
+pub use Rattle.run_turn_laws.specs.below.log_lines.{Act}
+pub use Rattle.run_turn_laws.specs.below.run_deltas.{act_by, act_of, deed, if_there, number_in, number_place, reference_in, step_act_of, Deed}
+pub use Rattle.run_turn_laws.specs.below.run_log.{act_of_deed, block_of, lines_of, location, moved_lines}
 pub use Rattle.run_turn_laws.specs.below.run_ledger.{is_legal, machine_of, tasks_of}
 pub use Rattle.run_turn_laws.specs.below.run_trace.{EntryValue, SettingsValue, field_limit}
 pub use Rattle.std.proofs.Common.{◌≡◌, ◌<◌, ◌≤◌, ◌+◌, ◌*◌, ℕ, ℤ, pos, negsuc, nat_lt, arith, zero, suc, Bool, true, false, cond, Option, Some, None, IfSome, List, [], ◌∷◌, ◌++◌, length, map, slice_get, refl, ap, sym, subst, ◌∙◌, not, ◌⊎◌, inl, inr, append-nil, append_assoc}

@@ -1,16 +1,14 @@
 -- The act that a step is told as is its access.
-use Rattle.run_race_laws.proofs.Common.{◌≡◌, ◌<◌, ◌+◌, ℕ, ℤ, pos, negsuc, nat_lt, arith, Bool, true, false, cond, Option, Some, None, IfSome, List, [], ◌∷◌, length, map, refl, ap, sym, subst, ◌∙◌, ◌==◌, option_flatten, ltb-true, same_Some, GraphStrand, Instr, Set, Mov, Movr, Nil as NilOf, Calc, Same, Jmp, Jz, Newm, Pack, Getr, Geti, Putr, Puti, Cntr, Cnti, Freeze, Cas, Call, Par, Ret, Out, at_in, Effect, Goes, Prints, Calls, Forks, Returns, Traps, Stops, StepContext, effect, object_at, int_in, ref_in, place_in, same_name, read_effect, or_trap, onward, with_ref, counts_in, next_name, precedes, setting, strand_of, owner_of, IsStored, NamesAreStoredIn, MachineState, Frame, Name, Object, Task, Trap, contains_from_in, index_of, access_by, unless_trap, object_references, with_some, Field, FieldAccess, in_log, location, Deed, deed, if_there, number_place, reference_in, number_in, act_told, on_strand, HasField, ToldAccess, told_access, accesses_told, as_told, field_location}
+use Rattle.run_race_laws.proofs.Common.{◌≡◌, ◌<◌, ◌+◌, ℕ, ℤ, pos, negsuc, nat_lt, arith, Bool, true, false, cond, Option, Some, None, IfSome, List, [], ◌∷◌, length, map, refl, ap, sym, subst, ◌∙◌, ◌==◌, option_flatten, ltb-true, same_Some, GraphStrand, Instr, Set, Mov, Movr, Nil as NilOf, Calc, Same, Jmp, Jz, Newm, Pack, Getr, Geti, Putr, Puti, Cntr, Cnti, Freeze, Cas, Call, Par, Ret, Out, at_in, Effect, Goes, Prints, Calls, Forks, Returns, Traps, Stops, StepContext, effect, object_at, int_in, ref_in, place_in, same_name, read_effect, or_trap, onward, with_ref, counts_in, next_name, precedes, setting, strand_of, owner_of, IsStored, NamesAreStoredIn, MachineState, Frame, Name, Object, Task, Trap, contains_from_in, index_of, access_by, unless_trap, object_references, with_some, Field, FieldAccess, in_log, location, Deed, deed, if_there, number_place, reference_in, number_in, act_told, on_strand, HasField, ToldAccess, told_access, accesses_told, as_told, field_region, Region, region_of, PlainRead, PlainWrite}
 use Rattle.hh_model.specs.declared.data.Trap.TheVariants as traps
-use Rattle.log_lines.specs.declared.line.AccessKind.TheVariants as kinds
-use Rattle.run_deltas.specs.declared.data.Deed.TheVariants as deeds
-use Rattle.run_deltas.specs.declared.data.Value.TheVariants as values
+use Rattle.run_turn_laws.specs.below.run_deltas as deeds
 
 within_by : (b : Bool) (c k at : ℕ) → nat_lt k c ≡ b → cond b (Some k) None ≡ Some at → at < c
 within_by true c k at e h = let q : k ≡ at = same_Some k at h in let lt : k < c = ltb-true k c e in omega (arith, q, lt)
 within_by false c k at e h = absurd cc
 
 -- a place that is found is within the count
-place_within : (c : ℕ) (z : ℤ) (at : ℕ) → place_in c z ≡ Some at → at < c
+pub place_within : (c : ℕ) (z : ℤ) (at : ℕ) → place_in c z ≡ Some at → at < c
 place_within c (pos k) at e = within_by (nat_lt k c) c k at refl e
 place_within c (negsuc k) at e = absurd cc
 
@@ -120,15 +118,15 @@ module _ (m m' : MachineState) (t : ℕ) (x : Task) (n : ℕ) (names : NamesAreS
   flat_some (Some (Some q)) r e = ap (λ w. Some w) e
 
   -- a number field's location, in the states before and after
-  number_location : (nm : Name) (ob : Object) (at : ℕ) → object_at m.store nm ≡ Some ob → location nm (number_place ob at) ≡ field_location m'.store (field nm true at)
-  number_location nm ob at is = let l = later nm ob is in ap (λ k. location nm (k + at)) (sym (ap (λ o. length (object_references o)) l.1 ∙ l.2))
+  number_location : (nm : Name) (ob : Object) (at : ℕ) → object_at m.store nm ≡ Some ob → region_of (location nm (number_place ob at)) ≡ field_region m'.store (field nm true at)
+  number_location nm ob at is = let l = later nm ob is in ap (λ k. region_of (location nm (k + at))) (sym (ap (λ o. length (object_references o)) l.1 ∙ l.2))
 
   getr_place : (d o k : ℕ) (nm : Name) (ob : Object) (pl : Option ℕ) → ref_in f o ≡ Some nm → object_at m.store nm ≡ Some ob → place_in (length ob.refs) (int_in f k) ≡ pl → Agrees (Getr d o k)
   getr_place d o k nm ob None name is place = trapped (Getr d o k) traps.Range (rw (name, is, place) refl) (rw (name, is, place) refl)
   getr_place d o k nm ob (Some at) name is place =
       let int : int_in f k ≡ pos at = index_of (length ob.refs) (int_in f k) at place in
       let e : effect s f m.store (Getr d o k) ≡ read_effect s f m.store d (reference_in ob at) = rw (name, is, place) refl in
-      found (Getr d o k) (deeds.Reads nm at (values.Reference (reference_in ob at))) (access nm false at false false)
+      found (Getr d o k) (deeds.Reads nm at (deeds.Reference (reference_in ob at))) (access nm false at false false)
       (rw (name, is, place) refl) (rw (name, int) refl)
       (ap (λ w. unless_trap w (Some (access nm false at false false))) e ∙ read_goes d (reference_in ob at) (access nm false at false false) (λ r h. names.in_fields nm r ob is (contains_from_in ob.refs (Some r) (at_in ob.refs at r h))))
       refl ((ob, is, place_within (length ob.refs) (int_in f k) at place), refl)
@@ -145,9 +143,9 @@ module _ (m m' : MachineState) (t : ℕ) (x : Task) (n : ℕ) (names : NamesAreS
   geti_place d o k nm ob None name is place = trapped (Geti d o k) traps.Range (rw (name, is, place) refl) (rw (name, is, place) refl)
   geti_place d o k nm ob (Some at) name is place =
       let int : int_in f k ≡ pos at = index_of (length ob.ints) (int_in f k) at place in
-      found (Geti d o k) (deeds.Reads nm (number_place ob at) (values.Number (number_in ob at))) (access nm true at false false)
+      found (Geti d o k) (deeds.Reads nm (number_place ob at) (deeds.Number (number_in ob at))) (access nm true at false false)
       (rw (name, is, place) refl) (rw (name, int) refl) (rw (name, is, place) refl)
-      (ap (λ l. told_access u l kinds.Read ∷ []) (number_location nm ob at is)) ((ob, is, place_within (length ob.ints) (int_in f k) at place), refl)
+      (ap (λ (l : Region). told_access u (record { region = l; kind = PlainRead }) ∷ []) (number_location nm ob at is)) ((ob, is, place_within (length ob.ints) (int_in f k) at place), refl)
 
   geti_object : (d o k : ℕ) (nm : Name) (q : Option Object) → ref_in f o ≡ Some nm → object_at m.store nm ≡ q → Agrees (Geti d o k)
   geti_object d o k nm None name is = trapped (Geti d o k) traps.Nil (rw (name, is) refl) (rw (name, is) refl)
@@ -161,7 +159,7 @@ module _ (m m' : MachineState) (t : ℕ) (x : Task) (n : ℕ) (names : NamesAreS
   putr_frozen o k v nm ob at false name is place mut = trapped (Putr o k v) traps.Frozen (rw (name, is, place, mut) refl) (rw (name, is, place, mut) refl)
   putr_frozen o k v nm ob at true name is place mut =
       let int : int_in f k ≡ pos at = index_of (length ob.refs) (int_in f k) at place in
-      found (Putr o k v) (deeds.Writes nm at (values.Reference (ref_in f v))) (access nm false at true false)
+      found (Putr o k v) (deeds.Writes nm at (deeds.Reference (ref_in f v))) (access nm false at true false)
       (rw (name, is, place, mut) refl) (rw (name, int) refl) (rw (name, is, place, mut) refl)
       refl ((ob, is, place_within (length ob.refs) (int_in f k) at place), refl)
 
@@ -181,9 +179,9 @@ module _ (m m' : MachineState) (t : ℕ) (x : Task) (n : ℕ) (names : NamesAreS
   puti_frozen o k v nm ob at false name is place mut = trapped (Puti o k v) traps.Frozen (rw (name, is, place, mut) refl) (rw (name, is, place, mut) refl)
   puti_frozen o k v nm ob at true name is place mut =
       let int : int_in f k ≡ pos at = index_of (length ob.ints) (int_in f k) at place in
-      found (Puti o k v) (deeds.Writes nm (number_place ob at) (values.Number (int_in f v))) (access nm true at true false)
+      found (Puti o k v) (deeds.Writes nm (number_place ob at) (deeds.Number (int_in f v))) (access nm true at true false)
       (rw (name, is, place, mut) refl) (rw (name, int) refl) (rw (name, is, place, mut) refl)
-      (ap (λ l. told_access u l kinds.Write ∷ []) (number_location nm ob at is)) ((ob, is, place_within (length ob.ints) (int_in f k) at place), refl)
+      (ap (λ (l : Region). told_access u (record { region = l; kind = PlainWrite }) ∷ []) (number_location nm ob at is)) ((ob, is, place_within (length ob.ints) (int_in f k) at place), refl)
 
   puti_place : (o k v : ℕ) (nm : Name) (ob : Object) (pl : Option ℕ) → ref_in f o ≡ Some nm → object_at m.store nm ≡ Some ob → place_in (length ob.ints) (int_in f k) ≡ pl → Agrees (Puti o k v)
   puti_place o k v nm ob None name is place = trapped (Puti o k v) traps.Range (rw (name, is, place) refl) (rw (name, is, place) refl)

@@ -1,5 +1,5 @@
 -- The races that a run's lines tell are those of the run.
-use Rattle.run_race_laws.proofs.Common.{◌≡◌, ◌<◌, ◌≤◌, ◌+◌, ◌*◌, ℕ, arith, Bool, true, false, not, Some, List, [], length, slice_get, refl, ap, sym, subst, ◌∙◌, ◌⊎◌, inl, inr, ◌&&◌, ◌||◌, ◌↔◌, fun_ext, and_parts, cases_lt, same_Some, slice_get_within, StrandPrecedes as GraphPrecedes, ProgramText, runs_are_counted, IsForkJoinState, run_is_fork_join_state, start_is_fork_join_state, object_at, row_of, start, MachineState, Name, Object, Strand, Event, In, got_in, in_got, in_map, map_in, Begun, accesses, RaceAt, Field, FieldAccess, is_legal, machine_of, tasks_of, EntryValue, SettingsValue, field_limit, turns_of, in_log, walks_agree, block_of, lines_of, events_told, turns_told, logs_tell_edges, ToldAccess, accesses_told, as_told, access_kind_of, index_among, PlaceCovers, writes, is_atomic, kinds_clash, ToldRaceAt, count_of, HasField, LogsTellRaces}
+use Rattle.run_race_laws.proofs.Common.{◌≡◌, ◌<◌, ◌≤◌, ◌+◌, ◌*◌, ℕ, arith, Bool, true, false, not, Some, List, [], length, slice_get, refl, ap, sym, subst, ◌∙◌, ◌⊎◌, inl, inr, ◌&&◌, ◌||◌, ◌↔◌, fun_ext, and_parts, cases_lt, same_Some, slice_get_within, StrandPrecedes as GraphPrecedes, ProgramText, runs_are_counted, IsForkJoinState, run_is_fork_join_state, start_is_fork_join_state, object_at, row_of, start, MachineState, Name, Object, Strand, Event, In, got_in, in_got, in_map, map_in, Begun, accesses, RaceAt, Field, FieldAccess, is_legal, machine_of, tasks_of, EntryValue, SettingsValue, field_limit, turns_of, in_log, walks_agree, block_of, lines_of, events_told, turns_told, logs_tell_edges, ToldAccess, accesses_told, as_told, access_kind_of, field_region, index_among, Covers, Region, writes, is_atomic, clash, ToldRaceAt, count_of, HasField, LogsTellRaces, LogsTellFields}
 use Rattle.hh_model.specs.Precedence.{Precedes}
 use Rattle.run_race_laws.proofs.Told.{SeenIn, seen_along}
 
@@ -17,7 +17,7 @@ atomic_kind true false = refl
 atomic_kind false true = refl
 atomic_kind false false = refl
 
-clash_is : (a b c d : Bool) → kinds_clash (access_kind_of a b) (access_kind_of c d) ≡ ((a || c) && not (b && d))
+clash_is : (a b c d : Bool) → clash (access_kind_of a b) (access_kind_of c d) ≡ ((a || c) && not (b && d))
 clash_is a b c d = λ i. (writes_kind a b i || writes_kind c d i) && not (atomic_kind a b i && atomic_kind c d i)
 
 or_true : (a c : Bool) → (a ≡ true) ⊎ (c ≡ true) → (a || c) ≡ true
@@ -30,7 +30,7 @@ not_both false d h = refl
 not_both true d (inl e) = absurd cc
 not_both true d (inr e) = rw e refl
 
-clashes : (a b c d : Bool) → (a ≡ true) ⊎ (c ≡ true) → (b ≡ false) ⊎ (d ≡ false) → kinds_clash (access_kind_of a b) (access_kind_of c d) ≡ true
+clashes : (a b c d : Bool) → (a ≡ true) ⊎ (c ≡ true) → (b ≡ false) ⊎ (d ≡ false) → clash (access_kind_of a b) (access_kind_of c d) ≡ true
 clashes a b c d w n = clash_is a b c d ∙ rw (or_true a c w, not_both b d n) refl
 
 one_true : (a c : Bool) → (a || c) ≡ true → (a ≡ true) ⊎ (c ≡ true)
@@ -60,8 +60,8 @@ same_index o true true j k lj lk e = (refl, omega (arith, e))
 same_index o false true j k lj lk e = absurd (omega (arith, lj, e))
 same_index o true false j k lj lk e = absurd (omega (arith, lk, e))
 
-covered : (n : Name) (offset block x : ℕ) → PlaceCovers (record { block = block_of n; offset = offset; length = 1; runs = 1; apart = 1 }) block x → (block_of n ≡ block) × (offset ≡ x)
-covered n offset block x h = let a = h.1.1 in let b = h.1.2 in let c = h.1.3 in (h.0, omega (arith, a, b, c))
+covered : (n : Name) (offset block x : ℕ) → Covers (record { block = block_of n; offset = offset; length = 1; runs = 1; apart = 1 }) block x → (block_of n ≡ block) × (offset ≡ x)
+covered n offset block x h = let a = h.there in let b = h.from in let c = h.below in (h.of_block, omega (arith, a, b, c))
 
 module _ (p : ProgramText) (s : SettingsValue) (journal : List EntryValue) (legal : is_legal p s journal ≡ true) (few : length (tasks_of journal) ≤ 1000000000) where
   abbrev m : MachineState
@@ -121,10 +121,8 @@ module _ (p : ProgramText) (s : SettingsValue) (journal : List EntryValue) (lega
     told_in : (u : FieldAccess) → In all u → In (accesses_told events) (as_told m.store u)
     told_in u i = subst (λ q. In q (as_told m.store u)) (sym S.same) (in_map (as_told m.store) all u i)
 
-    covers : (u : FieldAccess) → u.field ≡ field → PlaceCovers (as_told m.store u).place block x
-    covers u e =
-        subst (λ (f : Field). PlaceCovers (as_told m.store (record u { field = f })).place block x) (sym e)
-        (refl, (0, (let a : 0 < 1 = omega arith in a), (let b : x + 0 * 1 ≤ x = omega arith in b), (let c : x < x + 0 * 1 + 1 = omega arith in c)))
+    covers : (u : FieldAccess) → u.field ≡ field → Covers (as_told m.store u).access.region block x
+    covers u e = subst (λ (f : Field). Covers (field_region m.store f) block x) (sym e) (record { of_block = refl; run = 0; there = omega arith; from = omega arith; below = omega arith })
 
     to_told : Runs → Tells
     to_told (i, j, u, v, r) =
@@ -148,7 +146,7 @@ module _ (p : ProgramText) (s : SettingsValue) (journal : List EntryValue) (lega
     told_access_of : (a : ToldAccess) → In (accesses_told events) a → (u : FieldAccess) × In all u × (as_told m.store u ≡ a)
     told_access_of a i = map_in (as_told m.store) all a (subst (λ q. In q a) S.same i)
 
-    field_of : (u : FieldAccess) → In all u → PlaceCovers (as_told m.store u).place block x → u.field ≡ field
+    field_of : (u : FieldAccess) → In all u → Covers (as_told m.store u).access.region block x → u.field ≡ field
     field_of u i c =
         let h = covered u.field.name (index_among (object_at m.store u.field.name) u.field.is_number u.field.index) block x c in
         same_fields u.field field (S.fields u i) there h.0 h.1
@@ -191,3 +189,12 @@ module _ (p : ProgramText) (s : SettingsValue) (journal : List EntryValue) (lega
 
 pub logs_tell_races : LogsTellRaces
 logs_tell_races p s journal legal few field there = (to_told p s journal legal few field there, from_told p s journal legal few field there)
+
+pub logs_tell_fields : LogsTellFields
+logs_tell_fields p s journal legal a i block x c =
+    let m = machine_of p s journal in
+    let all = accesses p (field_limit s.version) (tasks_of journal) in
+    let S : SeenIn m all (events_told (lines_of p s journal)) = seen_along p s journal legal in
+    let u = map_in (as_told m.store) all a (subst (λ found. In found a) S.same i) in
+    let f = u.0.field in
+    (f, S.fields u.0 u.1, covered f.name (index_among (object_at m.store f.name) f.is_number f.index) block x (subst (λ (b : ToldAccess). Covers b.access.region block x) (sym u.2) c))

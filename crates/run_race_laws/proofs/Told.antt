@@ -1,6 +1,6 @@
 -- The accesses that a run's lines tell are those of its steps.
-use Rattle.run_race_laws.proofs.Common.{◌≡◌, ◌<◌, ◌+◌, ◌*◌, ℕ, zero, suc, arith, Bool, true, false, cond, Option, Some, None, IfSome, List, [], ◌∷◌, ◌++◌, length, map, slice_get, refl, ap, sym, subst, ◌∙◌, append-nil, inl, inr, flat_map-append, map-append, ProgramText, Line, run_push, joins_of, joins_in, waiting, running_tells, IsForkJoinState, run_is_fork_join_state, start_is_fork_join_state, can_runs, IsEdgeWalk, precedes, Edge, Strand, object_at, is_running, is_waiting, is_joined, joined, can_step, fetched, step, run, run_from, start, strand_of, MachineState, Name, Object, Task, TaskStatus, Running, Waiting, Ended, Joined, GraphStrand, Event, event, objects_stay, names_are_stored, In, in_append_cases, in_from_contains, got_in, got_more, both_ways, slice_get_within, Begun, run_keeps, begun_running, TaskRuns, turns_of, open_turns, run_rows, accesses, accesses_from, next_access, task_access, line_access, with_some, object_references, Field, FieldAccess, EntryValue, SettingsValue, field_limit, tasks_of, is_legal, machine_of, in_log, location, act_of, act_by, step_act_of as act_at, moved_lines, lines_of, spot_after, events_told, spot, on_strand, strand_now, turn_events, step_act, told_along, legal_ready, told_access, accesses_told, accesses_by, as_told, access_kind_of, field_location, index_among, LogsTellAccesses, HasField, count_of}
-use Rattle.log_lines.specs.declared.line.Act.TheVariants as acts
+use Rattle.run_race_laws.proofs.Common.{◌≡◌, ◌<◌, ◌+◌, ◌*◌, ℕ, zero, suc, arith, Bool, true, false, cond, Option, Some, None, IfSome, List, [], ◌∷◌, ◌++◌, length, map, slice_get, refl, ap, sym, subst, ◌∙◌, append-nil, inl, inr, flat_map-append, map-append, ProgramText, Line, run_push, joins_of, joins_in, waiting, running_tells, IsForkJoinState, run_is_fork_join_state, start_is_fork_join_state, can_runs, IsEdgeWalk, precedes, Edge, Strand, object_at, is_running, is_waiting, is_joined, joined, can_step, fetched, step, run, run_from, start, strand_of, MachineState, Name, Object, Task, TaskStatus, Running, Waiting, Ended, Joined, GraphStrand, Event, event, objects_stay, names_are_stored, In, in_append_cases, in_from_contains, got_in, got_more, both_ways, slice_get_within, Begun, run_keeps, begun_running, TaskRuns, turns_of, open_turns, run_rows, accesses, accesses_from, next_access, task_access, line_access, with_some, object_references, Field, FieldAccess, EntryValue, SettingsValue, field_limit, tasks_of, is_legal, machine_of, in_log, location, act_of, act_by, step_act_of as act_at, moved_lines, lines_of, spot_after, events_told, spot, on_strand, strand_now, turn_events, step_act, told_along, legal_ready, told_access, accesses_told, accesses_by, as_told, access_kind_of, field_region, region_of, index_among, LogsTellAccesses, HasField, count_of}
+use Rattle.run_turn_laws.specs.below.log_lines as acts
 use Rattle.run_race_laws.proofs.Deeds.{Agrees, agrees, Good}
 
 -- LISTS OF ACCESSES
@@ -18,9 +18,9 @@ accesses_push p m (u ∷ us) t =
     ap (with_some (next_access p m u)) (accesses_push p (step p m u) us t)
     ∙ with_more (next_access p m u) (accesses_from p (step p m u) us) (with_some (next_access p (run_from p (step p m u) us) t) [])
 
-same_map : (one other : List (List Object)) (found : List FieldAccess) → ((a : FieldAccess) → In found a → field_location one a.field ≡ field_location other a.field) → map (as_told one) found ≡ map (as_told other) found
+same_map : (one other : List (List Object)) (found : List FieldAccess) → ((a : FieldAccess) → In found a → field_region one a.field ≡ field_region other a.field) → map (as_told one) found ≡ map (as_told other) found
 same_map one other [] h = refl
-same_map one other (a ∷ more) h = λ i. told_access (in_log a.strand) (h a (inl refl) i) (access_kind_of a.writes a.swaps) ∷ same_map one other more (λ b j. h b (inr j)) i
+same_map one other (a ∷ more) h = λ i. told_access (in_log a.strand) (record { region = h a (inl refl) i; kind = access_kind_of a.writes a.swaps }) ∷ same_map one other more (λ b j. h b (inr j)) i
 
 -- TURNS ARE NO ACCESSES
 
@@ -91,10 +91,10 @@ module _ (p : ProgramText) (limit : ℕ) where
   same_index true k one other e = ap (λ n. n + k) e
   same_index false k one other e = refl
 
-  kept : (ts : List ℕ) (t : ℕ) (field : Field) → HasField (M ts).store field → field_location (M ts).store field ≡ field_location (step p (M ts) t).store field
+  kept : (ts : List ℕ) (t : ℕ) (field : Field) → HasField (M ts).store field → field_region (M ts).store field ≡ field_region (step p (M ts) t).store field
   kept ts t field S =
       let l = later ts t field.name S.0 S.1 in
-      ap (location field.name) (same_index field.is_number field.index (object_at (M ts).store field.name) (object_at (step p (M ts) t).store field.name)
+      ap (λ at. region_of (location field.name at)) (same_index field.is_number field.index (object_at (M ts).store field.name) (object_at (step p (M ts) t).store field.name)
       (ap (λ o. length (object_references o)) S.1 ∙ (sym l.2 ∙ sym (ap (λ o. length (object_references o)) l.1))))
 
   same_count : (b : Bool) (one other : Object) → length one.refs ≡ length other.refs → length one.ints ≡ length other.ints → count_of one b ≡ count_of other b

@@ -1,3 +1,4 @@
 pub mod Accesses
 pub mod Races
+pub mod below
 mod Common

@@ -28,11 +28,11 @@ abbrev pub act_told : MachineState → ℕ → Option Deed → Option Act
 act_told m line None = None
 act_told m line (Some d) = act_of_deed m line d
 
-told_plain : (m : MachineState) (line : ℕ) (d : Option Deed) → IfSome (act_told m line d) IsPlain
+pub told_plain : (m : MachineState) (line : ℕ) (d : Option Deed) → IfSome (act_told m line d) IsPlain
 told_plain m line None = tt
 told_plain m line (Some d) = value_read_plain m line d
 
-told_lines : (m : MachineState) (line : ℕ) (d : Option Deed) → deed_lines m line d ≡ act_line (act_told m line d)
+pub told_lines : (m : MachineState) (line : ℕ) (d : Option Deed) → deed_lines m line d ≡ act_line (act_told m line d)
 told_lines m line None = refl
 told_lines m line (Some d) = refl
 
@@ -94,17 +94,17 @@ module _ (p : ProgramText) (limit : ℕ) (Q : List ℕ → List Event → Type 0
       omega (arith, c, z)
 
   -- after steps of these tasks, what was told
-  record Known (ts : List ℕ) (m : MachineState) (s : Spot) : Type 0 where
-    is : m ≡ M ts
-    unclosed : s.closed ≡ false
-    tell : TellEdges m.edges s.events
-    also : Q ts s.events
+  pub record Known (ts : List ℕ) (m : MachineState) (s : Spot) : Type 0 where
+    pub is : m ≡ M ts
+    pub unclosed : s.closed ≡ false
+    pub tell : TellEdges m.edges s.events
+    pub also : Q ts s.events
 
   -- and a task that runs is on its strand
-  abbrev At : MachineState → ℕ → Spot → Type 0
+  abbrev pub At : MachineState → ℕ → Spot → Type 0
   At m t s = is_running (slice_get m.tasks t) ≡ true → s.here ≡ Some (strand_now m t)
 
-  abbrev KnownAt : List ℕ → MachineState → ℕ → Spot → Type 0
+  abbrev pub KnownAt : List ℕ → MachineState → ℕ → Spot → Type 0
   KnownAt ts m t s = Known ts m s × At m t s
 
   abbrev Step : List ℕ → ℕ → Spot → Type 0
@@ -153,7 +153,7 @@ module _ (p : ProgramText) (limit : ℕ) (Q : List ℕ → List Event → Type 0
     acted : act_of p m t ≡ act_at m t x (Some line)
     acted = ap (λ b. cond b (act_by p m t (slice_get m.tasks t)) None) can ∙ (ap (act_by p m t) is ∙ ap (act_at m t x) at)
 
-    lined : step_lines p m t ≡ act_line o ++ ms
+    pub lined : step_lines p m t ≡ act_line o ++ ms
     lined = ap (λ a. lines_of_deed (length m.tasks) (stepped p m t 1) t (deed_of a)) acted ∙ ap (λ ls. ls ++ ms) (told_lines m' line.number (deed m t x.top line.instr))
 
     plain : IfSome o IsPlain
@@ -162,7 +162,7 @@ module _ (p : ProgramText) (limit : ℕ) (Q : List ℕ → List Event → Type 0
     abbrev first : List Event
     first = s.events ++ on_strand u o
 
-    first_spot : spot_after s (act_line o) ≡ spot (Some u) first
+    pub first_spot : spot_after s (act_line o) ≡ spot (Some u) first
     first_spot = ap (λ r. spot_after r (act_line o)) (as_spot s u (K.1 runs_now) K.0.unclosed) ∙ act_after u s.events o plain
 
     move : Moved p m t (fork_join ts) (run_rows p limit ts) x is run first (tell_on m.edges s.events u o plain K.0.tell (now_index ts t runs_now)) m'
@@ -203,7 +203,7 @@ module _ (p : ProgramText) (limit : ℕ) (Q : List ℕ → List Event → Type 0
   one_more zero t = refl
   one_more (suc k) t = ap (λ us. t ∷ us) (one_more k t)
 
-  steps : (k : ℕ) (ts : List ℕ) (t : ℕ) (s : Spot) → KnownAt ts (M ts) t s → KnownAt (ts ++ replicate k t) (stepped p (M ts) t k) t (spot_after s (steps_lines p (M ts) t k))
+  pub steps : (k : ℕ) (ts : List ℕ) (t : ℕ) (s : Spot) → KnownAt ts (M ts) t s → KnownAt (ts ++ replicate k t) (stepped p (M ts) t k) t (spot_after s (steps_lines p (M ts) t k))
   steps zero ts t s K = subst (λ us. KnownAt us (M ts) t s) (sym (append-nil ts)) K
   steps (suc k) ts t s K =
       let m = stepped p (M ts) t k in
@@ -224,20 +224,27 @@ module _ (p : ProgramText) (limit : ℕ) (Q : List ℕ → List Event → Type 0
   quiet : (ts : List ℕ) (s : Spot) → Known ts (M ts) s → Known (ts ++ []) (M ts) s
   quiet ts s K = subst (λ us. Known us (M ts) s) (sym (append-nil ts)) K
 
+  -- where an entry's steps begin
+  abbrev pub begun_spot : List ℕ → ℕ → ℕ → Spot → Spot
+  begun_spot ts t k s = record { here = Some (strand_now (M ts) t); closed = s.closed; events = s.events ++ event (strand_now (M ts) t) (acts.Work k) ∷ [] }
+
+  pub begun : (ts : List ℕ) (t k : ℕ) (s : Spot) → Known ts (M ts) s → is_running (slice_get (M ts).tasks t) ≡ true → KnownAt ts (M ts) t (begun_spot ts t k s)
+  begun ts t k s K run = (
+    record {
+      is = refl;
+      unclosed = K.unclosed;
+      tell = tell_plain (M ts).edges s.events (strand_now (M ts) t) (acts.Work k) K.tell (now_index ts t run) refl;
+      also = work ts t k s.events run K.also;
+    },
+    λ _. refl,
+  )
+
   ran : (ts : List ℕ) (t k : ℕ) (s : Spot) → Known ts (M ts) s → is_running (slice_get (M ts).tasks t) ≡ true → Entered ts (Ran t k) s
   ran ts t k s K run =
-      let u : GraphStrand = strand_now (M ts) t in
-      let s' : Spot = record { here = Some u; closed = s.closed; events = s.events ++ event u (acts.Work k) ∷ [] } in
-      let K' : Known ts (M ts) s' = record {
-        is = refl;
-        unclosed = K.unclosed;
-        tell = tell_plain (M ts).edges s.events u (acts.Work k) K.tell (now_index ts t run) refl;
-        also = work ts t k s.events run K.also;
-      } in
       subst (λ r. Known (ts ++ replicate k t) (stepped p (M ts) t k) r) (sym (spot_both s (strand_lines (M ts) t k) (steps_lines p (M ts) t k)))
-      (steps k ts t s' (K', λ _. refl)).0
+      (steps k ts t (begun_spot ts t k s) (begun ts t k s K run)).0
 
-  entry : (ts : List ℕ) (kind : Kind) (s : Spot) → Known ts (M ts) s → IsReady (M ts) kind → Entered ts kind s
+  pub entry : (ts : List ℕ) (kind : Kind) (s : Spot) → Known ts (M ts) s → IsReady (M ts) kind → Entered ts kind s
   entry ts (Took t) s K r = quiet ts s K
   entry ts (Ran t k) s K r = ran ts t k s K r
   entry ts (Chunk t) s K r = quiet ts s K
@@ -249,7 +256,7 @@ module _ (p : ProgramText) (limit : ℕ) (Q : List ℕ → List Event → Type 0
   entry ts (Sweep t g) s K r = quiet ts s K
   entry ts Fuel s K r = quiet ts s K
 
-  entries : (journal : List EntryValue) (ts : List ℕ) (s : Spot) → Known ts (M ts) s → AreReady p (M ts) journal
+  pub entries : (journal : List EntryValue) (ts : List ℕ) (s : Spot) → Known ts (M ts) s → AreReady p (M ts) journal
       → Known (ts ++ tasks_of journal) (M (ts ++ tasks_of journal)) (spot_after s (lines_from p (M ts) journal))
   entries [] ts s K R = subst (λ us. Known us (M us) s) (sym (append-nil ts)) K
   entries (e ∷ es) ts s K R =
@@ -263,9 +270,14 @@ module _ (p : ProgramText) (limit : ℕ) (Q : List ℕ → List Event → Type 0
       subst (λ q. Known (ts ++ tasks_of (e ∷ es)) (M (ts ++ tasks_of (e ∷ es))) q) (sym (spot_both s (entry_lines p (M ts) e.kind) (lines_from p m es)))
       (subst (λ vs. Known vs (M vs) (spot_after r (lines_from p m es))) (append_assoc ts (tasks_in e.kind) (tasks_of es)) N')
 
+  whole : (journal : List EntryValue) → Q [] [] → AreReady p (start p limit) journal → Known (tasks_of journal) (M (tasks_of journal)) (spot_after (file_begin []) (lines_from p (start p limit) journal))
+  whole journal begin R = entries journal [] (file_begin []) (record { is = refl; unclosed = refl; tell = record { turns = λ t. refl; order = tt }; also = begin }) R
+
   -- what a run's lines tell
   pub told_along : (journal : List EntryValue) → Q [] [] → AreReady p (start p limit) journal
       → let events = events_told (lines_from p (start p limit) journal) in TellEdges (run p limit (tasks_of journal)).edges events × Q (tasks_of journal) events
-  told_along journal begin R =
-      let K = entries journal [] (file_begin []) (record { is = refl; unclosed = refl; tell = record { turns = λ t. refl; order = tt }; also = begin }) R in
-      (K.tell, K.also)
+  told_along journal begin R = let K = whole journal begin R in (K.tell, K.also)
+
+  -- and none of them is an end
+  pub unclosed_along : (journal : List EntryValue) → Q [] [] → AreReady p (start p limit) journal → (spot_after (file_begin []) (lines_from p (start p limit) journal)).closed ≡ false
+  unclosed_along journal begin R = (whole journal begin R).unclosed

@@ -1,6 +1,6 @@
 -- In a legal journal a task runs when an entry with its steps begins.
-use Rattle.run_turn_laws.proofs.Common.{◌≡◌, ℕ, true, List, [], ◌∷◌, sym, subst, is_none, and_parts, ProgramText, start, none_is, EntryValue, SettingsValue, field_limit, Kind, Took, Ran, Chunk, Begin, End, PutOff, Mark, More, Sweep, Fuel, Ledger, refusal, after, opening, is_legal_from, is_legal, Allows, IsAccepted, accepted_is_allowed, LogsTellEdges, machine_moves}
-use Rattle.run_turn_laws.proofs.Along.{IsReady, AreReady, told_along}
+use Rattle.run_turn_laws.proofs.Common.{◌≡◌, ℕ, true, false, List, [], ◌∷◌, sym, subst, is_none, and_parts, ProgramText, start, none_is, EntryValue, SettingsValue, field_limit, Kind, Took, Ran, Chunk, Begin, End, PutOff, Mark, More, Sweep, Fuel, Ledger, refusal, after, opening, is_legal_from, is_legal, Allows, IsAccepted, accepted_is_allowed, LogsTellEdges, machine_moves, file_begin, spot_after, lines_of}
+use Rattle.run_turn_laws.proofs.Along.{IsReady, AreReady, told_along, unclosed_along}
 
 allowed_ready : (p : ProgramText) (s : SettingsValue) (l : Ledger) (w : ℕ) (kind : Kind) → Allows p s l w kind → IsReady l.machine kind
 allowed_ready p s l w (Took t) a = tt
@@ -29,3 +29,7 @@ legal_ready p s journal legal = ready_from p s journal (opening p s) legal
 pub logs_tell_edges : LogsTellEdges
 logs_tell_edges p s journal legal =
     (told_along p (field_limit s.version) (λ ts events. Unit {0}) (λ ts t k events run q. tt) (λ ts t events none same q. tt) (λ ts t x line events can is at q. tt) journal tt (legal_ready p s journal legal)).0
+
+pub lines_unclosed : (p : ProgramText) (s : SettingsValue) (journal : List EntryValue) → is_legal p s journal ≡ true → (spot_after (file_begin []) (lines_of p s journal)).closed ≡ false
+lines_unclosed p s journal legal =
+    unclosed_along p (field_limit s.version) (λ ts events. Unit {0}) (λ ts t k events run q. tt) (λ ts t events none same q. tt) (λ ts t x line events can is at q. tt) journal tt (legal_ready p s journal legal)

@@ -1,2 +1,2 @@
 -- Re-exports from `log_form` for the crates above.
-pub use Rattle.log_form.specs.Events.{Event, event}
+pub use Rattle.log_form.specs.Events.{Event, Spot, event, file_begin, spot_behind}

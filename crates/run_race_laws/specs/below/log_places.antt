@@ -1,0 +1,3 @@
+-- Re-exports from `log_places` for the crates above.
+pub use Rattle.log_places.specs.Places.{Covers}
+pub use Rattle.log_places.specs.declared.region.Region.{Region}
