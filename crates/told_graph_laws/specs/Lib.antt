@@ -1,0 +1,2 @@
+pub mod ToldGraph
+pub mod below

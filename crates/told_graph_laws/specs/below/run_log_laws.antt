@@ -1,0 +1,2 @@
+-- Re-exports from `run_log_laws` for the crates above.
+pub use Rattle.run_log_laws.specs.Whole.{IsCutRun}
