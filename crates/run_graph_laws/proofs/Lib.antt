@@ -1,0 +1,3 @@
+mod Added
+pub mod Steps
+pub mod RunTold
