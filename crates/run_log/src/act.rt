@@ -8,7 +8,8 @@ use hh_model::{MachineState, Name};
 use log_lines::{Access, AccessKind, Act, LogPlace, Reference};
 use run_deltas::{Deed, Value};
 
-/// The blocks of two tasks that follow each other are so far apart; no task allocates as many objects.
+/// The blocks of two tasks that follow each other are so far apart. A task makes no more objects than it takes steps,
+/// which are at most 256 more than the fuel; the greatest fuel is this number.
 const BLOCKS_OF_A_TASK: u64 = 1_000_000_000;
 
 // The block of an object.
