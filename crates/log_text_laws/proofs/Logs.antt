@@ -1,7 +1,17 @@
 -- The log of a run is read again as its lines, and tells what they tell.
 use Rattle.log_text_laws.proofs.Common.{◌≡◌, ℕ, Bool, true, false, cond, List, [], ◌∷◌, ◌++◌, Option, Some, Result, Ok, map, refl, ap, ◌∙◌, flat_map, recursion_from_All, Fun, Line, Done, RunEnd, Machine, end_of, LogCause, LogLine, line_of, IsLine, lines_in, text_of, Spot, spot_behind, spot_behind_said, spot_behind_all, file_begin, accesses_field, end_lines, lines_of, spot_after, spot_both, names_at, names_in, name_lines, lines_in_log, LogsAreReadAgain, LogsAreToldAgain}
 use Rattle.log_lines.specs.declared.line.LogLine.TheVariants as lines
+use Rattle.hh_model.specs.declared.data.End.TheVariants.{Trapped, Entangled}
+use Rattle.run_journal.specs.below.run_ledger.{Fuel, Pool}
 use Rattle.run_log.specs.Log.{log_of}
+use Rattle.run_turn_laws.proofs.Legal.{lines_unclosed}
+use Rattle.log_text_laws.specs.Text.{LogsAreCutUnlessDone}
+use Rattle.std.proofs.Common.{None, sym, subst, not}
+use Rattle.std.specs.Prelude.{◌||◌, ◌↔◌}
+use Rattle.std.specs.List.{All}
+use Rattle.hh_lang.specs.Form.{ProgramText}
+use Rattle.run_journal.specs.below.run_trace.{EntryValue, SettingsValue}
+use Rattle.log_text_laws.specs.Names.{AllFunctionsNamed}
 use Rattle.log_text_laws.proofs.Texts.{AreWithin, log_again}
 
 end_within : (e : Option RunEnd) → AreWithin (end_lines e)
@@ -44,15 +54,33 @@ quiet_end : (s : Spot) (e : Option RunEnd) → (spot_after s (end_lines e)).even
 quiet_end s (Some (Machine Done)) = refl
 quiet_end s _ = refl
 
-pub logs_told : LogsAreToldAgain
-logs_told p s journal names within =
+-- where the text ends
+text_spot : (p : ProgramText) (s : SettingsValue) (journal : List EntryValue) → AllFunctionsNamed p → All IsLine (lines_of p s journal)
+    → spot_behind_all (file_begin []) (lines_in (text_of (log_of p s journal))) ≡ spot_after (spot_after (file_begin []) (lines_of p s journal)) (end_lines (end_of p s journal))
+text_spot p s journal names within =
     let begin : Spot = file_begin [] in
     let ls = lines_of p s journal in
     let es = end_lines (end_of p s journal) in
-    ap (λ (r : Spot). r.events)
-    (by_said begin (lines_in (text_of (log_of p s journal)))
+    by_said begin (lines_in (text_of (log_of p s journal)))
     ∙ (ap (spots begin) (logs_again p s journal names within)
     ∙ (said_lines begin (lines_in_log p s journal)
     ∙ (spot_both begin ((lines.Version ∷ []) ++ name_lines p ++ ls) es
-    ∙ ap (λ r. spot_after r es) (spot_both begin ((lines.Version ∷ []) ++ name_lines p) ls ∙ ap (λ r. spot_after r ls) (spot_both begin (lines.Version ∷ []) (name_lines p) ∙ quiet_names begin p.functions))))))
-    ∙ quiet_end (spot_after begin ls) (end_of p s journal)
+    ∙ ap (λ r. spot_after r es) (spot_both begin ((lines.Version ∷ []) ++ name_lines p) ls ∙ ap (λ r. spot_after r ls) (spot_both begin (lines.Version ∷ []) (name_lines p) ∙ quiet_names begin p.functions)))))
+
+pub logs_told : LogsAreToldAgain
+logs_told p s journal names within = ap (λ (r : Spot). r.events) (text_spot p s journal names within) ∙ quiet_end (spot_after (file_begin []) (lines_of p s journal)) (end_of p s journal)
+
+-- WHETHER IT IS CUT
+
+cut_by : (s : Spot) (e : Option RunEnd) → s.closed ≡ false → ((not (spot_after s (end_lines e)).closed || false) ≡ false) ↔ (e ≡ Some (Machine Done))
+cut_by s None unclosed = (λ h. absurd (let z : true ≡ false = ap (λ b. not b || false) (sym unclosed) ∙ h in cc), λ e. absurd cc)
+cut_by s (Some (Machine Done)) unclosed = (λ h. refl, λ e. refl)
+cut_by s (Some (Machine (Trapped kind t line))) unclosed = (λ h. absurd (let z : true ≡ false = ap (λ b. not b || false) (sym unclosed) ∙ h in cc), λ e. absurd cc)
+cut_by s (Some (Machine (Entangled reader owner))) unclosed = (λ h. absurd (let z : true ≡ false = ap (λ b. not b || false) (sym unclosed) ∙ h in cc), λ e. absurd cc)
+cut_by s (Some (Fuel steps)) unclosed = (λ h. absurd (let z : true ≡ false = ap (λ b. not b || false) (sym unclosed) ∙ h in cc), λ e. absurd cc)
+cut_by s (Some (Pool chunks)) unclosed = (λ h. absurd (let z : true ≡ false = ap (λ b. not b || false) (sym unclosed) ∙ h in cc), λ e. absurd cc)
+
+pub logs_cut : LogsAreCutUnlessDone
+logs_cut p s journal legal names within =
+    subst (λ (r : Spot). ((not r.closed || false) ≡ false) ↔ (end_of p s journal ≡ Some (Machine Done))) (sym (text_spot p s journal names within))
+    (cut_by (spot_after (file_begin []) (lines_of p s journal)) (end_of p s journal) (lines_unclosed p s journal legal))
