@@ -8,7 +8,7 @@ use crate::answer::{Answer, CommandStatus};
 use crate::refusals::{bytes_alone, refused, trace_short};
 use journal_replay::{ReplayStop, replay};
 use race_report::{Listed, Settings};
-use refusal_lines::{InputError, Refusal, TraceInput, read_trace_input};
+use refusal_lines::{OrNoMemory, Refusal, TraceInput, read_trace_input};
 use run_statistics::{Counted, Shared};
 use shared_image::image_text;
 use std::alloc::{AllocError, Global};

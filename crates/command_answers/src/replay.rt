@@ -14,7 +14,7 @@ use crate::refusals::{refused, trace_short};
 use crate::wanted::Wanted;
 use command_line::Options;
 use journal_replay::{ReplayStop, World, replay};
-use refusal_lines::{Extras, InputError, Refusal, TraceInput, read_trace_input};
+use refusal_lines::{Extras, OrNoMemory, Refusal, TraceInput, read_trace_input};
 use run_statistics::{Counted, LegalCalls};
 use std::alloc::{AllocError, Global};
 

@@ -77,7 +77,7 @@ pub record RefusesSize (texts : List (List ℕ)) (view : LogView) (reply : Reply
   pub says : Says Trace (size_line cause) reply
 
 -- no task is at fault, and it is reported
-pub record Reports (texts : List (List ℕ)) (view : LogView) (reply : Reply) : Type 0 where
+pub record ReportsFindings (texts : List (List ℕ)) (view : LogView) (reply : Reply) : Type 0 where
   pub tasks : LogTasks
   pub are : IsLog (events_of texts) (log_extent texts) tasks
   pub report : LogReport
@@ -86,7 +86,7 @@ pub record Reports (texts : List (List ℕ)) (view : LogView) (reply : Reply) : 
 
 -- what is written of a log without a faulty line
 abbrev pub ShowsTasks : List (List ℕ) → List (List ℕ) → LogView → Reply → Type 0
-ShowsTasks names texts view reply = RefusesTask names texts reply ⊎ (RefusesSize texts view reply ⊎ Reports texts view reply)
+ShowsTasks names texts view reply = RefusesTask names texts reply ⊎ (RefusesSize texts view reply ⊎ ReportsFindings texts view reply)
 
 abbrev pub ShowsFault : List (List ℕ) → List (List ℕ) → LogView → Option LocatedFault → Reply → Type 0
 ShowsFault names texts view None = ShowsTasks names texts view

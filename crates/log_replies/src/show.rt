@@ -4,7 +4,7 @@ ghost use Rattle.std.specs.Prelude.{◌≡◌, ◌⊎◌, None, IfOk, map, strin
 ghost use Rattle.log_findings.specs.below.log_form.{events_of, is_cut, log_fault};
 ghost use Rattle.log_pieces.specs.Pieces.{events_of_pieces};
 ghost use Rattle.log_tasks.specs.Log.{IsLog};
-ghost use Rattle.log_replies.specs.Shown.{extent_of, log_extent, RefusesSize, Reports, ShowsTasks, ShowsLog};
+ghost use Rattle.log_replies.specs.Shown.{extent_of, log_extent, RefusesSize, ReportsFindings, ShowsTasks, ShowsLog};
 
 use crate::report::show_report;
 use crate::size::size_refusal;
@@ -37,7 +37,7 @@ fn show_tasks(
     requires pieces { events_of_pieces texts.now pieces.now ≡ events_of texts.now }
     requires extent { cut ≡ is_cut texts.now }
     requires tasks { IsLog (events_of texts.now) (log_extent texts.now) tasks.now }
-    ensures { IfOk result (λ reply. RefusesSize texts.now view.now reply ⊎ Reports texts.now view.now reply) }
+    ensures { IfOk result (λ reply. RefusesSize texts.now view.now reply ⊎ ReportsFindings texts.now view.now reply) }
 {
     match report_log(alloc, texts, pieces, tasks, cut, view.heaps) {
         Ok(report) => show_report(alloc, texts, view, report),

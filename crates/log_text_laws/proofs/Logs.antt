@@ -1,17 +1,7 @@
 -- The log of a run is read again as its lines, and tells what they tell.
-use Rattle.log_text_laws.proofs.Common.{◌≡◌, ℕ, Bool, true, false, cond, List, [], ◌∷◌, ◌++◌, Option, Some, Result, Ok, map, refl, ap, ◌∙◌, flat_map, recursion_from_All, Fun, Line, Done, RunEnd, Machine, end_of, LogCause, LogLine, line_of, IsLine, lines_in, text_of, Spot, spot_behind, spot_behind_said, spot_behind_all, file_begin, accesses_field, end_lines, lines_of, spot_after, spot_both, names_at, names_in, name_lines, lines_in_log, LogsAreReadAgain, LogsAreToldAgain}
+use Rattle.log_text_laws.proofs.Common.{◌≡◌, ℕ, Bool, true, false, cond, List, [], ◌∷◌, ◌++◌, Option, Some, Result, Ok, map, refl, ap, ◌∙◌, flat_map, recursion_from_All, Fun, Line, Done, RunEnd, Machine, end_of, LogCause, LogLine, line_of, IsLine, lines_in, text_of, Spot, spot_behind, spot_behind_said, spot_behind_all, file_begin, accesses_field, end_lines, lines_of, spot_after, spot_both, names_at, names_in, name_lines, lines_in_log, LogsAreReadAgain, LogsAreToldAgain, Trapped, Entangled, Fuel, Pool, lines_unclosed, LogsAreCutUnlessDone, None, sym, subst, not, ◌||◌, ◌↔◌, All, ProgramText, EntryValue, SettingsValue, AllFunctionsNamed}
 use Rattle.log_lines.specs.declared.line.LogLine.TheVariants as lines
-use Rattle.hh_model.specs.declared.data.End.TheVariants.{Trapped, Entangled}
-use Rattle.run_journal.specs.below.run_ledger.{Fuel, Pool}
 use Rattle.run_log.specs.Log.{log_of}
-use Rattle.run_turn_laws.proofs.Legal.{lines_unclosed}
-use Rattle.log_text_laws.specs.Text.{LogsAreCutUnlessDone}
-use Rattle.std.proofs.Common.{None, sym, subst, not}
-use Rattle.std.specs.Prelude.{◌||◌, ◌↔◌}
-use Rattle.std.specs.List.{All}
-use Rattle.hh_lang.specs.Form.{ProgramText}
-use Rattle.run_journal.specs.below.run_trace.{EntryValue, SettingsValue}
-use Rattle.log_text_laws.specs.Names.{AllFunctionsNamed}
 use Rattle.log_text_laws.proofs.Texts.{AreWithin, log_again}
 
 end_within : (e : Option RunEnd) → AreWithin (end_lines e)

@@ -1,14 +1,6 @@
 -- What events add to what was told of tasks.
-use Rattle.std.proofs.Common.{◌≡◌, ◌<◌, ◌≤◌, ℕ, true, false, List, [], ◌∷◌, ◌++◌, length, slice_get, ◌⊎◌, inl, inr, refl, ap, sym, subst, ◌∙◌, arith, append-nil, append_assoc}
-use Rattle.std.proofs.lemmas.Bool.{both_ways}
-use Rattle.plain_vec.proofs.Members.{In, in_append_cases, in_append_left, in_append_right}
-use Rattle.hh_model.specs.Step.{is_running, is_waiting}
-use Rattle.hh_model.specs.declared.data.MachineState.{MachineState}
-use Rattle.hh_model.specs.declared.data.Task.{Task}
-use Rattle.run_turn_laws.specs.below.log_form.{Event}
+use Rattle.run_graph_laws.proofs.Common.{◌≡◌, ◌<◌, ◌≤◌, ℕ, true, false, List, [], ◌∷◌, ◌++◌, length, slice_get, ◌⊎◌, inl, inr, refl, ap, sym, subst, ◌∙◌, arith, append-nil, append_assoc, both_ways, In, in_append_cases, in_append_left, in_append_right, is_running, is_waiting, MachineState, Task, Event, IsUnended, EndsAreLast, HasEnded, EndIsTold}
 use Rattle.run_turn_laws.specs.below.log_lines as acts
-use Rattle.told_graph_laws.specs.ToldGraph.{IsUnended, EndsAreLast}
-use Rattle.run_graph_laws.specs.RunTold.{HasEnded, EndIsTold}
 
 -- just those whose end is told have ended
 abbrev pub AreOver : List Task → List Event → Type 0

@@ -1,3 +1,4 @@
 mod Added
 pub mod Steps
 pub mod RunTold
+mod Common

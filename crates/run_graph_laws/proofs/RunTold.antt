@@ -1,40 +1,7 @@
 -- A run's lines tell its tasks.
-use Rattle.std.proofs.Common.{◌≡◌, ◌<◌, ◌+◌, ◌%◌, ◌==◌, ◌⊎◌, ℕ, zero, suc, Bool, true, false, Option, Some, None, IfSome, List, [], ◌∷◌, ◌++◌, length, slice_get, inl, inr, refl, ap, sym, subst, ◌∙◌, arith, append-nil, eq-eqb}
-use Rattle.std.specs.Prelude.{IsTrue, ◌||◌}
-use Rattle.std.specs.List.{list_any}
-use Rattle.std.proofs.lemmas.Bool.{cases_lt, or_cases, or_left, or_right, eqb-true}
-use Rattle.plain_vec.proofs.Members.{In, any_from_in, in_from_any, got_within}
-use Rattle.hh_model.specs.Step.{step, run, start, is_running, can_step, fetched}
-use Rattle.hh_model.specs.declared.data.MachineState.{MachineState}
-use Rattle.hh_model.specs.declared.data.Task.{Task}
-use Rattle.hh_model.proofs.Counts.{run_push}
-use Rattle.hh_model.proofs.ForkJoinStates.{IsForkJoinState, run_is_fork_join_state, start_is_fork_join_state}
-use Rattle.hh_model.proofs.Taken.{can_runs}
-use Rattle.log_form.specs.Faults.{spawns}
-use Rattle.log_tasks.specs.Numbers.{is_task, tells}
-use Rattle.run_log_laws.specs.Graph.{turns_of}
-use Rattle.run_log_laws.specs.below.fork_graph.{TaskTurns, Spawn, Join}
-use Rattle.run_log_laws.specs.below.hh_lang.{ProgramText, Line}
-use Rattle.run_log_laws.proofs.Pairs.{Pairs}
-use Rattle.run_log_laws.proofs.Runs.{PairsOf, run_pairs}
-use Rattle.run_turn_laws.specs.Turns.{turns_told, TellEdges}
-use Rattle.run_turn_laws.specs.below.log_form.{Event, event}
+use Rattle.run_graph_laws.proofs.Common.{◌≡◌, ◌<◌, ◌+◌, ◌%◌, ◌==◌, ◌⊎◌, ℕ, zero, suc, Bool, true, false, Option, Some, None, IfSome, List, [], ◌∷◌, ◌++◌, length, slice_get, inl, inr, refl, ap, sym, subst, ◌∙◌, arith, append-nil, eq-eqb, IsTrue, ◌||◌, list_any, cases_lt, or_cases, or_left, or_right, eqb-true, In, any_from_in, in_from_any, got_within, step, run, start, is_running, can_step, fetched, MachineState, Task, run_push, IsForkJoinState, run_is_fork_join_state, start_is_fork_join_state, can_runs, spawns, is_task, tells, turns_of, TaskTurns, Spawn, Join, ProgramText, Line, Pairs, PairsOf, run_pairs, turns_told, TellEdges, Event, event, Act, act_of, Deed, is_legal, machine_of, tasks_of, act_of_deed, lines_of, EntryValue, SettingsValue, field_limit, events_told, act_told, on_strand, strand_now, turn_events, step_act, told_along, IsCutRun, runs_are_fork_join, legal_ready, logs_tell_edges, fun_ext, AreToldInOrder, turn_event, event_turn, spawn_act, act_spawn, HasEnded, IsRunTold, LogsTellTasks}
 use Rattle.run_turn_laws.specs.below.log_lines as acts
-use Rattle.run_turn_laws.specs.below.log_lines.{Act}
-use Rattle.run_turn_laws.specs.below.run_deltas.{act_of, Deed}
 use Rattle.run_turn_laws.specs.below.run_deltas as deeds
-use Rattle.run_turn_laws.specs.below.run_ledger.{is_legal, machine_of, tasks_of}
-use Rattle.run_turn_laws.specs.below.run_log.{act_of_deed, lines_of}
-use Rattle.run_turn_laws.specs.below.run_trace.{EntryValue, SettingsValue, field_limit}
-use Rattle.run_turn_laws.specs.Events.{events_told}
-use Rattle.run_turn_laws.proofs.Along.{act_told, on_strand, strand_now, turn_events, step_act, told_along}
-use Rattle.run_log_laws.specs.Whole.{IsCutRun}
-use Rattle.run_log_laws.proofs.Whole.{runs_are_fork_join}
-use Rattle.run_turn_laws.proofs.Legal.{legal_ready, logs_tell_edges}
-use Rattle.std.proofs.Math.Path.{fun_ext}
-use Rattle.told_graph_laws.specs.ToldGraph.{AreToldInOrder}
-use Rattle.told_graph_laws.proofs.Ends.{turn_event, event_turn, spawn_act, act_spawn}
-use Rattle.run_graph_laws.specs.RunTold.{HasEnded, IsRunTold, LogsTellTasks}
 use Rattle.run_graph_laws.proofs.Added.{AreTold, told_more}
 use Rattle.run_graph_laws.proofs.Steps.{IsQuiet, act_adds, turns_add}
 

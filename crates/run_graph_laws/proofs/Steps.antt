@@ -1,29 +1,7 @@
 -- What the lines of a step tell of tasks.
-use Rattle.std.proofs.Common.{◌≡◌, ◌<◌, ◌≤◌, ◌+◌, ◌*◌, ◌-◌, ℕ, ℤ, Bool, true, false, Option, Some, None, IfSome, List, [], ◌∷◌, ◌++◌, length, slice_get, slice_set, ◌⊎◌, inl, inr, refl, ap, sym, subst, ◌∙◌, arith, length-set}
-use Rattle.std.proofs.lemmas.Bool.{both_ways, cases_eq, cases_lt, cond-true, cond-false}
-use Rattle.plain_vec.proofs.Members.{In, got_same, got_other, got_within, same_view}
-use Rattle.hh_model.specs.Effect.{onward}
-use Rattle.hh_model.specs.Step.{step, is_running, is_waiting, is_left, runs, waits, is_over, parent_of, child, joined_task, resumed, join_of, ended_task, ended_by, result_of, strand_of, edge, strand}
-use Rattle.hh_model.specs.Tree.{joins_in}
-use Rattle.hh_model.specs.declared.data.End.{End}
-use Rattle.hh_model.specs.declared.data.MachineState.{MachineState}
-use Rattle.hh_model.specs.declared.data.Name.{Name}
-use Rattle.hh_model.specs.declared.data.Task.{Task}
-use Rattle.hh_model.specs.declared.data.TaskStatus.TheVariants.{Running, Waiting, Ended, Joined}
-use Rattle.hh_model.proofs.ForkJoinStates.{IsForkJoinState}
-use Rattle.hh_model.proofs.Runs.{grown_at, grown_left, grown_right, grown_other, grown_length, three_top, three_left, three_right, three_other, three_length, below, wp, parr, running_tells}
-use Rattle.hh_model.proofs.Steps.{step_cases, runs_is}
-use Rattle.run_log_laws.specs.below.fork_graph.{GraphStrand, strand as graph_strand}
-use Rattle.run_log_laws.specs.below.hh_lang.{ProgramText}
-use Rattle.run_turn_laws.specs.Events.{spot_after}
-use Rattle.run_turn_laws.specs.below.log_form.{Event, event}
+use Rattle.run_graph_laws.proofs.Common.{◌≡◌, ◌<◌, ◌≤◌, ◌+◌, ◌*◌, ◌-◌, ℕ, ℤ, Bool, true, false, Option, Some, None, IfSome, List, [], ◌∷◌, ◌++◌, length, slice_get, slice_set, ◌⊎◌, inl, inr, refl, ap, sym, subst, ◌∙◌, arith, length-set, both_ways, cases_eq, cases_lt, cond-true, cond-false, In, got_same, got_other, got_within, same_view, onward, step, is_running, is_waiting, is_left, runs, waits, is_over, parent_of, child, joined_task, resumed, join_of, ended_task, ended_by, result_of, strand_of, edge, strand, joins_in, End, MachineState, Name, Task, Running, Waiting, Ended, Joined, IsForkJoinState, grown_at, grown_left, grown_right, grown_other, grown_length, three_top, three_left, three_right, three_other, three_length, below, wp, parr, running_tells, step_cases, runs_is, GraphStrand, ProgramText, spot_after, Event, event, Act, left_of, moved_lines, turn_lines, spot, strand_now, turn_events, on_strand, EndsAreLast, HasEnded, EndIsTold}
+use Rattle.run_log_laws.specs.below.fork_graph.{strand as graph_strand}
 use Rattle.run_turn_laws.specs.below.log_lines as acts
-use Rattle.run_turn_laws.specs.below.log_lines.{Act}
-use Rattle.run_turn_laws.specs.below.run_log.{left_of, moved_lines, turn_lines}
-use Rattle.run_turn_laws.proofs.Told.{spot}
-use Rattle.run_turn_laws.proofs.Along.{strand_now, turn_events, on_strand}
-use Rattle.told_graph_laws.specs.ToldGraph.{EndsAreLast}
-use Rattle.run_graph_laws.specs.RunTold.{HasEnded, EndIsTold}
 use Rattle.run_graph_laws.proofs.Added.{AreOver, Adds, runs_unended, waits_unended, unended_more}
 
 -- WHAT TURNS ARE TOLD

@@ -1,20 +1,7 @@
 -- The graph of a run is that of a fork-join program, and joins of all that is unjoined order none of its strands anew.
-use Rattle.std.proofs.Common.{◌≡◌, ◌<◌, ◌≤◌, ◌+◌, ◌*◌, ℕ, zero, suc, Bool, Option, List, [], ◌∷◌, ◌++◌, length, map, inl, inr, refl, ap, sym, subst, ◌∙◌, arith, append-nil}
-use Rattle.std.proofs.lemmas.Bool.{both_ways}
-use Rattle.std.proofs.lemmas.Option.{slice_get_within}
-use Rattle.walk_laws.proofs.Reached.{reached_within}
-use Rattle.fork_graph.specs.Cut.{unjoined, joins, with_joins}
-use Rattle.fork_graph.specs.Faults.{SpawnsBelow}
-use Rattle.fork_graph.specs.Graph.{TaskTurns, strand, last_of, HasStrand, Does, IsGraphEdge, StrandPrecedes, IsAncestor}
-use Rattle.fork_graph.specs.Nested.{IsForkJoin}
-use Rattle.fork_graph.specs.declared.graph.GraphStrand.{GraphStrand}
-use Rattle.fork_graph.specs.declared.graph.GraphTurn.{GraphTurn}
-use Rattle.fork_graph.specs.declared.graph.GraphTurn.TheVariants.{Spawn, Join}
-use Rattle.fork_graph.proofs.Cut.{unjoined_at, joins_from, completed_front, completed_cases, completed_spawn}
+use Rattle.run_log_laws.proofs.Common.{◌≡◌, ◌<◌, ◌≤◌, ◌+◌, ◌*◌, ℕ, zero, suc, Bool, Option, List, [], ◌∷◌, ◌++◌, length, map, inl, inr, refl, ap, sym, subst, ◌∙◌, arith, append-nil, both_ways, slice_get_within, reached_within, unjoined, joins, with_joins, SpawnsBelow, TaskTurns, last_of, HasStrand, Does, IsGraphEdge, StrandPrecedes, IsAncestor, IsForkJoin, GraphStrand, GraphTurn, Spawn, Join, unjoined_at, joins_from, completed_front, completed_cases, completed_spawn, and_then, same_strand, Edge, In}
+use Rattle.fork_graph.specs.Graph.{strand}
 use Rattle.ancestor_laws.proofs.Trees as trees
-use Rattle.ancestor_laws.proofs.Walks.{and_then, same_strand}
-use Rattle.hh_model.specs.declared.data.Edge.{Edge}
-use Rattle.plain_vec.proofs.Members.{In}
 use Rattle.run_log_laws.proofs.Turns.{AreTurns}
 use Rattle.run_log_laws.proofs.Pairs.{Pairs}
 

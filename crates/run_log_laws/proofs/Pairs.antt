@@ -1,13 +1,6 @@
 -- In the turns of a run each child is joined two turns after its spawn.
-use Rattle.std.proofs.Common.{◌≡◌, ◌<◌, ◌≤◌, ◌+◌, ◌*◌, ℕ, Bool, true, false, cond, Option, Some, List, [], ◌∷◌, ◌++◌, length, length-append, ◌⊎◌, inl, inr, refl, ap, sym, subst, ◌∙◌, arith}
-use Rattle.std.proofs.lemmas.Bool.{cases_eq, both_ways, cases_lt}
-use Rattle.std.proofs.lemmas.Option.{slice_get_within, same_Some}
+use Rattle.run_log_laws.proofs.Common.{◌≡◌, ◌<◌, ◌≤◌, ◌+◌, ◌*◌, ℕ, Bool, true, false, cond, Option, Some, List, [], ◌∷◌, ◌++◌, length, length-append, ◌⊎◌, inl, inr, refl, ap, sym, subst, ◌∙◌, arith, cases_eq, both_ways, cases_lt, slice_get_within, same_Some, Spawn, Join, Precedes, strand, edge, is_left, Edge, turns_of}
 use Rattle.fork_graph.specs.Graph as graph
-use Rattle.fork_graph.specs.declared.graph.GraphTurn.TheVariants.{Spawn, Join}
-use Rattle.hh_model.specs.Precedence.{Precedes}
-use Rattle.hh_model.specs.Step.{strand, edge, is_left}
-use Rattle.hh_model.specs.declared.data.Edge.{Edge}
-use Rattle.run_log_laws.specs.Graph.{turns_of}
 use Rattle.run_log_laws.proofs.Rows.{Rows, own_turns, other_turns, size, kept, was, spawn_child, join_was, first_turn, second_turn, other_joins, size_open, kept_joined, before, join_child, no_spawn, left_turn, right_turn}
 
 -- which of the two turns of a fork spawns the child

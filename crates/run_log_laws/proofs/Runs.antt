@@ -1,10 +1,5 @@
 -- The turns of every run are its edges.
-use Rattle.std.proofs.Common.{◌%◌, cond, length-set}
-use Rattle.std.proofs.lemmas.Bool.{eqb-true}
-use Rattle.hh_model.specs.Step.{parent_of}
-use Rattle.hh_model.proofs.Runs.{grown_length, grown_left, grown_right, grown_past, grown_view_front, three_length, three_view, parr}
-use Rattle.plain_vec.proofs.Members.{got_past}
-use Rattle.run_log_laws.proofs.Common.{◌≡◌, ◌<◌, ◌≤◌, ◌+◌, ◌*◌, ℕ, zero, suc, ℤ, Bool, true, false, Option, Some, List, [], ◌∷◌, ◌++◌, length, slice_get, slice_set, ◌⊎◌, inl, inr, refl, ap, sym, subst, ◌∙◌, arith, eq-eqb, ne_eqb, cases_eq, cases_lt, fun_ext, In, same_view, got_within, ProgramText, Par, Line, Name, Edge, Task, Waiting, MachineState, task_names, onward, Precedes, runs, waits, is_over, is_running, is_joined, is_waiting, parents, joined, path_in, strand, strand_of, edge, is_left, child, joined_task, resumed, join_of, ended_task, result_of, fetched, step, run, run_from, start, root, waiting, joins_of, joins_in, running_tells, grown_view, wrest_fork, grown_at, three_top, three_left, three_right, three_other, below, dp, wp, joiner_live, join_tree, drest, IsForkJoinState, step_is_fork_join_state, start_is_fork_join_state, step_cases, owner_here, path_itself, Tree, turns_of, WalksAgree}
+use Rattle.run_log_laws.proofs.Common.{◌≡◌, ◌<◌, ◌≤◌, ◌+◌, ◌*◌, ℕ, zero, suc, ℤ, Bool, true, false, Option, Some, List, [], ◌∷◌, ◌++◌, length, slice_get, slice_set, ◌⊎◌, inl, inr, refl, ap, sym, subst, ◌∙◌, arith, eq-eqb, ne_eqb, cases_eq, cases_lt, fun_ext, In, same_view, got_within, ProgramText, Par, Line, Name, Edge, Task, Waiting, MachineState, task_names, onward, Precedes, runs, waits, is_over, is_running, is_joined, is_waiting, parents, joined, path_in, strand, strand_of, edge, is_left, child, joined_task, resumed, join_of, ended_task, result_of, fetched, step, run, run_from, start, root, waiting, joins_of, joins_in, running_tells, grown_view, wrest_fork, grown_at, three_top, three_left, three_right, three_other, below, dp, wp, joiner_live, join_tree, drest, IsForkJoinState, step_is_fork_join_state, start_is_fork_join_state, step_cases, owner_here, path_itself, Tree, turns_of, WalksAgree, ◌%◌, cond, length-set, eqb-true, parent_of, grown_length, grown_left, grown_right, grown_past, grown_view_front, three_length, three_view, parr, got_past}
 use Rattle.run_log_laws.proofs.Walks.{to_graph, from_graph}
 use Rattle.run_log_laws.proofs.Rows.{Rows, open_turns, forks_keep_rows, joins_keep_rows}
 use Rattle.run_log_laws.proofs.Pairs.{Pairs, side_of, forks_keep_pairs, joins_keep_pairs}

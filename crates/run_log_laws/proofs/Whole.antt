@@ -1,24 +1,6 @@
 -- Once main has returned, no task waits.
-use Rattle.std.proofs.Common.{◌≡◌, ◌<◌, ◌+◌, ℕ, zero, suc, Bool, true, false, Option, Some, None, List, [], ◌∷◌, ◌++◌, length, slice_get, slice_set, append-nil, append_assoc, ◌⊎◌, inl, inr, refl, ap, sym, subst, ◌∙◌, arith}
-use Rattle.std.proofs.lemmas.Bool.{both_ways}
-use Rattle.fork_graph.specs.Nested.{IsNested}
-use Rattle.hh_lang.specs.Form.{ProgramText}
-use Rattle.hh_model.specs.Step.{is_joined, step, run, start, is_running, is_waiting, joined, parents, parent_of, ended_task, result_of}
+use Rattle.run_log_laws.proofs.Common.{◌≡◌, ◌<◌, ◌+◌, ℕ, zero, suc, Bool, true, false, Option, Some, None, List, [], ◌∷◌, ◌++◌, length, slice_get, slice_set, append-nil, append_assoc, ◌⊎◌, inl, inr, refl, ap, sym, subst, ◌∙◌, arith, both_ways, IsNested, ProgramText, is_joined, step, run, start, is_running, is_waiting, joined, parents, parent_of, ended_task, result_of, End, Done, Trapped, Entangled, MachineState, Task, Trap, run_push, ended_stays, IsForkJoinState, run_is_fork_join_state, start_is_fork_join_state, running_tells, OneRoot, run_root, step_cases, got_same, turns_of, RunsAreForkJoin}
 use Rattle.hh_model.specs.Tree.{waiting, joins_in}
-use Rattle.hh_model.specs.declared.data.End.{End}
-use Rattle.hh_model.specs.declared.data.End.TheVariants.{Done, Trapped, Entangled}
-use Rattle.hh_model.specs.declared.data.MachineState.{MachineState}
-use Rattle.hh_model.specs.declared.data.Task.{Task}
-use Rattle.hh_model.specs.declared.data.Trap.{Trap}
-use Rattle.hh_model.proofs.Counts.{run_push}
-use Rattle.hh_model.proofs.EndLaws.{ended_stays}
-use Rattle.hh_model.proofs.ForkJoinStates.{IsForkJoinState, run_is_fork_join_state, start_is_fork_join_state}
-use Rattle.hh_model.proofs.Runs.{running_tells}
-use Rattle.hh_model.proofs.Root.{OneRoot, run_root}
-use Rattle.hh_model.proofs.Steps.{step_cases}
-use Rattle.plain_vec.proofs.Members.{got_same}
-use Rattle.run_log_laws.specs.Graph.{turns_of}
-use Rattle.run_log_laws.specs.Whole.{RunsAreForkJoin}
 use Rattle.run_log_laws.proofs.Rows.{open_turns}
 use Rattle.run_log_laws.proofs.Runs.{run_rows, run_pairs}
 use Rattle.run_log_laws.proofs.Completing.{told_before, kept_before, pairs_fork_join, pairs_below, pairs_reached, joined_at_end, joined_whole}

@@ -1,6 +1,5 @@
 -- The races that a run's lines tell are those of the run.
-use Rattle.run_race_laws.proofs.Common.{◌≡◌, ◌<◌, ◌≤◌, ◌+◌, ◌*◌, ℕ, arith, Bool, true, false, not, Some, List, [], length, slice_get, refl, ap, sym, subst, ◌∙◌, ◌⊎◌, inl, inr, ◌&&◌, ◌||◌, ◌↔◌, fun_ext, and_parts, cases_lt, same_Some, slice_get_within, StrandPrecedes as GraphPrecedes, ProgramText, runs_are_counted, IsForkJoinState, run_is_fork_join_state, start_is_fork_join_state, object_at, row_of, start, MachineState, Name, Object, Strand, Event, In, got_in, in_got, in_map, map_in, Begun, accesses, RaceAt, Field, FieldAccess, is_legal, machine_of, tasks_of, EntryValue, SettingsValue, field_limit, turns_of, in_log, walks_agree, block_of, lines_of, events_told, turns_told, logs_tell_edges, ToldAccess, accesses_told, as_told, access_kind_of, field_region, index_among, Covers, Region, writes, is_atomic, clash, ToldRaceAt, count_of, HasField, LogsTellRaces, LogsTellFields}
-use Rattle.hh_model.specs.Precedence.{Precedes}
+use Rattle.run_race_laws.proofs.Common.{◌≡◌, ◌<◌, ◌≤◌, ◌+◌, ◌*◌, ℕ, arith, Bool, true, false, not, Some, List, [], length, slice_get, refl, ap, sym, subst, ◌∙◌, ◌⊎◌, inl, inr, ◌&&◌, ◌||◌, ◌↔◌, fun_ext, and_parts, cases_lt, same_Some, slice_get_within, StrandPrecedes as GraphPrecedes, ProgramText, runs_are_counted, IsForkJoinState, run_is_fork_join_state, start_is_fork_join_state, object_at, row_of, start, MachineState, Name, Object, Strand, Event, In, got_in, in_got, in_map, map_in, Begun, accesses, RaceAt, Field, FieldAccess, is_legal, machine_of, tasks_of, EntryValue, SettingsValue, field_limit, turns_of, in_log, walks_agree, block_of, lines_of, events_told, turns_told, logs_tell_edges, ToldAccess, accesses_told, as_told, access_kind_of, field_region, index_among, Covers, Region, writes, is_atomic, clash, ToldRaceAt, count_of, HasField, LogsTellRaces, LogsTellFields, Precedes}
 use Rattle.run_race_laws.proofs.Told.{SeenIn, seen_along}
 
 -- KINDS

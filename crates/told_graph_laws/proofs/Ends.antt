@@ -1,24 +1,6 @@
 -- How strands end is what turns are told.
-use Rattle.std.proofs.Common.{◌≡◌, ◌<◌, ◌≤◌, ◌+◌, ◌==◌, ℕ, zero, suc, Bool, true, false, cond, Option, Some, None, List, [], ◌∷◌, ◌++◌, length, slice_get, ◌⊎◌, inl, inr, refl, ap, sym, subst, ◌∙◌, arith, append-nil, append_assoc, length-append, eq-eqb, ne_eqb}
-use Rattle.std.proofs.lemmas.Bool.{cases_eq, cases_lt, eqb-true}
-use Rattle.std.proofs.lemmas.Option.{slice_get_within}
-use Rattle.plain_vec.proofs.Members.{In, in_append_cases, in_append_left, in_append_right, got_front, got_past, flat_in, in_flat, got_in}
-use Rattle.plain_vec.proofs.Places.{got_last, in_got}
-use Rattle.fork_graph.specs.Graph.{strand}
-use Rattle.fork_graph.specs.declared.graph.GraphStrand.{GraphStrand}
-use Rattle.fork_graph.specs.declared.graph.GraphTurn.{GraphTurn}
-use Rattle.fork_graph.specs.declared.graph.GraphTurn.TheVariants.{Spawn, Join}
-use Rattle.log_form.specs.Events.{Event, acts_on, is_on}
-use Rattle.log_form.specs.Faults.{spawns}
-use Rattle.log_tasks.specs.Ends.{end_by, or_later, first_end, end_of}
-use Rattle.log_tasks.specs.declared.ending.StrandEnd.{StrandEnd}
-use Rattle.log_tasks.specs.declared.ending.StrandEnd.TheVariants.{Turns, Finishes}
-use Rattle.log_tasks.proofs.Acts.{acts_append}
-use Rattle.run_turn_laws.specs.Turns.{turn_by, turns_by, turns_told, FollowTurns}
+use Rattle.told_graph_laws.proofs.Common.{◌≡◌, ◌<◌, ◌≤◌, ◌+◌, ◌==◌, ℕ, zero, suc, Bool, true, false, cond, Option, Some, None, List, [], ◌∷◌, ◌++◌, length, slice_get, ◌⊎◌, inl, inr, refl, ap, sym, subst, ◌∙◌, arith, append-nil, append_assoc, length-append, eq-eqb, ne_eqb, cases_eq, cases_lt, eqb-true, slice_get_within, In, in_append_cases, in_append_left, in_append_right, got_front, got_past, flat_in, in_flat, got_in, got_last, in_got, strand, GraphStrand, GraphTurn, Spawn, Join, Event, acts_on, is_on, spawns, end_by, or_later, first_end, end_of, StrandEnd, Turns, Finishes, acts_append, turn_by, turns_by, turns_told, FollowTurns, Act, told_both, IsUnended, EndsAreLast}
 use Rattle.run_turn_laws.specs.below.log_lines as acts
-use Rattle.run_turn_laws.specs.below.log_lines.{Act}
-use Rattle.run_turn_laws.proofs.Told.{told_both}
-use Rattle.told_graph_laws.specs.ToldGraph.{IsUnended, EndsAreLast}
 
 -- the turn that a strand ends in, if it does
 abbrev pub turn_of_end : Option StrandEnd → Option GraphTurn

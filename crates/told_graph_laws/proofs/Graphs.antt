@@ -1,33 +1,7 @@
 -- The graph of a log is that of the turns told.
-use Rattle.std.proofs.Common.{◌≡◌, ◌<◌, ◌≤◌, ◌+◌, ◌==◌, ℕ, zero, suc, Bool, true, false, Option, Some, None, List, [], ◌∷◌, length, map, get_or, slice_get, ◌⊎◌, inl, inr, refl, ap, ap₂, sym, subst, ◌∙◌, arith}
-use Rattle.std.specs.Prelude.{IsTrue, ◌||◌}
-use Rattle.std.proofs.Math.Path.{fun_ext}
-use Rattle.std.proofs.lemmas.Bool.{cases_lt, or_right, or_cases, eqb-true, eq-eqb}
-use Rattle.std.proofs.lemmas.List.{length-map}
-use Rattle.std.specs.List.{list_any}
-use Rattle.std.specs.List.Sorted.{IsStrictlyIncreasing}
-use Rattle.plain_vec.proofs.Members.{In, any_from_in, flat_in, got_in}
-use Rattle.plain_vec.proofs.Places.{got_some, got_map}
-use Rattle.fork_graph.specs.Cut.{completed, with_joins}
-use Rattle.fork_graph.specs.Graph.{TaskTurns, tasks_in, strand, Does}
-use Rattle.fork_graph.specs.declared.fault.Extent.{Extent}
-use Rattle.fork_graph.specs.declared.fault.Extent.TheVariants.{Whole, Cut}
-use Rattle.fork_graph.specs.declared.graph.GraphTurn.{GraphTurn}
-use Rattle.fork_graph.specs.declared.graph.GraphTurn.TheVariants.{Spawn, Join}
-use Rattle.log_form.specs.Events.{Event}
-use Rattle.log_form.specs.Faults.{spawns}
-use Rattle.log_tasks.specs.Ends.{end_of}
-use Rattle.log_tasks.specs.Log.{IsLog}
-use Rattle.log_tasks.specs.Numbers.{AreNumbers, is_task, tells, told_number, log_strand, task_of, renumbered}
-use Rattle.log_tasks.specs.Rows.{AreRows, turn_at, known_of, graph_of}
-use Rattle.log_tasks.specs.declared.ending.StrandEnd.{StrandEnd}
-use Rattle.log_tasks.specs.declared.ending.StrandEnd.TheVariants.{Turns, Finishes}
-use Rattle.log_tasks.specs.declared.tasks.LogTasks.{LogTasks}
-use Rattle.log_tasks.proofs.Ascending.{in_at, at_in, place_below, task_is}
-use Rattle.run_turn_laws.specs.Turns.{turn_by, turns_by, turns_told}
+use Rattle.told_graph_laws.proofs.Common.{◌≡◌, ◌<◌, ◌≤◌, ◌+◌, ◌==◌, ℕ, zero, suc, Bool, true, false, Option, Some, None, List, [], ◌∷◌, length, map, get_or, slice_get, ◌⊎◌, inl, inr, refl, ap, ap₂, sym, subst, ◌∙◌, arith, IsTrue, ◌||◌, fun_ext, cases_lt, or_right, or_cases, eqb-true, length-map, list_any, IsStrictlyIncreasing, In, any_from_in, flat_in, got_in, got_some, got_map, completed, with_joins, TaskTurns, tasks_in, strand, Does, Extent, Whole, Cut, GraphTurn, Spawn, Join, Event, spawns, end_of, IsLog, AreNumbers, is_task, tells, told_number, log_strand, task_of, renumbered, AreRows, turn_at, known_of, graph_of, StrandEnd, Turns, Finishes, LogTasks, in_at, at_in, place_below, task_is, turn_by, turns_by, turns_told, Act, AreToldInOrder, graph_told, IsGraphTold, LogsTellGraphs}
+use Rattle.std.proofs.lemmas.Bool.{eq-eqb}
 use Rattle.run_turn_laws.specs.below.log_lines as acts
-use Rattle.run_turn_laws.specs.below.log_lines.{Act}
-use Rattle.told_graph_laws.specs.ToldGraph.{AreToldInOrder, graph_told, IsGraphTold, LogsTellGraphs}
 use Rattle.told_graph_laws.proofs.Ends.{turn_of_end, EndAsTold, ends_as_told, turn_event, spawn_act}
 
 -- NUMBERS WITHOUT GAPS

@@ -1,20 +1,5 @@
 -- What is told stays in the log's graph.
-use Rattle.std.proofs.Common.{◌≡◌, ◌≤◌, ◌+◌, ℕ, zero, suc, List, [], ◌∷◌, ◌++◌, length, map, inl, inr, ap, sym, subst, arith, length-append, append_assoc}
-use Rattle.plain_vec.proofs.Members.{In}
-use Rattle.walk_laws.specs.Reached.{IsWalk}
-use Rattle.fork_graph.specs.Cut.{unjoined}
-use Rattle.fork_graph.specs.Graph.{TaskTurns, HasStrand, StrandPrecedes, IsAncestor, IsParent}
-use Rattle.fork_graph.specs.declared.fault.Extent.{Extent}
-use Rattle.fork_graph.specs.declared.fault.Extent.TheVariants.{Whole, Cut}
-use Rattle.fork_graph.specs.declared.graph.GraphStrand.{GraphStrand}
-use Rattle.fork_graph.specs.declared.graph.GraphTurn.TheVariants.{Spawn, Join}
-use Rattle.fork_graph.proofs.Cut.{completed_front}
-use Rattle.log_form.specs.Events.{Event}
-use Rattle.run_log_laws.specs.Whole.{IsCutRun}
-use Rattle.run_turn_laws.specs.Turns.{turns_by, turns_told, FollowTurns}
-use Rattle.run_turn_laws.proofs.Told.{told_both}
-use Rattle.told_graph_laws.specs.ToldGraph.{graph_told}
-use Rattle.std.specs.Prelude.{◌↔◌}
+use Rattle.told_graph_laws.proofs.Common.{◌≡◌, ◌≤◌, ◌+◌, ℕ, zero, suc, List, [], ◌∷◌, ◌++◌, length, map, inl, inr, ap, sym, subst, arith, length-append, append_assoc, In, IsWalk, unjoined, TaskTurns, HasStrand, StrandPrecedes, IsAncestor, IsParent, Extent, Whole, Cut, GraphStrand, Spawn, Join, completed_front, Event, IsCutRun, turns_by, turns_told, FollowTurns, told_both, graph_told, ◌↔◌}
 
 pub kept_strand : (x : Extent) (tasks : TaskTurns) (u : GraphStrand) → HasStrand tasks u → HasStrand (graph_told x tasks) u
 kept_strand Whole tasks u st = st

@@ -1,3 +1,4 @@
 pub mod Ends
 pub mod Graphs
 pub mod Kept
+mod Common
