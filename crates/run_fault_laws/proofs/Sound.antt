@@ -90,7 +90,7 @@ module _ (n : ℕ) (events : List Event) (extent : Extent) (numbers : List ℕ) 
 -- the turns are those of a run
 is_run : (p : ProgramText) (s : SettingsValue) (journal : List EntryValue) (legal : is_legal p s journal ≡ true) (rows : List (List GraphTurn)) → tasks_in rows ≡ turns_told (events_told (lines_of p s journal)) → length rows ≡ length (machine_of p s journal).tasks
     → (extent : Extent) → (extent ≡ Whole → (machine_of p s journal).end ≡ Some Done) → IsSoundRun rows extent
-is_run p s journal legal rows turns size extent done = by extent done
+is_run p s journal legal rows turns size extent done = is_run_by_extent extent done
   where
     edges : tasks_in rows ≡ turns_of (machine_of p s journal).edges
     edges = turns ∙ fun_ext (logs_tell_edges p s journal legal).turns
@@ -100,9 +100,9 @@ is_run p s journal legal rows turns size extent done = by extent done
         subst (λ tasks. IsCutRun tasks (length rows)) (sym edges)
         (subst (IsCutRun (turns_of (machine_of p s journal).edges)) (sym size) (runs_are_fork_join p (field_limit s.version) (tasks_of journal)).0)
 
-    by : (x : Extent) → (x ≡ Whole → (machine_of p s journal).end ≡ Some Done) → IsSoundRun rows x
-    by Whole d = record { nested = subst IsNested (sym edges) ((runs_are_fork_join p (field_limit s.version) (tasks_of journal)).1 (d refl)); below = cut.below; reached = cut.reached }
-    by Cut d = record { fork_join = cut.fork_join; below = cut.below }
+    is_run_by_extent : (x : Extent) → (x ≡ Whole → (machine_of p s journal).end ≡ Some Done) → IsSoundRun rows x
+    is_run_by_extent Whole d = record { nested = subst IsNested (sym edges) ((runs_are_fork_join p (field_limit s.version) (tasks_of journal)).1 (d refl)); below = cut.below; reached = cut.reached }
+    is_run_by_extent Cut d = record { fork_join = cut.fork_join; below = cut.below }
 
 pub run_tasks_are_sound : RunTasksAreSound
 run_tasks_are_sound p s journal legal extent done numbers rows named are =

@@ -31,15 +31,15 @@ module _ (p : ProgramText) (limit : ℕ) where
   abbrev Told : List ℕ → List Event → Type 0
   Told ts events = AreTold (M ts).tasks events
 
-  there : (m : MachineState) (t : ℕ) → is_running (slice_get m.tasks t) ≡ true → t < length m.tasks
-  there m t run = by (slice_get m.tasks t) refl
+  running_is_made : (m : MachineState) (t : ℕ) → is_running (slice_get m.tasks t) ≡ true → t < length m.tasks
+  running_is_made m t run = running_is_made_by_cases (slice_get m.tasks t) refl
     where
-      by : (o : Option Task) → slice_get m.tasks t ≡ o → t < length m.tasks
-      by None e = absurd (let f : false ≡ true = sym (ap is_running e) ∙ run in cc)
-      by (Some x) e = got_within m.tasks t x e
+      running_is_made_by_cases : (o : Option Task) → slice_get m.tasks t ≡ o → t < length m.tasks
+      running_is_made_by_cases None e = absurd (let f : false ≡ true = sym (ap is_running e) ∙ run in cc)
+      running_is_made_by_cases (Some x) e = got_within m.tasks t x e
 
   work : (ts : List ℕ) (t k : ℕ) (events : List Event) → is_running (slice_get (M ts).tasks t) ≡ true → Told ts events → Told ts (events ++ event (strand_now (M ts) t) (acts.Work k) ∷ [])
-  work ts t k events run A = told_more (M ts).tasks (M ts).tasks events (event (strand_now (M ts) t) (acts.Work k) ∷ []) A (act_adds (M ts).tasks (strand_now (M ts) t) (Some (acts.Work k)) (λ e. cc, λ b e. cc) (there (M ts) t run) run)
+  work ts t k events run A = told_more (M ts).tasks (M ts).tasks events (event (strand_now (M ts) t) (acts.Work k) ∷ []) A (act_adds (M ts).tasks (strand_now (M ts) t) (Some (acts.Work k)) (λ e. cc, λ b e. cc) (running_is_made (M ts) t run) run)
 
   idle : (ts : List ℕ) (t : ℕ) (events : List Event) → act_of p (M ts) t ≡ None → step p (M ts) t ≡ M ts → Told ts events → Told (ts ++ t ∷ []) events
   idle ts t events none same A = subst (λ (m : MachineState). AreTold m.tasks events) (sym (run_push p (start p limit) ts t ∙ same)) A
@@ -50,7 +50,7 @@ module _ (p : ProgramText) (limit : ℕ) where
       let m : MachineState = M ts in
       let run : is_running (slice_get m.tasks t) ≡ true = can_runs m t can in
       let K = run_is_fork_join_state p (start p limit) ts (start_is_fork_join_state p limit) in
-      let first = told_more m.tasks m.tasks events (on_strand (strand_now m t) (step_act p m t x line)) A (act_adds m.tasks (strand_now m t) (step_act p m t x line) (quiet_told (step p m t) line.number _) (there m t run) run) in
+      let first = told_more m.tasks m.tasks events (on_strand (strand_now m t) (step_act p m t x line)) A (act_adds m.tasks (strand_now m t) (step_act p m t x line) (quiet_told (step p m t) line.number _) (running_is_made m t run) run) in
       subst (λ (s : MachineState). AreTold s.tasks ((events ++ on_strand (strand_now m t) (step_act p m t x line)) ++ turn_events m (step p m t) t)) (sym (run_push p (start p limit) ts t))
       (told_more m.tasks (step p m t).tasks (events ++ on_strand (strand_now m t) (step_act p m t x line)) (turn_events m (step p m t) t) first (turns_add p m t K x is (ap is_running (sym is) ∙ run)))
 
@@ -70,12 +70,12 @@ module _ (m : MachineState) (P : PairsOf m) (some : 0 < length m.tasks) (events 
   is_there : (t : ℕ) → IsTrue (is_task events t) → t < length m.tasks
   is_there t h = elim (or_cases (t == 0) (list_any (tells t) events) h) [
     | inl e ↦ let z : t ≡ 0 = eqb-true t 0 e in omega (arith, z, some)
-    | inr any ↦ let f = in_from_any (tells t) events any in by f.0 f.1 (or_cases (f.0.strand.task == t) (spawns t f.0.act) f.2)
+    | inr any ↦ let f = in_from_any (tells t) events any in is_there_by_cases f.0 f.1 (or_cases (f.0.strand.task == t) (spawns t f.0.act) f.2)
   ]
     where
-      by : (e : Event) → In events e → ((e.strand.task == t) ≡ true) ⊎ (spawns t e.act ≡ true) → t < length m.tasks
-      by e i (inl own) = subst (λ k. k < length m.tasks) (eqb-true e.strand.task t own) (A.within e i)
-      by e i (inr child) = let d = event_turn events e (Spawn t) i (act_spawn e.act t child) in (P.below e.strand.task d.0 t (does e.strand.task d.0 (Spawn t) d.1)).1
+      is_there_by_cases : (e : Event) → In events e → ((e.strand.task == t) ≡ true) ⊎ (spawns t e.act ≡ true) → t < length m.tasks
+      is_there_by_cases e i (inl own) = subst (λ k. k < length m.tasks) (eqb-true e.strand.task t own) (A.within e i)
+      is_there_by_cases e i (inr child) = let d = event_turn events e (Spawn t) i (act_spawn e.act t child) in (P.below e.strand.task d.0 t (does e.strand.task d.0 (Spawn t) d.1)).1
 
   is_named : (t : ℕ) → t < length m.tasks → IsTrue (is_task events t)
   is_named zero lt = refl

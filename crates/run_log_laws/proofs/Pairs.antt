@@ -197,11 +197,11 @@ module _ (n : ℕ) (par : ℕ → Option ℕ) (jd wt : ℕ → Bool) (js : ℕ �
   ]
 
   was_out : (c : ℕ) → jd' c ≡ false → jd c ≡ false
-  was_out c out = by (jd c) refl
+  was_out c out = was_out_by_cases (jd c) refl
     where
-      by : (b : Bool) → jd c ≡ b → jd c ≡ false
-      by true e = absurd (both_ways (jd' c) out (dwider c e))
-      by false e = e
+      was_out_by_cases : (b : Bool) → jd c ≡ b → jd c ≡ false
+      was_out_by_cases true e = absurd (both_ways (jd' c) out (dwider c e))
+      was_out_by_cases false e = e
 
   -- no other child of the parent is left
   none_left : (c : ℕ) (b : Bool) → is_left c ≡ b → par c ≡ Some p → jd' c ≡ false → ⊥

@@ -51,11 +51,11 @@ module _ (n : ℕ) (par : ℕ → Option ℕ) (jd wt : ℕ → Bool) (waits : (t
   ]
 
   pub none_waits : (t : ℕ) → wt t ≡ false
-  none_waits t = by (wt t) refl
+  none_waits t = none_waits_by_cases (wt t) refl
     where
-      by : (b : Bool) → wt t ≡ b → wt t ≡ false
-      by true e = absurd (none_by (suc t) t (omega arith) e)
-      by false e = e
+      none_waits_by_cases : (b : Bool) → wt t ≡ b → wt t ≡ false
+      none_waits_by_cases true e = absurd (none_by (suc t) t (omega arith) e)
+      none_waits_by_cases false e = e
 
 module _ (p : ProgramText) (limit : ℕ) (ts : List ℕ) where
   abbrev m : MachineState
@@ -76,19 +76,19 @@ module _ (p : ProgramText) (limit : ℕ) (ts : List ℕ) where
   rests = along [] ts (λ done. absurd (let e : None ≡ Some Done = done in cc))
 
   has_parent : (t : ℕ) → waiting m.tasks t ≡ true → (t ≡ 0) ⊎ ((q : ℕ) × (parents m.tasks t ≡ Some q))
-  has_parent t w = by (slice_get m.tasks t) refl
+  has_parent t w = has_parent_by_cases (slice_get m.tasks t) refl
     where
       by_parent : (x : Task) (o : Option ℕ) → slice_get m.tasks t ≡ Some x → x.parent ≡ o → (t ≡ 0) ⊎ ((q : ℕ) × (parents m.tasks t ≡ Some q))
       by_parent x None is e = inl (run_root p limit ts t x is e)
       by_parent x (Some q) is e = inr (q, ap parent_of is ∙ e)
 
-      by : (o : Option Task) → slice_get m.tasks t ≡ o → (t ≡ 0) ⊎ ((q : ℕ) × (parents m.tasks t ≡ Some q))
-      by None e = absurd (both_ways (waiting m.tasks t) (ap is_waiting e) w)
-      by (Some x) e = by_parent x x.parent e refl
+      has_parent_by_cases : (o : Option Task) → slice_get m.tasks t ≡ o → (t ≡ 0) ⊎ ((q : ℕ) × (parents m.tasks t ≡ Some q))
+      has_parent_by_cases None e = absurd (both_ways (waiting m.tasks t) (ap is_waiting e) w)
+      has_parent_by_cases (Some x) e = by_parent x x.parent e refl
 
   -- nor runs
   none_runs : m.end ≡ Some Done → (t : ℕ) → is_running (slice_get m.tasks t) ≡ false
-  none_runs done t = by (slice_get m.tasks t) (is_running (slice_get m.tasks t)) refl refl
+  none_runs done t = none_runs_by_cases (slice_get m.tasks t) (is_running (slice_get m.tasks t)) refl refl
     where
       idle : (u : ℕ) → waiting m.tasks u ≡ false
       idle = none_waits (length m.tasks) (parents m.tasks) (joined m.tasks) (waiting m.tasks) (state ts).tree.waits (state ts).tree.low (state ts).tree.apart has_parent (rests done).0
@@ -97,10 +97,10 @@ module _ (p : ProgramText) (limit : ℕ) (ts : List ℕ) where
       runs x None is run e = both_ways (is_running (slice_get m.tasks 0)) (rests done).1 (ap (λ k. is_running (slice_get m.tasks k)) (sym (run_root p limit ts t x is e)) ∙ (ap is_running is ∙ run))
       runs x (Some q) is run e = both_ways (waiting m.tasks q) (idle q) ((state ts).tree.waits t q (ap parent_of is ∙ e) (ap is_joined is ∙ (running_tells x.status run).0))
 
-      by : (o : Option Task) (b : Bool) → slice_get m.tasks t ≡ o → is_running (slice_get m.tasks t) ≡ b → is_running (slice_get m.tasks t) ≡ false
-      by o false is e = e
-      by None true is e = ap is_running is
-      by (Some x) true is e = absurd (runs x x.parent is (ap is_running (sym is) ∙ e) refl)
+      none_runs_by_cases : (o : Option Task) (b : Bool) → slice_get m.tasks t ≡ o → is_running (slice_get m.tasks t) ≡ b → is_running (slice_get m.tasks t) ≡ false
+      none_runs_by_cases o false is e = e
+      none_runs_by_cases None true is e = ap is_running is
+      none_runs_by_cases (Some x) true is e = absurd (runs x x.parent is (ap is_running (sym is) ∙ e) refl)
 
   pub all_ended : m.end ≡ Some Done → (t : ℕ) → (is_running (slice_get m.tasks t) ≡ false) × (is_waiting (slice_get m.tasks t) ≡ false)
   all_ended done t = (none_runs done t, none_waits (length m.tasks) (parents m.tasks) (joined m.tasks) (waiting m.tasks) (state ts).tree.waits (state ts).tree.low (state ts).tree.apart has_parent (rests done).0 t)

@@ -24,12 +24,12 @@ module _ (numbers : List ℕ) (up : IsStrictlyIncreasing numbers) (n : ℕ) (are
   placed t few = placed_by (suc t) t (omega arith) few
 
   pub numbers_count : length numbers ≡ n
-  numbers_count = by (cases_lt n (length numbers)) (cases_lt (length numbers) n)
+  numbers_count = numbers_count_by_cases (cases_lt n (length numbers)) (cases_lt (length numbers) n)
     where
-      by : (n < length numbers) ⊎ (length numbers ≤ n) → (length numbers < n) ⊎ (n ≤ length numbers) → length numbers ≡ n
-      by (inl more) other = absurd (let a = are (get_or numbers n 0) (at_in numbers n more) in let b = place_below numbers up n more in omega (arith, a, b))
-      by (inr le) (inl fewer) = absurd (let p = (placed (length numbers) fewer).0 in omega (arith, p))
-      by (inr le) (inr ge) = omega (arith, le, ge)
+      numbers_count_by_cases : (n < length numbers) ⊎ (length numbers ≤ n) → (length numbers < n) ⊎ (n ≤ length numbers) → length numbers ≡ n
+      numbers_count_by_cases (inl more) other = absurd (let a = are (get_or numbers n 0) (at_in numbers n more) in let b = place_below numbers up n more in omega (arith, a, b))
+      numbers_count_by_cases (inr le) (inl fewer) = absurd (let p = (placed (length numbers) fewer).0 in omega (arith, p))
+      numbers_count_by_cases (inr le) (inr ge) = omega (arith, le, ge)
 
 -- ROWS
 
@@ -101,11 +101,11 @@ module _ (n : ℕ) (events : List Event) (numbers : List ℕ) (rows : List (List
       ∙ (same_turn t i (end_of events (strand t i)) (E.turn t i) ∙ E.turn t i)))
 
   none_told : (t : ℕ) → n ≤ t → T t ≡ []
-  none_told t ge = by (T t) refl
+  none_told t ge = none_told_by_cases (T t) refl
     where
-      by : (turns : List GraphTurn) → T t ≡ turns → T t ≡ []
-      by [] e = e
-      by (turn ∷ rest) e = let v = turn_event events t 0 turn (ap (λ ts. slice_get ts 0) e) in absurd (let lt = of_task t v.0 v.1 v.2 in omega (arith, lt, ge))
+      none_told_by_cases : (turns : List GraphTurn) → T t ≡ turns → T t ≡ []
+      none_told_by_cases [] e = e
+      none_told_by_cases (turn ∷ rest) e = let v = turn_event events t 0 turn (ap (λ ts. slice_get ts 0) e) in absurd (let lt = of_task t v.0 v.1 v.2 in omega (arith, lt, ge))
 
   pub size : length rows ≡ n
   size = is.count ∙ count
