@@ -2,9 +2,8 @@
 
 use fork_join::{Child, EndedChild, Side};
 use heap_tree::{TaskState, Tree};
-use memory_scenes::{
-    Addr, Chunk, Frames, LeafHeap, Pool, add_taken, at, ended, forked, joined, owner, place,
-};
+use join_scenes::{ended, forked, joined};
+use memory_scenes::{Addr, Chunk, Frames, LeafHeap, Pool, add_taken, at, owner, place};
 use remembered_set::{RefField, Remembered};
 use std::alloc::Global;
 

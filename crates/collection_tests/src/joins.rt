@@ -3,7 +3,8 @@
 use crate::families::{Family, Field, Outcome};
 use fork_join::Child;
 use heap_tree::{TaskState, Tree};
-use memory_scenes::{Addr, Frames, LeafHeap, ended, forked, has_forked, one_frame};
+use join_scenes::{ended, forked, has_forked};
+use memory_scenes::{Addr, Frames, LeafHeap, one_frame};
 use std::alloc::Global;
 
 const LEFT: Option<Addr> = Some(Addr {

@@ -2,7 +2,7 @@
 pub use Rattle.address_laws.proofs.Numbers.{numbers, Distinct, numbers_append, in_removed, in_at, removed_at, distinct_removed, reverse_first}
 pub use Rattle.address_laws.proofs.Puts.{live_chunk}
 pub use Rattle.address_laws.specs.Alike.{HaveSameShape}
-pub use Rattle.chunk_sizes.proofs.Filled.{Filled, filled_more, filled_next}
+pub use Rattle.object_layout.proofs.below.chunk_sizes.{Filled, filled_more, filled_next}
 pub use Rattle.copying_gc.specs.Collected.{IsVacated, keeps, leaves, laying_of, redirection, moves_of, AreSurvivors}
 pub use Rattle.copying_gc.specs.CollectorValue.{CollectorValue}
 pub use Rattle.copying_gc.specs.Copying.{copied, copied_one, CanBeCopied, survivor_cell}

@@ -1,10 +1,10 @@
 // What tasks see of the heaps of their ancestors.
 
 use heap_tree::Tree;
+use join_scenes::forked;
 use leaf_heap::{LeafHeap, View};
 use memory_scenes::{
-    Put, Spot, at, at_spot, forked, freeze, heap_of, mark_and_sweep, one_frame, place_kind,
-    set_number,
+    Put, Spot, at, at_spot, freeze, heap_of, mark_and_sweep, one_frame, place_kind, set_number,
 };
 use object_layout::{Addr, Header};
 use std::alloc::Global;

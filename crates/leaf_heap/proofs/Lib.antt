@@ -4,4 +4,5 @@ pub mod PlacedLaws
 pub mod Settled
 pub mod Near
 pub mod Counting
+pub mod below
 mod Common

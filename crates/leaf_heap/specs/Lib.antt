@@ -3,4 +3,5 @@ pub mod Counted
 pub mod Units
 pub mod FieldLaws
 pub mod PlaceLaws
+pub mod below
 mod Common

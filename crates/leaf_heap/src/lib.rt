@@ -20,6 +20,7 @@ mod own;
 mod counts;
 mod view;
 
+pub use boxed::BoxedSlot;
 pub use chunk_list::View;
 pub use contents::New;
 pub use counts::{Counts, counts_of};

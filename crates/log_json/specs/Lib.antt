@@ -1,3 +1,4 @@
 pub mod Values
 pub mod Pieces
+pub mod below
 mod Common

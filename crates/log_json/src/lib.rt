@@ -9,4 +9,6 @@ mod report;
 mod uses;
 mod value;
 
+pub use log_sites::{SiteNames, site_names};
+pub use plain_vec::Listed;
 pub use report::report_json;

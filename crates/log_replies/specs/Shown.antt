@@ -5,7 +5,7 @@ use Rattle.log_tasks.specs.declared.tasks.LogTasks.{LogTasks}
 use Rattle.log_tasks.specs.Faults.{IsFirstTaskFault}
 use Rattle.log_tasks.specs.Log.{IsLog}
 use Rattle.log_refusals.specs.Texts.{line_refusal, task_refusal}
-use Rattle.log_sites.specs.Names.{site_name}
+use Rattle.log_json.specs.below.log_sites.{site_name}
 use Rattle.log_report.specs.declared.told.LogReport.{LogReport}
 use Rattle.log_report.specs.Labels.{Names}
 use Rattle.log_report.specs.LogReport.{report_text}

@@ -4,8 +4,8 @@ ghost use Rattle.std.specs.Prelude.{◌≡◌, ◌==◌, filter};
 ghost use Rattle.std.specs.List.{list_any};
 ghost use Rattle.log_replies.specs.Blocks.{is_shown, of_blocks};
 
+use log_json::Listed;
 use log_report::{LogReport, ToldRace, ToldUse};
-use plain_vec::Listed;
 
 // Whether a block is one of these.
 fn is_among(blocks: &[u64], block: u64) -> bool

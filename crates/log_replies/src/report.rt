@@ -2,17 +2,15 @@
 
 ghost use Rattle.std.specs.Prelude.{◌≡◌, IfOk};
 ghost use Rattle.whole_call.specs.Output.{Says};
-ghost use Rattle.log_sites.specs.Names.{name_of, site_name};
+ghost use Rattle.log_json.specs.below.log_sites.{name_of, site_name};
 ghost use Rattle.log_replies.specs.Blocks.{of_blocks};
 ghost use Rattle.log_replies.specs.Shown.{view_text};
 ghost use Rattle.log_replies.specs.Status.{is_quiet, status_if_cut, status_of};
 
 use crate::blocks::of_blocks;
-use log_json::report_json;
+use log_json::{Listed, SiteNames, report_json, site_names};
 use log_report::{LogReport, report_text};
 use log_request::{LogView, ReportForm};
-use log_sites::{SiteNames, site_names};
-use plain_vec::Listed;
 use std::alloc::{AllocError, Global};
 use whole_call::{AnswerStatus, Reply};
 

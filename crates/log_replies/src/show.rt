@@ -9,11 +9,11 @@ ghost use Rattle.log_replies.specs.Shown.{extent_of, log_extent, RefusesSize, Re
 use crate::report::show_report;
 use crate::size::size_refusal;
 use log_findings::{Extent, ReportError, report_log};
+use log_json::Listed;
 use log_pieces::{CutLog, LogPiece, OrNoMemory, cut_log};
 use log_refusals::{line_refusal, task_refusal};
 use log_request::LogView;
 use log_tasks::{LogTasks, log_tasks};
-use plain_vec::Listed;
 use std::alloc::{AllocError, Global};
 use whole_call::Reply;
 

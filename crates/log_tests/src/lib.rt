@@ -4,8 +4,6 @@
 #[cfg(test)]
 mod calls;
 #[cfg(test)]
-mod findings;
-#[cfg(test)]
 mod heaps;
 #[cfg(test)]
 mod lines;

@@ -1,8 +1,7 @@
-// Heaps, pools, forks and sweeps for tests: each call checks its preconditions, and reports if they don't hold.
+// Heaps, pools and sweeps for tests: each call checks its preconditions, and reports if they don't hold.
 #![tactic(auto)]
 
 mod cells;
-mod joining;
 mod pools;
 mod scenes;
 mod soundness;
@@ -11,7 +10,6 @@ mod sweeping;
 pub use cells::{is_fit_heap, small_in_all};
 pub use chunk_pool::Pool;
 pub use hh_lang::DEPTH_LIMIT;
-pub use joining::{ended, forked, has_forked, joined};
 pub use leaf_heap::LeafHeap;
 pub use object_layout::{Addr, CHUNK_WORDS, Chunk};
 pub use pools::{add_taken, is_full, owner, relabel, take, take_and_give};

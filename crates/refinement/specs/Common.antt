@@ -2,10 +2,7 @@
 pub use Rattle.heap_tree.specs.TaskNode.{TaskNode}
 pub use Rattle.heap_tree.specs.declared.state.TaskState.{TaskState}
 pub use Rattle.heap_tree.specs.declared.state.TaskState.TheVariants.{Out, Ready, Waiting, Joined}
-pub use Rattle.hh_lang.specs.Form.{ProgramText}
-pub use Rattle.hh_lang.specs.declared.instr.Instr.{Instr}
-pub use Rattle.hh_lang.specs.declared.instr.Instr.TheVariants.{Putr, Puti, Cas}
-pub use Rattle.hh_lang.specs.declared.program.Line.{Line}
+pub use Rattle.task_machine.specs.below.hh_lang.{ProgramText, Instr, Putr, Puti, Cas, Line}
 pub use Rattle.hh_model.specs.Effect.{object_at, place_in, int_in, row_of}
 pub use Rattle.hh_model.specs.Step.{is_on_path, is_waiting, result_of, asked, is_joined, is_running, can_step}
 pub use Rattle.hh_model.specs.declared.data.End.TheVariants.{Done}
@@ -25,7 +22,7 @@ pub use Rattle.object_layout.specs.Chunks.{same_address}
 pub use Rattle.object_layout.specs.Graph.{HasObjectAt, RefersTo}
 pub use Rattle.object_layout.specs.Objects.{Located, led_object}
 pub use Rattle.object_layout.specs.declared.word.Addr.{Addr}
-pub use Rattle.plain_vec.specs.Members.{is_empty}
+pub use Rattle.run_ledger.specs.below.plain_vec.{is_empty}
 pub use Rattle.remembered_set.specs.declared.remembered.RefField.{RefField}
 pub use Rattle.run_ledger.specs.Entries.{chunk_units}
 pub use Rattle.run_ledger.specs.Heaps.{heap_of, collected, take_of, units, within, in_use}
@@ -35,11 +32,8 @@ pub use Rattle.run_ledger.specs.declared.data.Heap.{Heap}
 pub use Rattle.run_ledger.specs.declared.data.Ledger.{Ledger}
 pub use Rattle.run_ledger.specs.declared.data.RunEnd.{RunEnd}
 pub use Rattle.run_ledger.specs.declared.data.RunEnd.TheVariants.{Pool, Machine}
-pub use Rattle.run_trace.specs.Settings.{SettingsValue, field_limit}
-pub use Rattle.run_trace.specs.declared.entry.Kind.{Kind}
-pub use Rattle.run_trace.specs.declared.entry.Kind.TheVariants.{Took, Ran, Chunk, Begin, End, PutOff, Mark, More, Sweep, Fuel}
-pub use Rattle.task_frames.specs.FramesValue.{int_of, ref_of, led_frame}
-pub use Rattle.task_frames.specs.declared.frames.CallFrame.{CallFrame}
+pub use Rattle.run_ledger.specs.below.run_trace.{SettingsValue, field_limit, Kind, Took, Ran, Chunk, Begin, End, PutOff, Mark, More, Sweep, Fuel}
+pub use Rattle.task_machine.specs.below.task_frames.{int_of, ref_of, led_frame, CallFrame}
 pub use Rattle.task_machine.specs.Place.{name_of}
 pub use Rattle.task_machine.specs.declared.part.Begun.{Begun}
-pub use Rattle.walk_laws.specs.Reached.{IsReached}
+pub use Rattle.run_ledger.specs.below.walk_laws.{IsReached}

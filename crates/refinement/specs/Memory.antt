@@ -4,7 +4,7 @@ use Rattle.std.specs.Prelude.{ℕ, suc, ℤ, pos, Bool, false, not, Option, Some
 use Rattle.std.specs.Option.{option_map}
 use Rattle.std.specs.List.{flat_map, list_any}
 use Rattle.refinement.specs.Common.{Addr, Located, led_object, Name, MarkingValue, CallFrame, RefField, Begun, name_of, same_address}
-pub use Rattle.plain_vec.specs.Members.{In}
+pub use Rattle.run_ledger.specs.below.plain_vec.{In}
 
 -- the name of an object
 abbrev pub object_name : Located → Name

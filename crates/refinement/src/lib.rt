@@ -4,7 +4,6 @@
 mod laws;
 
 pub use heap_tree::{TaskState, Tree};
-pub use hh_lang::{DEPTH_LIMIT, Fun, Instr, IntReg, Program, RefReg};
 pub use hh_model::{End, Trap};
 pub use laws::{collections_keep, forks_keep, joins_keep, sweeps_keep};
 pub use mark_sweep_gc::{Marking, MarkingRoom};
@@ -12,9 +11,11 @@ pub use object_layout::{
     Addr, Birth, CHUNK_WORDS, Chunk, Words, birth_at, header_at, int_at, is_object_at,
     is_same_reference, next_at, ref_at, units,
 };
-pub use plain_vec::{Listed, ReservedVec};
 pub use remembered_set::{RefField, Remembered};
-pub use run_ledger::{MARKED_AT_ONCE, Owed, Refused, RefusedAt, Report, RunEnd};
-pub use run_trace::{Entry, Kind, PRIVATE_LIMIT, Settings, Version};
-pub use task_frames::Frames;
-pub use task_machine::{Begun, Paused, Private, run_local};
+pub use run_ledger::{
+    Entry, Kind, Listed, MARKED_AT_ONCE, Owed, PRIVATE_LIMIT, Refused, RefusedAt, Report,
+    ReservedVec, RunEnd, Settings, Version,
+};
+pub use task_machine::{
+    Begun, DEPTH_LIMIT, Frames, Fun, Instr, IntReg, Paused, Private, Program, RefReg, run_local,
+};

@@ -23,4 +23,5 @@ mod Exact
 pub mod Use
 pub mod Going
 pub mod RunOn
+pub mod below
 mod Common

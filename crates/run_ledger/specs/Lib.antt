@@ -11,4 +11,5 @@ pub mod Text
 pub mod Laws
 pub mod Cuts
 pub mod Space
+pub mod below
 mod Common

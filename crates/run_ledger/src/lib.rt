@@ -7,3 +7,5 @@ mod data;
 pub use data::{
     Heap, Ledger, MARKED_AT_ONCE, Owed, Previous, Refused, RefusedAt, Report, RunEnd, WorkerPace,
 };
+pub use plain_vec::{Listed, ReservedVec};
+pub use run_trace::{Entry, Kind, PRIVATE_LIMIT, Settings, Version};

@@ -1,3 +1,4 @@
 pub mod Schedules
 pub mod Text
 pub mod Laws
+pub mod below

@@ -9,5 +9,6 @@ mod text;
 
 pub use data::{Clashes, Verdict};
 pub use laws::{agreeing_runs_speak_for_all, verdicts_are_exact};
+pub use race_groups::{ShownRaces, shown_races};
 pub use report::clashes_of_run;
 pub use text::clashes_text;

@@ -1,8 +1,7 @@
 -- A call is planned only for a call instruction.
-use Rattle.task_machine.proofs.Common.{ℕ, ◌+◌, Bool, true, false, cond, Option, Some, None, length, slice_get, unwrap_or, is_some, nat_le, nat_lt, pos, Cell, object_of, place_for, Instr, Set, Mov, Movr, Nil, Calc, Same, Jmp, Jz, Newm, Pack as PackOf, Getr, Geti, Putr, Puti, Cntr, Cnti, Freeze as FreezeOf, Cas, Call as CallOf, Par, Ret, Out, Line, ProgramText, line_at, counts_in, same_reference, int_of, ref_of, Private, Shared, Due, NeedChunk, Plan, Pause, Calculate, SetInt, SetReference, Return, New, WriteReference, WriteInt, Swap, Spot, is_calculation, counts_ints, counts_refs, own_or_shown, reads_int, reads_ref, shown_of, allocating, or_shared, own_in, planned, next_plan, planned_line, IsCallInstr, IsCallLine, IsCallPlan, StandsAtCall}
+use Rattle.task_machine.proofs.Common.{ℕ, ◌+◌, Bool, true, false, cond, Option, Some, None, length, slice_get, unwrap_or, is_some, nat_le, nat_lt, pos, Cell, object_of, place_for, Instr, Set, Mov, Movr, Nil, Calc, Same, Jmp, Jz, Newm, Pack as PackOf, Getr, Geti, Putr, Puti, Cntr, Cnti, Freeze as FreezeOf, Cas, Call as CallOf, Par, Ret, Out, Line, ProgramText, line_at, counts_in, same_reference, int_of, ref_of, Private, Shared, Due, NeedChunk, Plan, Pause, Calculate, SetInt, SetReference, Return, New, WriteReference, WriteInt, Swap, Spot, is_calculation, counts_ints, counts_refs, own_or_shown, reads_int, reads_ref, shown_of, allocating, or_shared, own_in, planned, next_plan, planned_line, IsCallInstr, IsCallLine, IsCallPlan, StandsAtCall, plan_unless_frozen}
 use Rattle.hh_model.specs.Effect.{place_in as field_in}
 use Rattle.task_machine.specs.declared.plan.Plan.TheVariants.{Pack, Freeze}
-use Rattle.task_machine.specs.Plan.{plan_unless_frozen}
 
 abbrev Not : Plan → Type 0
 Not q = IsCallPlan q → ⊥

@@ -5,8 +5,7 @@ pub use Rattle.mark_sweep_gc.specs.MarkingValue.{MarkingValue}
 pub use Rattle.object_layout.specs.Cell.{cell_with_int}
 pub use Rattle.object_layout.specs.Chunks.{cell_of, put_object}
 pub use Rattle.object_layout.specs.declared.word.Addr.{Addr}
-pub use Rattle.plain_vec.proofs.Members.{got_other, got_same}
-pub use Rattle.plain_vec.proofs.Places.{got_map, got_item}
+pub use Rattle.leaf_heap.proofs.below.plain_vec.{got_other, got_same, got_map, got_item}
 pub use Rattle.remembered_set.specs.Moved.{target_of, new_reference, redirected, written}
 pub use Rattle.remembered_set.specs.Sources.{with_noted_source, StandOnce}
 pub use Rattle.remembered_set.specs.declared.remembered.RefField.{RefField}

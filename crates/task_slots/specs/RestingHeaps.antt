@@ -3,7 +3,7 @@ use Rattle.std.specs.Prelude.{◌≡◌, ◌≢◌, ℕ, Option, Some, None, Lis
 use Rattle.std.specs.Option.{option_flatten}
 use Rattle.std.proofs.Common.{inl, inr, ap, sym, ◌∙◌}
 use Rattle.std.proofs.lemmas.Bool.{cases_eq}
-use Rattle.plain_vec.proofs.Members.{got_other, got_same}
+use Rattle.leaf_heap.proofs.below.plain_vec.{got_other, got_same}
 use Rattle.object_layout.specs.declared.word.Addr.{Addr}
 use Rattle.chunk_pool.specs.PoolValue.{PoolValue, owner_of}
 use Rattle.leaf_heap.specs.FieldLaws.{refs_of_other, refs_of_same, with_ref_of}

@@ -1,3 +1,0 @@
-mod ChunkAdded
-mod RootPart
-mod Common

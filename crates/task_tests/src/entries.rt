@@ -3,9 +3,9 @@
 ghost use Rattle.std.specs.Prelude.{◌≡◌, None};
 ghost use Rattle.task_machine.specs.Ready.{FitsSome};
 
-use crate::parts::{AMPLE, Pause, Setup, pause, program_of, root_of};
 use boxed::BoxedSlot;
 use hh_lang::Program;
+use part_scenes::{AMPLE, Pause, Setup, pause, program_of, root_of};
 use plain_vec::Listed;
 use std::alloc::Global;
 use task_machine::{Begun, Paused, Private};

@@ -3,8 +3,8 @@
 ghost use Rattle.std.specs.Prelude.{◌≡◌, None};
 ghost use Rattle.task_machine.specs.Ready.{FitsSome};
 
-use crate::parts::{AMPLE, Pause, pause, pause_of, program_of, root_of};
 use hh_lang::Program;
+use part_scenes::{AMPLE, Pause, pause, pause_of, program_of, root_of};
 use std::alloc::Global;
 use task_machine::{Paused, Private};
 

@@ -6,6 +6,4 @@ mod entries;
 #[cfg(test)]
 mod instructions;
 #[cfg(test)]
-mod parts;
-#[cfg(test)]
 mod pauses;

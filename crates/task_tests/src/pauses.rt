@@ -1,6 +1,6 @@
 // Why a task's private steps pause: the first reason that applies.
 
-use crate::parts::{AMPLE, Pause, Setup, pause_of};
+use part_scenes::{AMPLE, Pause, Setup, pause_of};
 use task_machine::Paused;
 
 // A due collection comes with the second object.

@@ -5,7 +5,8 @@ ghost use Rattle.write_barrier.specs.Stored.{PointsIntoOwned};
 
 use chunk_pool::Pool;
 use heap_tree::Tree;
-use memory_scenes::{add_taken, at, has_forked, one_frame};
+use join_scenes::has_forked;
+use memory_scenes::{add_taken, at, one_frame};
 use std::alloc::Global;
 use task_slots::{Addr, LeafHeap, ParkedTask, RefField, TaskSlots, View, Work, slot_block};
 use write_barrier::note_write;

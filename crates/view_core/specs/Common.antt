@@ -4,8 +4,7 @@ pub use Rattle.fault_lines.specs.below.program_reader.{TextFault}
 pub use Rattle.heap_graph.specs.Graph.{graph_of}
 pub use Rattle.heap_graph.specs.below.image_check.{ImageFault, image_fault}
 pub use Rattle.heap_graph.specs.below.text_lines.{most_bytes}
-pub use Rattle.race_groups.specs.Shown.{RacesAreShown}
-pub use Rattle.race_groups.specs.declared.shown.ShownRaces.{ShownRaces}
+pub use Rattle.schedule_report.specs.below.race_groups.{RacesAreShown, ShownRaces}
 pub use Rattle.refusal_replies.specs.Refused.{RepliesRefusal}
 pub use Rattle.refusal_replies.specs.below.refusal_lines.{Source, refusal_of, Entry, Image, Words}
 pub use Rattle.refusal_replies.specs.below.whole_call.{CallStatus, SourceState, Streams, EndsWithReply, IsWholeCall, Done, Reply, Says, Trace, AnswerStatus, Races, Reads, ReadsNothing, ReadsUpTo}

@@ -6,9 +6,9 @@ ghost use Rattle.task_table.specs.below.run_journal.{ReplayFails};
 ghost use Rattle.refusal_replies.specs.below.whole_call.{Says};
 ghost use Rattle.view_core.specs.Races.{ShowsRaces, status_of_count};
 
-use race_groups::{ShownRaces, shown_races};
 use refusal_replies::{AnswerStatus, Reply};
 use run_page::{Entry, Program, Settings};
+use schedule_report::{ShownRaces, shown_races};
 use std::alloc::Global;
 use task_table::ReplayError;
 

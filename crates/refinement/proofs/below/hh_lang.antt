@@ -1,2 +1,2 @@
 -- Re-exports from `hh_lang` for the crates above.
-pub use Rattle.hh_lang.proofs.program.Program.TheSendSync as ProgramSendSync
+pub use Rattle.task_machine.proofs.below.hh_lang.ProgramSendSync as ProgramSendSync

@@ -1,2 +1,2 @@
 -- Re-exports from `run_trace` for the crates above.
-pub use Rattle.run_trace.proofs.settings.Settings.TheSendSync as SettingsSendSync
+pub use Rattle.run_ledger.proofs.below.run_trace.SettingsSendSync as SettingsSendSync

@@ -1,6 +1,5 @@
 -- A fork: the parent waits, its children have fresh belongings, and nothing moves.
-use Rattle.refinement.proofs.Common.{is_some, ◌≡◌, ℕ, ◌+◌, true, false, Some, List, [], ◌∷◌, map, length, slice_get, ◌⊎◌, inl, inr, refl, ap, sym, subst, ◌∙◌, cases_eq, both_ways, same_Some, Addr, Located, Name, Object, Frame as ModelFrame, Running, Waiting, Task, object_at, row_of, onward, is_waiting, is_joined, is_on_path, child, runs_idle, runs_live, Heap, Ledger, heap_of, fresh, SoundLedger, CallFrame, RefField, own, Rests, ForksTask, Belongings, Memory, In, object_name, objects, objects_of_chunks, sources, Lies, FramesAreRead, HoldsRead, TaskIsRead, AreLaidOut, LiesWithOwner, small_chunks, large_chunks, ChunksHaveNames, BelongingsStand, IsSource, MemoryStands, AboveIsShown, ForksBelongings, advanced, entered_frames, child_belongings}
-use Rattle.refinement.specs.MemoryStands.{chunk_names}
+use Rattle.refinement.proofs.Common.{is_some, ◌≡◌, ℕ, ◌+◌, true, false, Some, List, [], ◌∷◌, map, length, slice_get, ◌⊎◌, inl, inr, refl, ap, sym, subst, ◌∙◌, cases_eq, both_ways, same_Some, Addr, Located, Name, Object, Frame as ModelFrame, Running, Waiting, Task, object_at, row_of, onward, is_waiting, is_joined, is_on_path, child, runs_idle, runs_live, Heap, Ledger, heap_of, fresh, SoundLedger, CallFrame, RefField, own, Rests, ForksTask, Belongings, Memory, In, object_name, objects, objects_of_chunks, sources, Lies, FramesAreRead, HoldsRead, TaskIsRead, AreLaidOut, LiesWithOwner, small_chunks, large_chunks, ChunksHaveNames, BelongingsStand, IsSource, MemoryStands, AboveIsShown, ForksBelongings, advanced, entered_frames, child_belongings, chunk_names}
 use Rattle.refinement.proofs.objects.Carry.{object_kept, task_kept, frames_kept}
 use Rattle.refinement.proofs.objects.LaidOut.{none_laid}
 use Rattle.refinement.proofs.changes.Alone.{belongings_kept}

@@ -1,6 +1,5 @@
 -- A join: the parent owns what its children owned, and nothing moves.
-use Rattle.refinement.proofs.Common.{◌≡◌, ℕ, ℤ, ◌+◌, ◌<◌, ◌||◌, arith, true, false, Option, Some, None, is_some, List, [], ◌∷◌, ◌++◌, map, length, slice_get, slice_set, ◌⊎◌, inl, inr, refl, ap, ap₂, sym, subst, ◌∙◌, ne_eqb, cases_eq, both_ways, false≢true, same_Some, in_append_left, in_append_right, in_append_cases, Addr, Located, Name, Object, Frame as ModelFrame, TaskStatus, Running, Waiting, Ended, Joined, Task, object_at, row_of, is_waiting, is_joined, is_over, is_on_path, parents, joined, resumed, path_itself, path_child, path_parent, path_through, live_up, waiting, joins_in, Heap, Ledger, heap_of, emptied, SoundLedger, CallFrame, RefField, own, Rests, JoinsTasks, TasksCanJoin, leaf_alone, Chunk, Belongings, no_belongings, Memory, In, object_name, objects, objects_of_chunks, sources, Lies, ReadsReference, IsModelObject, FrameIsRead, FramesAreRead, HoldsRead, TaskIsRead, AreLaidOut, LiesWithOwner, ChunksHaveNames, small_chunks, large_chunks, GivesLevel, BelongingsStand, IsSource, MemoryStands, AboveIsShown, JoinsBelongings, with_results, top_with_results}
-use Rattle.refinement.specs.MemoryStands.{chunk_names}
+use Rattle.refinement.proofs.Common.{◌≡◌, ℕ, ℤ, ◌+◌, ◌<◌, ◌||◌, arith, true, false, Option, Some, None, is_some, List, [], ◌∷◌, ◌++◌, map, length, slice_get, slice_set, ◌⊎◌, inl, inr, refl, ap, ap₂, sym, subst, ◌∙◌, ne_eqb, cases_eq, both_ways, false≢true, same_Some, in_append_left, in_append_right, in_append_cases, Addr, Located, Name, Object, Frame as ModelFrame, TaskStatus, Running, Waiting, Ended, Joined, Task, object_at, row_of, is_waiting, is_joined, is_over, is_on_path, parents, joined, resumed, path_itself, path_child, path_parent, path_through, live_up, waiting, joins_in, Heap, Ledger, heap_of, emptied, SoundLedger, CallFrame, RefField, own, Rests, JoinsTasks, TasksCanJoin, leaf_alone, Chunk, Belongings, no_belongings, Memory, In, object_name, objects, objects_of_chunks, sources, Lies, ReadsReference, IsModelObject, FrameIsRead, FramesAreRead, HoldsRead, TaskIsRead, AreLaidOut, LiesWithOwner, ChunksHaveNames, small_chunks, large_chunks, GivesLevel, BelongingsStand, IsSource, MemoryStands, AboveIsShown, JoinsBelongings, with_results, top_with_results, chunk_names}
 use Rattle.refinement.proofs.objects.Carry.{object_kept, task_kept, frames_kept, read_kept, all_set}
 use Rattle.refinement.proofs.objects.Members.{in_chunk, in_objects, lies_in as owned_by, none_in}
 use Rattle.refinement.proofs.objects.LaidOut.{none_laid, laid_both}

@@ -1,6 +1,5 @@
 -- What is noted of a waiting heap still holds, whatever entry is made.
-use Rattle.refinement.proofs.Common.{◌≡◌, ℕ, ℤ, suc, Bool, true, false, cond, Option, Some, None, List, [], ◌∷◌, ◌⊎◌, length, slice_get, inl, inr, refl, ap, ap₂, sym, subst, ◌∙◌, option_map, list_any, ◌&&◌, not, both_ways, same_Some, append-nil, length-map, Addr, Located, Name, Object, Task, Running, object_at, task_names, is_waiting, runs_idle, got_in, Heap, Ledger, heap_of, heap_at, within, SoundLedger, InHeaps, heap_names, snapshot_at, MarkingValue, in_append_right, CallFrame, RefField, own, Rests, ref_of, ForksTask, StoresOne, same_address, Chunk, Belongings, Memory, In, object_name, objects, objects_of_chunks, sources, is_source, rewritten, rewritten_refs, rewritten_belongings, mapped_chunk, put_at, LiesWithOwner, MemoryStands, IsReachedAt, AreRoots, CanGoOnMarking, MarkedBy, Since, kept, NotedAt, SameNotes, NoNotes, StaysWhole, Moves, ForksBelongings, WritesAt, StoresAt, with_field, with_int_field}
-use Rattle.refinement.specs.Since.{KeepsOldValue}
+use Rattle.refinement.proofs.Common.{◌≡◌, ℕ, ℤ, suc, Bool, true, false, cond, Option, Some, None, List, [], ◌∷◌, ◌⊎◌, length, slice_get, inl, inr, refl, ap, ap₂, sym, subst, ◌∙◌, option_map, list_any, ◌&&◌, not, both_ways, same_Some, append-nil, length-map, Addr, Located, Name, Object, Task, Running, object_at, task_names, is_waiting, runs_idle, got_in, Heap, Ledger, heap_of, heap_at, within, SoundLedger, InHeaps, heap_names, snapshot_at, MarkingValue, in_append_right, CallFrame, RefField, own, Rests, ref_of, ForksTask, StoresOne, same_address, Chunk, Belongings, Memory, In, object_name, objects, objects_of_chunks, sources, is_source, rewritten, rewritten_refs, rewritten_belongings, mapped_chunk, put_at, LiesWithOwner, MemoryStands, IsReachedAt, AreRoots, CanGoOnMarking, MarkedBy, Since, kept, NotedAt, SameNotes, NoNotes, StaysWhole, Moves, ForksBelongings, WritesAt, StoresAt, with_field, with_int_field, KeepsOldValue}
 use Rattle.refinement.proofs.objects.Mapped.{count_mapped, from_mapped, to_mapped}
 use Rattle.refinement.proofs.notes.MarksGoOn.{goes_on}
 use Rattle.refinement.proofs.objects.Members.{object_held}

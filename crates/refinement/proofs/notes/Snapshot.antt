@@ -1,6 +1,5 @@
 -- From the fork on, the snapshot can be found by addresses.
-use Rattle.refinement.proofs.Common.{◌≡◌, ℕ, Bool, true, false, cond, Option, Some, List, [], slice_get, slice_set, ◌⊎◌, ◌↔◌, inl, inr, refl, ap, sym, subst, ◌∙◌, cases_eq, cond-true, cond-false, got_in, got_other, in_append_left, in_got, Addr, Located, Name, Object, Running, Task, is_waiting, runs_idle, Heap, Ledger, heap_of, within, SoundLedger, Rests, WritesOne, ForksTask, same_address, same_is, Belongings, Memory, In, object_name, objects, objects_of_chunks, put_at, MemoryStands, IsReachedAt, IsRememberedRoot, AreRoots, Since, kept, ForksBelongings, WritesAt, with_field}
-use Rattle.refinement.specs.Since.{KeepsOldValue}
+use Rattle.refinement.proofs.Common.{◌≡◌, ℕ, Bool, true, false, cond, Option, Some, List, [], slice_get, slice_set, ◌⊎◌, ◌↔◌, inl, inr, refl, ap, sym, subst, ◌∙◌, cases_eq, cond-true, cond-false, got_in, got_other, in_append_left, in_got, Addr, Located, Name, Object, Running, Task, is_waiting, runs_idle, Heap, Ledger, heap_of, within, SoundLedger, Rests, WritesOne, ForksTask, same_address, same_is, Belongings, Memory, In, object_name, objects, objects_of_chunks, put_at, MemoryStands, IsReachedAt, IsRememberedRoot, AreRoots, Since, kept, ForksBelongings, WritesAt, with_field, KeepsOldValue}
 use Rattle.refinement.proofs.objects.Mapped.{from_mapped, to_mapped}
 use Rattle.refinement.proofs.notes.Rooted.{in_advanced, noted_by, root_apart, root_by, root_same}
 use Rattle.refinement.proofs.notes.Roots.{reached_both}

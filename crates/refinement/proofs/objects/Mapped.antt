@@ -1,6 +1,5 @@
 -- Belongings whose objects are changed, except for their names and addresses.
-use Rattle.refinement.proofs.Common.{◌≡◌, ℕ, Bool, true, false, not, cond, Some, List, [], ◌∷◌, ◌++◌, map, length, slice_get, refl, ap, ap₂, sym, subst, ◌∙◌, length-map, map-append, in_map, map_in, Addr, Located, Name, row_of, is_joined, Heap, Ledger, heap_of, Chunk, Belongings, Memory, In, object_name, objects_of_chunks, Lies, mapped_chunk, mapped_belongings, words, AreLaidOut, small_chunks, large_chunks, ChunksHaveNames, BelongingsStand}
-use Rattle.refinement.specs.MemoryStands.{chunk_names}
+use Rattle.refinement.proofs.Common.{◌≡◌, ℕ, Bool, true, false, not, cond, Some, List, [], ◌∷◌, ◌++◌, map, length, slice_get, refl, ap, ap₂, sym, subst, ◌∙◌, length-map, map-append, in_map, map_in, Addr, Located, Name, row_of, is_joined, Heap, Ledger, heap_of, Chunk, Belongings, Memory, In, object_name, objects_of_chunks, Lies, mapped_chunk, mapped_belongings, words, AreLaidOut, small_chunks, large_chunks, ChunksHaveNames, BelongingsStand, chunk_names}
 use Rattle.refinement.proofs.objects.LaidOut.{laid_mapped}
 
 module _ (one : Located → Located) (same_name : (o : Located) → object_name (one o) ≡ object_name o) (same_at : (o : Located) → (one o).at ≡ o.at) where

@@ -1,6 +1,5 @@
 -- The objects of chunks and their names.
-use Rattle.refinement.proofs.Common.{◌≡◌, ◌⊎◌, ℕ, Bool, true, false, not, Some, List, [], ◌∷◌, inl, inr, refl, ap, sym, subst, ◌∙◌, flat_map, in_append_left, in_append_right, in_append_cases, in_kept, in_from_kept, in_flat, in_map, map_in, Name, Heap, Ledger, held_in, Located, Rests, Chunk, In, Memory, object_name, objects, objects_of_chunks, small_chunks, large_chunks, ChunksHaveNames, MemoryStands}
-use Rattle.refinement.specs.MemoryStands.{chunk_names}
+use Rattle.refinement.proofs.Common.{◌≡◌, ◌⊎◌, ℕ, Bool, true, false, not, Some, List, [], ◌∷◌, inl, inr, refl, ap, sym, subst, ◌∙◌, flat_map, in_append_left, in_append_right, in_append_cases, in_kept, in_from_kept, in_flat, in_map, map_in, Name, Heap, Ledger, held_in, Located, Rests, Chunk, In, Memory, object_name, objects, objects_of_chunks, small_chunks, large_chunks, ChunksHaveNames, MemoryStands, chunk_names}
 
 pub from_flat : {A B : Type 0} (f : A → List B) (xs : List A) (y : B) → In (flat_map f xs) y → (x : A) × In xs x × In (f x) y
 from_flat f [] y i = absurd i

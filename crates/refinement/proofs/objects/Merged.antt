@@ -1,6 +1,5 @@
 -- The chunks of one heap in front of those of another.
-use Rattle.refinement.proofs.Common.{◌≡◌, not, List, ◌++◌, map, ap, ap₂, ◌∙◌, flat_map-append, map-append, filter-append, Heap, Chunk, object_name, objects_of_chunks, small_chunks, large_chunks, ChunksHaveNames}
-use Rattle.refinement.specs.MemoryStands.{chunk_names}
+use Rattle.refinement.proofs.Common.{◌≡◌, not, List, ◌++◌, map, ap, ap₂, ◌∙◌, flat_map-append, map-append, filter-append, Heap, Chunk, object_name, objects_of_chunks, small_chunks, large_chunks, ChunksHaveNames, chunk_names}
 
 pub small_both : (ks js : List Chunk) (h i : Heap) → ChunksHaveNames ks h → ChunksHaveNames js i → map chunk_names (small_chunks (ks ++ js)) ≡ h.chunks ++ i.chunks
 small_both ks js h i H I =

@@ -1,4 +1,2 @@
 -- Re-exports from `plain_vec` for the crates above.
-pub use Rattle.plain_vec.specs.Members.{In, is_empty}
-pub use Rattle.plain_vec.specs.Options.{option_is}
-pub use Rattle.plain_vec.specs.ReservedVecValue.{ReservedVecValue}
+pub use Rattle.run_ledger.specs.below.plain_vec.{In, ReservedVecValue, is_empty, option_is}

@@ -1,2 +1,2 @@
 -- Re-exports from `walk_laws` for the crates above.
-pub use Rattle.walk_laws.specs.Reached.{IsReached, IsWalk}
+pub use Rattle.run_ledger.specs.below.walk_laws.{IsReached, IsWalk}

@@ -1,4 +1,7 @@
-use Rattle.task_tests.proofs.Common.{None, subst, sym, Private, FitsNow, begun_fits}
+use Rattle.std.proofs.Common.{None, subst, sym}
+use Rattle.task_machine.proofs.Entries.{begun_fits}
+use Rattle.task_machine.specs.Fits.{FitsNow}
+use Rattle.task_machine.specs.declared.part.Private.{Private}
 use Rattle.task_tests.proofs.entries.collected.Goals as goal
 
 pub returns-clause-fits : goal.returns-clause-fits

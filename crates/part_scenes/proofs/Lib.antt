@@ -1,0 +1,3 @@
+mod ChunkAdded
+mod RootPart
+mod Common
