@@ -7,7 +7,6 @@ use crate::answer::{Answer, CommandStatus};
 use crate::ended::extras_of;
 use crate::refusals::{bytes_alone, refused};
 use command_line::Options;
-use race_report::ReplayError;
 use refusal_lines::{OrNoMemory, Refusal, TraceInput, read_trace_input, whole_run};
 use std::alloc::{AllocError, Global};
 
@@ -20,8 +19,8 @@ fn answer_trace(alloc: Global, options: Options, read: &TraceInput) -> Result<An
     let journal = trace.entries.as_slice();
     match whole_run(alloc, program, settings, journal, extras_of(options)) {
         Ok(run) => Ok(bytes_alone(alloc, CommandStatus::of_end(run.end), run.text)),
-        Err(ReplayError::RefusedAt(entry)) => refused(alloc, Refusal::Entry(entry)),
-        Err(ReplayError::NoMemory) => Err(AllocError),
+        Err(OrNoMemory::Refused(entry)) => refused(alloc, Refusal::Entry(entry)),
+        Err(OrNoMemory::NoMemory) => Err(AllocError),
     }
 }
 

@@ -6,7 +6,7 @@ ghost use Rattle.command_answers.specs.Answers.{IsText, IsRaceAnswer, AnswersRac
 
 use crate::answer::{Answer, CommandStatus};
 use crate::refusals::{bytes_alone, refused};
-use race_report::{Listed, Race, ReplayError, Settings, races_of_run, races_text};
+use race_report::{Listed, Race, Settings, races_of_run, races_text};
 use refusal_lines::{OrNoMemory, Refusal, TraceInput, read_trace_input};
 use std::alloc::{AllocError, Global};
 
@@ -38,8 +38,8 @@ fn answer_trace(alloc: Global, settings: Settings, read: &TraceInput) -> Result<
     let journal = trace.entries.as_slice();
     match races_of_run(alloc, program, settings, journal) {
         Ok(races) => answer_found(alloc, races.as_slice()),
-        Err(ReplayError::RefusedAt(entry)) => refused(alloc, Refusal::Entry(entry)),
-        Err(ReplayError::NoMemory) => Err(AllocError),
+        Err(OrNoMemory::Refused(entry)) => refused(alloc, Refusal::Entry(entry)),
+        Err(OrNoMemory::NoMemory) => Err(AllocError),
     }
 }
 

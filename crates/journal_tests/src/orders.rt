@@ -4,7 +4,7 @@ use crate::programs::{
     COLLECTS, Limits, MARKS, PRINTS, SWEEPS, TO_BEGIN, TO_FORK, TOOK, read, settings,
 };
 use crate::refusals::{Case, is_told};
-use run_journal::{ApplyError, Book, Entry, Refused};
+use run_journal::{Book, Entry, OrNoMemory, Refused};
 use std::alloc::Global;
 use trace_input::TraceInput;
 
@@ -198,30 +198,38 @@ fn first_cause_is_told(rt: HostRuntime) {
 // The second entry is refused, then all are.
 const STOPPED: &[&str] = &["trace 1\n0 took 0\n0 ran 0 3\n0 ran 0 2\n5 fuel\n"];
 
-const ANSWERS: &[Result<(), ApplyError>] = &[
-    Ok(()),
-    Err(ApplyError::Refused(Refused::Long(2))),
-    Err(ApplyError::Refused(Refused::Stopped)),
-    Err(ApplyError::Refused(Refused::Stopped)),
+const CAUSES: &[Option<Refused>] = &[
+    None,
+    Some(Refused::Long(2)),
+    Some(Refused::Stopped),
+    Some(Refused::Stopped),
 ];
 
-// Whether a book gives these answers to consecutive entries, and is stopped from the first refused one on.
-fn answers(book: &mut Book, entries: &[Entry], expected: &[Result<(), ApplyError>]) -> bool {
-    for (entry, answer) in entries.iter().zip(expected) {
-        if book.apply(*entry) != *answer || book.is_stopped() != answer.is_err() {
+// Why a book refuses an entry.
+fn cause_of(book: &mut Book, entry: Entry) -> Option<Refused> {
+    match book.apply(entry) {
+        Err(OrNoMemory::Refused(cause)) => Some(cause),
+        _ => None,
+    }
+}
+
+// Whether a book refuses consecutive entries for these causes, and is stopped from the first refused one on.
+fn refuses(book: &mut Book, entries: &[Entry], causes: &[Option<Refused>]) -> bool {
+    for (entry, cause) in entries.iter().zip(causes) {
+        if cause_of(book, *entry) != *cause || book.is_stopped() != cause.is_some() {
             return false;
         }
         if !book.is_stopped() {
             book.legal();
         }
     }
-    entries.len() == expected.len()
+    entries.len() == causes.len()
 }
 
 // The same for a new book of a program that was read with the entries.
-fn answers_in_new_book(alloc: Global, read: &TraceInput) -> bool {
+fn refuses_in_new_book(alloc: Global, read: &TraceInput) -> bool {
     match Book::open(alloc, &read.program, settings(FEW_STEPS)) {
-        Ok(mut book) => answers(&mut book, read.trace.entries.as_slice(), ANSWERS),
+        Ok(mut book) => refuses(&mut book, read.trace.entries.as_slice(), CAUSES),
         Err(_) => false,
     }
 }
@@ -229,7 +237,7 @@ fn answers_in_new_book(alloc: Global, read: &TraceInput) -> bool {
 // The same for the program and the entries of a text.
 fn stops(alloc: Global, program: &str, journal: &[&str]) -> bool {
     match read(alloc, program, journal) {
-        Some(read) => answers_in_new_book(alloc, &read),
+        Some(read) => refuses_in_new_book(alloc, &read),
         None => false,
     }
 }

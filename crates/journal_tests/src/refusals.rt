@@ -1,7 +1,7 @@
 // Replayed journals: how they end, and why their entries are refused.
 
 use crate::programs::{COLLECTS, Limits, MARKS, PRINTS, TO_BEGIN, TO_FORK, TOOK, read, settings};
-use run_journal::{ReplayError, RunEnd, model_replay};
+use run_journal::{OrNoMemory, RefusedAt, RunEnd, model_replay};
 use run_report::{end_text, refused_text};
 use std::alloc::Global;
 use trace_input::TraceInput;
@@ -10,11 +10,11 @@ use trace_input::TraceInput;
 pub(crate) type Case = (Limits, &'static str, &'static [&'static str], &'static str);
 
 // The last line of a replay with this result.
-fn last_line(alloc: Global, end: Result<RunEnd, ReplayError>) -> Option<String> {
+fn last_line(alloc: Global, end: Result<RunEnd, OrNoMemory<RefusedAt>>) -> Option<String> {
     match end {
         Ok(end) => end_text(alloc, end).ok(),
-        Err(ReplayError::RefusedAt(refused)) => refused_text(alloc, refused).ok(),
-        Err(ReplayError::NoMemory) => None,
+        Err(OrNoMemory::Refused(refused)) => refused_text(alloc, refused).ok(),
+        Err(OrNoMemory::NoMemory) => None,
     }
 }
 

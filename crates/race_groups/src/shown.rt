@@ -1,8 +1,8 @@
 // What is shown of the races of a run.
 
 ghost use Rattle.std.specs.Prelude.{◌≡◌, None, OnOk, IfOk, IfErr};
+ghost use Rattle.run_trace.specs.below.or_no_memory.{Reports};
 ghost use Rattle.run_ledger.specs.Journals.{refused_as_run};
-ghost use Rattle.run_journal.specs.Replay.{ReplayFails};
 ghost use Rattle.race_groups.specs.Shown.{RacesAreShown, shown_of};
 
 use crate::groups::group_races;
@@ -11,8 +11,8 @@ use crate::text::groups_text;
 use hh_lang::Program;
 use plain_vec::Listed;
 use race_report::{Race, races_of_run};
-use run_journal::ReplayError;
-use run_trace::{Entry, Settings};
+use run_ledger::RefusedAt;
+use run_trace::{Entry, OrNoMemory, Settings};
 use std::alloc::{AllocError, Global};
 
 /// The text that is shown of the races of a run, and their number.
@@ -54,10 +54,10 @@ pub fn shown_races(
     program: &Program,
     settings: Settings,
     journal: &[Entry],
-) -> Result<ShownRaces, ReplayError>
+) -> Result<ShownRaces, OrNoMemory<RefusedAt>>
     ensures whole { OnOk result (refused_as_run program.now settings journal.now ≡ None) }
     ensures shown { IfOk result (RacesAreShown source.now program.now settings journal.now) }
-    ensures fails { IfErr result (ReplayFails (refused_as_run program.now settings journal.now)) }
+    ensures fails { IfErr result (Reports (refused_as_run program.now settings journal.now)) }
 {
     let races = races_of_run(alloc, program, settings, journal)?;
     Ok(show(alloc, source, program, races.as_slice())?)

@@ -22,7 +22,7 @@ pub use data::{Field, FieldAccess, Race, Sight};
 pub use laws::{labels_tell_precedence, raceless_journals_are_disentangled, stopped_reads_race};
 pub use report::{races, races_of, races_of_run};
 pub use run_journal::{
-    End, Entry, Listed, PROGRAM_LIMIT, Program, Refused, RefusedAt, ReplayError, RunEnd, Settings,
+    End, Entry, Listed, OrNoMemory, PROGRAM_LIMIT, Program, Refused, RefusedAt, RunEnd, Settings,
     trace_text,
 };
 pub use text::{pair_lines, races_text};

@@ -3,7 +3,7 @@
 ghost use Rattle.std.specs.Prelude.{◌≡◌, None, OnOk, IfOk, IfErr};
 ghost use Rattle.run_journal.specs.below.run_trace.{field_limit};
 ghost use Rattle.run_journal.specs.below.run_ledger.{first_refused, refused_as_run, machine_of, tasks_of};
-ghost use Rattle.run_journal.specs.Replay.{ReplayFails};
+ghost use Rattle.run_journal.specs.below.or_no_memory.{Reports};
 ghost use Rattle.race_report.specs.Accesses.{accesses};
 ghost use Rattle.race_report.specs.Sights.{looked};
 ghost use Rattle.race_report.specs.Report.{IsReport};
@@ -11,7 +11,7 @@ ghost use Rattle.race_report.specs.Report.{IsReport};
 use crate::data::{Race, Sight};
 use crate::scan::scan;
 use crate::watch::races_in;
-use run_journal::{Entry, Program, ReplayError, Settings, model_replay, replayed};
+use run_journal::{Entry, OrNoMemory, Program, RefusedAt, Settings, model_replay, replayed};
 use std::alloc::{AllocError, Global};
 
 /// The pairs of a journal without refused entries, scanned for something: one for each field with a race, in the order
@@ -43,9 +43,9 @@ fn check_journal(
     program: &Program,
     settings: Settings,
     journal: &[Entry],
-) -> Result<(), ReplayError>
+) -> Result<(), OrNoMemory<RefusedAt>>
     ensures legal { OnOk result (first_refused program.now settings journal.now ≡ None) }
-    ensures fails { IfErr result (ReplayFails (first_refused program.now settings journal.now)) }
+    ensures fails { IfErr result (Reports (first_refused program.now settings journal.now)) }
 {
     let _book = replayed(alloc, program, settings, journal)?;
     Ok(())
@@ -59,10 +59,10 @@ pub fn races(
     program: &Program,
     settings: Settings,
     journal: &[Entry],
-) -> Result<Vec<Race>, ReplayError>
+) -> Result<Vec<Race>, OrNoMemory<RefusedAt>>
     ensures legal { OnOk result (first_refused program.now settings journal.now ≡ None) }
     ensures report { IfOk result (λ races. IsReport (machine_of program.now settings journal.now).edges (accesses program.now (field_limit settings.version) (tasks_of journal.now)) races.items) }
-    ensures fails { IfErr result (ReplayFails (first_refused program.now settings journal.now)) }
+    ensures fails { IfErr result (Reports (first_refused program.now settings journal.now)) }
 {
     check_journal(alloc, program, settings, journal)?;
     Ok(races_of(alloc, Sight::Fields, program, settings, journal)?)
@@ -74,10 +74,10 @@ pub fn races_of_run(
     program: &Program,
     settings: Settings,
     journal: &[Entry],
-) -> Result<Vec<Race>, ReplayError>
+) -> Result<Vec<Race>, OrNoMemory<RefusedAt>>
     ensures whole { OnOk result (refused_as_run program.now settings journal.now ≡ None) }
     ensures report { IfOk result (λ races. IsReport (machine_of program.now settings journal.now).edges (accesses program.now (field_limit settings.version) (tasks_of journal.now)) races.items) }
-    ensures fails { IfErr result (ReplayFails (refused_as_run program.now settings journal.now)) }
+    ensures fails { IfErr result (Reports (refused_as_run program.now settings journal.now)) }
 {
     let _end = model_replay(alloc, program, settings, journal)?;
     Ok(races_of(alloc, Sight::Fields, program, settings, journal)?)

@@ -22,7 +22,7 @@ pub use Rattle.next_steps.specs.Own.{is_own, is_own_by, is_own_line}
 pub use Rattle.plain_vec.proofs.Members.{got_same, got_other, In, got_front, got_within, contains_from_in, in_from_contains}
 pub use Rattle.plain_vec.proofs.Places.{got_set}
 pub use Rattle.plain_vec.specs.Options.{option_is}
-pub use Rattle.run_accounts.specs.Accounts.{AccountsValue, StaysSteady, stood, used_after, went_on, CachesAgree, taken_after, ChildrenArePaired, Steady, after_stood, Forks, large_by, next_large, used_by, places_in, FailsFor}
+pub use Rattle.run_accounts.specs.Accounts.{AccountsValue, StaysSteady, stood, used_after, went_on, CachesAgree, taken_after, ChildrenArePaired, Steady, after_stood, Forks, large_by, next_large, used_by, places_in}
 pub use Rattle.run_accounts.specs.declared.ran.Stood.{Stood}
 pub use Rattle.run_accounts.specs.declared.ran.Stood.TheVariants.{Not, Last}
 pub use Rattle.run_ledger.proofs.Booked.{BookedLedger, put_length, total_same, units_additive}
@@ -47,6 +47,7 @@ pub use Rattle.run_ledger.specs.declared.data.Heap.{Heap}
 pub use Rattle.run_ledger.specs.declared.data.Ledger.{Ledger}
 pub use Rattle.run_ledger.specs.declared.data.RunEnd.TheVariants.{Pool}
 pub use Rattle.run_trace.specs.Settings.{SettingsValue}
+pub use Rattle.run_trace.specs.below.or_no_memory.{Reports}
 pub use Rattle.run_trace.specs.declared.entry.Kind.{Kind}
 pub use Rattle.run_trace.specs.declared.entry.Kind.TheVariants.{Took, Ran, Chunk, Begin, PutOff, Mark, More, Sweep, Fuel}
 pub use Rattle.std.proofs.Common.{◌≡◌, ℕ, zero, suc, ◌+◌, ◌-◌, ◌<◌, ◌≤◌, ◌||◌, true, false, Option, Some, None, slice_get, nat_le, is_some, refl, ap, ap₂, sym, subst, ◌∙◌, arith, Bool, cond, List, [], ◌∷◌, ◌++◌, length, slice_set, nat_lt, inl, inr, ◌⊎◌, is_none, unwrap_or, ◌^◌, min, filter, sum_by, length-set, ◌&&◌, not, ◌==◌, map, rules, OnOk, drop}

@@ -6,8 +6,6 @@ use Rattle.run_trace.specs.declared.entry.Kind.TheVariants.{Took}
 use Rattle.run_ledger.specs.declared.data.Refused.{Refused as Cause}
 use Rattle.run_ledger.specs.declared.data.Refused.TheVariants.{Over, Spent, NoWorker}
 use Rattle.run_ledger.specs.Entries.{refused_if, refused_unless, is_fuel}
-use Rattle.run_accounts.specs.declared.enter.ApplyError.{ApplyError}
-use Rattle.run_accounts.specs.declared.enter.ApplyError.TheVariants.{Refused as RefusedFor, NoMemory}
 use Rattle.hh_lang.specs.Form.{ProgramText}
 use Rattle.hh_model.specs.declared.data.Name.{Name}
 use Rattle.hh_model.specs.declared.data.MachineState.{MachineState}
@@ -120,8 +118,3 @@ pub record StaysSteady (s : SettingsValue) (p : ProgramText) (l : Ledger) (t k :
 abbrev pub general_refusal : SettingsValue → Ledger → ℕ → Kind → Option Cause
 general_refusal s l w kind =
     refused_if (is_some l.end) Over (refused_if (nat_le s.fuel l.steps && not (is_fuel kind)) (Spent l.steps) (refused_unless (nat_lt w s.workers) NoWorker None))
-
--- an entry isn't made because of the cause for which it is refused, or because an allocation failed
-abbrev pub FailsFor : Option Cause → ApplyError → Type 0
-FailsFor cause (RefusedFor c) = cause ≡ Some c
-FailsFor cause NoMemory = Unit {0}

@@ -17,5 +17,4 @@ mod ran;
 mod steps;
 
 pub use accounts::Accounts;
-pub use enter::ApplyError;
 pub use reads::Held;

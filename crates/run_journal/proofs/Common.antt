@@ -14,7 +14,6 @@ pub use Rattle.run_accounts.proofs.Uses.{one_of, step_used}
 pub use Rattle.run_accounts.specs.Accounts.{AccountsValue, CachesAgree, Steady, StaysSteady, went_on, taken_after}
 pub use Rattle.run_accounts.specs.Held.{IsCountable}
 pub use Rattle.run_journal.specs.BookValue.{IsLegalLedger, IsOpened, BookValue}
-pub use Rattle.run_journal.specs.Replay.{ReplayFails}
 pub use Rattle.run_ledger.proofs.Booked.{BookedLedger, task_steps_booked}
 pub use Rattle.run_ledger.proofs.Bounds.{asked_bounds, stands_by, ran_tells, task_steps_steps, steps_are_bounded}
 pub use Rattle.run_ledger.proofs.Chunks.{heap_words}
@@ -40,6 +39,7 @@ pub use Rattle.run_ledger.specs.declared.data.Ledger.{Ledger}
 pub use Rattle.run_ledger.specs.declared.data.RunEnd.TheVariants.{Pool}
 pub use Rattle.run_trace.specs.Entry.{EntryValue, IsKind}
 pub use Rattle.run_trace.specs.Settings.{SettingsValue, AreSettings}
+pub use Rattle.run_trace.specs.below.or_no_memory.{Reports}
 pub use Rattle.run_trace.specs.declared.entry.Kind.{Kind}
 pub use Rattle.run_trace.specs.declared.entry.Kind.TheVariants.{Took, Ran, Chunk, Begin, End, PutOff, Mark, More, Sweep, Fuel}
 pub use Rattle.std.proofs.Common.{◌≡◌, ℕ, zero, suc, ◌*◌, ◌≤◌, true, List, [], ◌∷◌, slice_get, length, sym, subst, arith, length-append, ◌<◌, ◌&&◌, not, Bool, false, Option, Some, None, ◌++◌, nat_lt, nat_le, is_none, is_some, refl, ap, ◌∙◌, length-set, ◌+◌, drop, get_or, ap₂, ◌^◌, ◌||◌, cond, slice_set, inl, inr}

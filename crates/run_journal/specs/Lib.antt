@@ -1,3 +1,2 @@
 pub mod BookValue
-pub mod Replay
 pub mod below

@@ -1,18 +1,18 @@
 // The accounts of a journal, updated entry by entry.
 
 ghost use Rattle.std.specs.Prelude.{◌≡◌, None, true, false, IfOk, OnOk, OnErr, IfErr};
+ghost use Rattle.run_trace.specs.below.or_no_memory.{Reports};
 ghost use Rattle.run_ledger.specs.Heaps.{in_use};
 ghost use Rattle.run_ledger.specs.Entries.{refusal, after};
 ghost use Rattle.run_ledger.specs.Journals.{opening};
-ghost use Rattle.run_accounts.specs.Accounts.{FailsFor};
 ghost use Rattle.run_journal.specs.BookValue.{BookValue, IsOpened, IsLegalLedger, cause_in};
 
 use hh_lang::Program;
 use hh_model::MachineState;
 use plain_vec::Listed;
-use run_accounts::{Accounts, ApplyError};
+use run_accounts::Accounts;
 use run_ledger::{Heap, Refused, RunEnd};
-use run_trace::{Entry, Settings};
+use run_trace::{Entry, OrNoMemory, Settings};
 use std::alloc::{AllocError, Global};
 use std::marker::Model;
 
@@ -50,15 +50,15 @@ impl<'p> Book<'p> {
     }
 
     /// Applies an entry, unless it is refused.
-    pub fn apply(&mut self, entry: Entry) -> Result<(), ApplyError>
+    pub fn apply(&mut self, entry: Entry) -> Result<(), OrNoMemory<Refused>>
         ensures open { OnOk result (self.old.stopped ≡ false) }
         ensures legal { OnOk result (refusal self.old.program self.old.settings self.old.ledger entry ≡ None) }
         ensures entered { OnOk result (self.new ≡ record self.old { ledger = after self.old.program self.old.settings self.old.ledger entry }) }
-        ensures fails { IfErr result (FailsFor (cause_in self.old entry)) }
+        ensures fails { IfErr result (Reports (cause_in self.old entry)) }
         ensures stops { OnErr result (self.new.stopped ≡ true) }
     {
         if self.stopped {
-            return Err(ApplyError::Refused(Refused::Stopped));
+            return Err(OrNoMemory::Refused(Refused::Stopped));
         }
         let _kind = entry.kind();
         self.accounts.bounds();

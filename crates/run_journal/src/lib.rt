@@ -13,7 +13,7 @@ pub use hh_model::{
 };
 pub use joins::joins_of;
 pub use plain_vec::Listed;
-pub use replay::{ReplayError, model_replay, replayed};
-pub use run_accounts::{ApplyError, Held};
+pub use replay::{model_replay, replayed};
+pub use run_accounts::Held;
 pub use run_ledger::{Heap, Refused, RefusedAt, RunEnd};
-pub use run_trace::{Entry, Kind, Settings, Version, WORKER_LIMIT, trace_text};
+pub use run_trace::{Entry, Kind, OrNoMemory, Settings, Version, WORKER_LIMIT, trace_text};

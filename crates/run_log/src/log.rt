@@ -1,8 +1,8 @@
 // A run as a log.
 
 ghost use Rattle.std.specs.Prelude.{◌≡◌, ◌++◌, None, Some, OnOk, IfOk, IfErr};
+ghost use Rattle.run_trace.specs.below.or_no_memory.{Reports};
 ghost use Rattle.run_journal.specs.below.run_ledger.{end_of, refused_as_run};
-ghost use Rattle.run_journal.specs.Replay.{ReplayFails};
 ghost use Rattle.run_log.specs.Writing.{written, all_written};
 ghost use Rattle.run_log.specs.Lines.{lines_from};
 ghost use Rattle.run_log.specs.Log.{end_lines, lines_of, log_of};
@@ -13,8 +13,8 @@ use crate::write::add_line;
 use hh_lang::Program;
 use hh_model::{End, Machine};
 use log_lines::LogLine;
-use run_journal::{ReplayError, RunEnd, model_replay};
-use run_trace::{Entry, Settings};
+use run_journal::{RefusedAt, RunEnd, model_replay};
+use run_trace::{Entry, OrNoMemory, Settings};
 use std::alloc::{AllocError, Global};
 
 // Adds the lines of a journal's entries.
@@ -67,10 +67,10 @@ pub fn log_text(
     program: &Program,
     settings: Settings,
     journal: &[Entry],
-) -> Result<Vec<u8>, ReplayError>
+) -> Result<Vec<u8>, OrNoMemory<RefusedAt>>
     ensures whole { OnOk result (refused_as_run program.now settings journal.now ≡ None) }
     ensures text { IfOk result (λ text. text.items ≡ log_of program.now settings journal.now) }
-    ensures fails { IfErr result (ReplayFails (refused_as_run program.now settings journal.now)) }
+    ensures fails { IfErr result (Reports (refused_as_run program.now settings journal.now)) }
 {
     let end = model_replay(alloc, program, settings, journal)?;
     Ok(build(alloc, program, settings, journal, end)?)

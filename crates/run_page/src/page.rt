@@ -1,9 +1,9 @@
 // A run as a page.
 
 ghost use Rattle.std.specs.Prelude.{◌≡◌, ◌++◌, None, Some, OnOk, IfOk, IfErr};
+ghost use Rattle.run_trace.specs.below.or_no_memory.{Reports};
 ghost use Rattle.run_ledger.specs.Entries.{after};
 ghost use Rattle.run_ledger.specs.Journals.{opening, end_of, refused_as_run};
-ghost use Rattle.run_journal.specs.Replay.{ReplayFails};
 ghost use Rattle.page_data.specs.Run.{settings_and_start, entry, entries_from};
 ghost use Rattle.run_page.specs.Page.{page};
 
@@ -12,9 +12,9 @@ use hh_model::Machine;
 use page_data::{add_ending, add_settings_and_start, close_entry, open_entry};
 use page_frame::{add_head, add_tail};
 use run_deltas::advance;
-use run_journal::{Book, ReplayError, model_replay};
-use run_ledger::RunEnd;
-use run_trace::{Entry, Settings};
+use run_journal::{Book, model_replay};
+use run_ledger::{RefusedAt, RunEnd};
+use run_trace::{Entry, OrNoMemory, Settings};
 use std::alloc::{AllocError, Global};
 
 // Enters an entry into the accounts, which accept it.
@@ -116,10 +116,10 @@ pub fn page_of(
     program: &Program,
     settings: Settings,
     journal: &[Entry],
-) -> Result<Vec<u8>, ReplayError>
+) -> Result<Vec<u8>, OrNoMemory<RefusedAt>>
     ensures whole { OnOk result (refused_as_run program.now settings journal.now ≡ None) }
     ensures text { IfOk result (λ text. text.items ≡ page title.now input.now program.now settings journal.now) }
-    ensures fails { IfErr result (ReplayFails (refused_as_run program.now settings journal.now)) }
+    ensures fails { IfErr result (Reports (refused_as_run program.now settings journal.now)) }
 {
     let end = model_replay(alloc, program, settings, journal)?;
     Ok(build(alloc, title, input, program, settings, journal, end)?)

@@ -6,7 +6,6 @@ pub use Rattle.plain_vec.proofs.Members.{got_same}
 pub use Rattle.run_journal.proofs.Replays.{accounts_next, refused_next}
 pub use Rattle.run_journal.proofs.Steadies.{legal_stored}
 pub use Rattle.run_journal.specs.BookValue.{BookValue}
-pub use Rattle.run_journal.specs.Replay.{ReplayFails}
 pub use Rattle.run_ledger.proofs.Cuts.{after_cut, joined_legal}
 pub use Rattle.run_ledger.proofs.Machine.{machine_is_run}
 pub use Rattle.run_ledger.specs.Entries.{refusal, after_kind, after}
@@ -24,6 +23,7 @@ pub use Rattle.run_ledger.specs.declared.data.RunEnd.{RunEnd}
 pub use Rattle.run_report.specs.Totals.{SumsFit, no_totals, totals_joined, counted, cleared_words, entry_totals, totals_from, report_from}
 pub use Rattle.run_report.specs.Written.{report_part, trace_part, text_from}
 pub use Rattle.run_report.specs.declared.totals.Totals.{Totals}
+pub use Rattle.run_trace.specs.below.or_no_memory.{Reports}
 pub use Rattle.run_trace.specs.Entry.{EntryValue}
 pub use Rattle.run_trace.specs.Settings.{SettingsValue, AreSettings}
 pub use Rattle.run_trace.specs.declared.entry.Kind.{Kind}

@@ -2,17 +2,16 @@
 
 ghost use Rattle.std.specs.Prelude.{◌≡◌, None, false, IfOk, OnOk, IfErr};
 ghost use Rattle.run_trace.specs.Settings.{AreSettings};
+ghost use Rattle.run_trace.specs.below.or_no_memory.{Reports};
 ghost use Rattle.run_ledger.specs.Entries.{refusal, after};
 ghost use Rattle.run_ledger.specs.Journals.{opening, ledger_of, first_refused};
-ghost use Rattle.run_accounts.specs.Accounts.{FailsFor};
-ghost use Rattle.run_journal.specs.Replay.{ReplayFails};
 ghost use Rattle.run_report.specs.Totals.{SumsFit, totals_joined, cleared_words, entry_totals, totals_from, report_from};
 
 use crate::totals::Totals;
 use hh_lang::Program;
-use run_journal::{ApplyError, Book, ReplayError};
-use run_ledger::{RefusedAt, Report};
-use run_trace::{Entry, Kind, Settings};
+use run_journal::Book;
+use run_ledger::{Refused, RefusedAt, Report};
+use run_trace::{Entry, Kind, OrNoMemory, Settings};
 use std::alloc::Global;
 
 /// The accounts of a journal, and the totals of its entries.
@@ -35,13 +34,13 @@ pub fn cleared_words(book: &Book, kind: Kind) -> u64
 }
 
 // Applies an entry, and adds what it counts to the totals.
-fn enter(book: &mut Book, totals: Totals, entry: Entry) -> Result<Totals, ApplyError>
+fn enter(book: &mut Book, totals: Totals, entry: Entry) -> Result<Totals, OrNoMemory<Refused>>
     requires open { book.old.stopped ≡ false }
     requires few { refusal book.old.program book.old.settings book.old.ledger entry ≡ None → SumsFit (totals_joined totals (entry_totals book.old.program book.old.settings book.old.ledger entry)) }
     ensures legal { OnOk result (refusal book.old.program book.old.settings book.old.ledger entry ≡ None) }
     ensures entered { OnOk result (book.new ≡ record book.old { ledger = after book.old.program book.old.settings book.old.ledger entry }) }
     ensures counts { IfOk result (λ sums. sums ≡ totals_joined totals (entry_totals book.old.program book.old.settings book.old.ledger entry)) }
-    ensures fails { IfErr result (FailsFor (refusal book.old.program book.old.settings book.old.ledger entry)) }
+    ensures fails { IfErr result (Reports (refusal book.old.program book.old.settings book.old.ledger entry)) }
 {
     let kind = entry.kind();
     let before = cleared_words(book, kind);
@@ -51,14 +50,14 @@ fn enter(book: &mut Book, totals: Totals, entry: Entry) -> Result<Totals, ApplyE
 }
 
 // Applies the entries of a journal to the accounts of a run before its first entry, and adds up what they count.
-fn enter_all(book: &mut Book, journal: &[Entry]) -> Result<Totals, ReplayError>
+fn enter_all(book: &mut Book, journal: &[Entry]) -> Result<Totals, OrNoMemory<RefusedAt>>
     requires settings { AreSettings book.old.settings }
     requires first { book.old.ledger ≡ opening book.old.program book.old.settings }
     requires open { book.old.stopped ≡ false }
     ensures book { OnOk result (book.new ≡ record book.old { ledger = ledger_of book.old.program book.old.settings journal.now }) }
     ensures totals { IfOk result (λ t. t ≡ totals_from book.old.program book.old.settings (opening book.old.program book.old.settings) journal.now) }
     ensures legal { OnOk result (first_refused book.old.program book.old.settings journal.now ≡ None) }
-    ensures fails { IfErr result (ReplayFails (first_refused book.old.program book.old.settings journal.now)) }
+    ensures fails { IfErr result (Reports (first_refused book.old.program book.old.settings journal.now)) }
 {
     let mut totals = Totals::none();
     let mut index = 1;
@@ -68,10 +67,10 @@ fn enter_all(book: &mut Book, journal: &[Entry]) -> Result<Totals, ReplayError>
                 totals = sums;
                 index += 1;
             }
-            Err(ApplyError::Refused(cause)) => {
-                return Err(ReplayError::RefusedAt(RefusedAt { index, cause }));
+            Err(OrNoMemory::Refused(cause)) => {
+                return Err(OrNoMemory::Refused(RefusedAt { index, cause }));
             }
-            Err(ApplyError::NoMemory) => return Err(ReplayError::NoMemory),
+            Err(OrNoMemory::NoMemory) => return Err(OrNoMemory::NoMemory),
         }
     }
     Ok(totals)
@@ -83,11 +82,11 @@ pub(crate) fn count<'p>(
     program: &'p Program,
     settings: Settings,
     journal: &[Entry],
-) -> Result<CountedJournal<'p>, ReplayError>
+) -> Result<CountedJournal<'p>, OrNoMemory<RefusedAt>>
     ensures book { IfOk result (λ c. c.book ≡ record { program = program.entry.now; settings = settings; ledger = ledger_of program.entry.now settings journal.now; stopped = false }) }
     ensures totals { IfOk result (λ c. c.totals ≡ totals_from program.entry.now settings (opening program.entry.now settings) journal.now) }
     ensures legal { OnOk result (first_refused program.entry.now settings journal.now ≡ None) }
-    ensures fails { IfErr result (ReplayFails (first_refused program.entry.now settings journal.now)) }
+    ensures fails { IfErr result (Reports (first_refused program.entry.now settings journal.now)) }
 {
     let mut book = Book::open(alloc, program, settings)?;
     let _workers = settings.workers();

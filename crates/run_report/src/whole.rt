@@ -1,9 +1,9 @@
 // The result of a journal: its report, and all that is written of its run.
 
 ghost use Rattle.std.specs.Prelude.{◌≡◌, ◌++◌, Some, None, false, IfOk, OnOk, IfErr};
+ghost use Rattle.run_trace.specs.below.or_no_memory.{Reports};
 ghost use Rattle.run_ledger.specs.Journals.{opening, ledger_of, first_refused, end_of, refused_as_run};
 ghost use Rattle.run_ledger.specs.Text.{end_words, end_line, out_text};
-ghost use Rattle.run_journal.specs.Replay.{ReplayFails};
 ghost use Rattle.run_report.specs.Totals.{totals_from};
 ghost use Rattle.run_report.specs.Written.{report_part, trace_part, text_from};
 
@@ -11,9 +11,8 @@ use crate::counting::{CountedJournal, count, report};
 use crate::texts::{end_text, outputs_text, report_text};
 use hh_lang::Program;
 use plain_vec::Listed;
-use run_journal::ReplayError;
 use run_ledger::{Refused, RefusedAt, RunEnd};
-use run_trace::{Entry, Settings, Version, trace_text};
+use run_trace::{Entry, OrNoMemory, Settings, Version, trace_text};
 use std::alloc::{AllocError, Global};
 
 /// What is written of a run beside its outputs and its end line.
@@ -100,7 +99,7 @@ fn whole_of(
     settings: Settings,
     journal: &[Entry],
     extras: Extras,
-) -> Result<WholeRun, ReplayError>
+) -> Result<WholeRun, OrNoMemory<RefusedAt>>
     requires settings { counted.now.book.settings ≡ settings }
     requires open { counted.now.book.stopped ≡ false }
     requires ledger { counted.now.book.ledger ≡ ledger_of counted.now.book.program settings journal.now }
@@ -109,10 +108,10 @@ fn whole_of(
     ensures whole { OnOk result (refused_as_run counted.now.book.program settings journal.now ≡ None) }
     ensures end { IfOk result (λ run. end_of counted.now.book.program settings journal.now ≡ Some run.end) }
     ensures text { IfOk result (λ run. run.text ≡ out_text counted.now.book.program settings extras.report extras.trace journal.now) }
-    ensures fails { IfErr result (ReplayFails (refused_as_run counted.now.book.program settings journal.now)) }
+    ensures fails { IfErr result (Reports (refused_as_run counted.now.book.program settings journal.now)) }
 {
     let Some(end) = counted.book.end() else {
-        return Err(ReplayError::RefusedAt(RefusedAt {
+        return Err(OrNoMemory::Refused(RefusedAt {
             index: journal.len() as u64 + 1,
             cause: Refused::Short,
         }));
@@ -132,11 +131,11 @@ pub fn whole_run(
     settings: Settings,
     journal: &[Entry],
     extras: Extras,
-) -> Result<WholeRun, ReplayError>
+) -> Result<WholeRun, OrNoMemory<RefusedAt>>
     ensures whole { OnOk result (refused_as_run program.now settings journal.now ≡ None) }
     ensures end { IfOk result (λ run. end_of program.now settings journal.now ≡ Some run.end) }
     ensures text { IfOk result (λ run. run.text ≡ out_text program.now settings extras.report extras.trace journal.now) }
-    ensures fails { IfErr result (ReplayFails (refused_as_run program.now settings journal.now)) }
+    ensures fails { IfErr result (Reports (refused_as_run program.now settings journal.now)) }
 {
     let counted = count(alloc, program, settings, journal)?;
     let whole = whole_of(alloc, &counted, settings, journal, extras);

@@ -8,13 +8,11 @@ pub use Rattle.run_journal.proofs.below.journal_laws.{words_are_accounted}
 pub use Rattle.run_journal.proofs.below.plain_vec.{got_within, got_some}
 pub use Rattle.run_journal.proofs.below.run_ledger.{after_cut, legal_then, Grown, grown, entries_move_machine, machine_is_run, sum_flat}
 pub use Rattle.run_journal.specs.BookValue.{BookValue}
-pub use Rattle.run_journal.specs.Replay.{ReplayFails}
 pub use Rattle.run_journal.specs.below.hh_lang.{ProgramText}
 pub use Rattle.run_journal.specs.below.hh_model.{Name, MachineState, Counted, row_of, IsStored, asked, can_step, run_from, start, step, TaskStatus, Running, Waiting, Ended, Joined, Task}
+pub use Rattle.run_journal.specs.below.or_no_memory.{NoMemory, OrNoMemory, Refused, Reports}
 pub use Rattle.run_journal.specs.below.run_ledger.{Ledger, collected, held_in, swept_heap, words_at, after, after_kind, refusal, after_all, is_legal, ledger_of, opening, tasks_in, tasks_of, freed_by_end, freed_by_sweep, tally, store_words, RefusedAt, RunEnd, or_short, in_use, first_refused_from, first_refused, end_of, refused_as_run}
 pub use Rattle.run_journal.specs.below.run_trace.{Kind, Took, Ran, Chunk, Begin, End, PutOff, Mark, More, Sweep, Fuel, EntryValue, SettingsValue, field_limit}
-pub use Rattle.run_journal.specs.declared.replay.ReplayError.{ReplayError}
-pub use Rattle.run_journal.specs.declared.replay.ReplayError.TheVariants.{NoMemory}
 pub use Rattle.run_report.proofs.Sums.{lost_is, accounts_on, refused_on}
 pub use Rattle.run_report.specs.Totals.{cleared_words}
 pub use Rattle.run_timeline.specs.Entries.{slice_name, entry_events, fork_events, task_begins, slice, begins_and_ends, taken, first_taken, task_end_events, end_events, join_events, chunks_counted, counter, counter_events, run_ended, words_counted, numbers_of, collection, fork_line, marking, end_name, end_members}

@@ -1,6 +1,5 @@
 -- What is left to be written of a timeline, entry by entry.
-use Rattle.run_timeline.proofs.Common.{◌≡◌, ◌<◌, ◌+◌, ◌==◌, ℕ, suc, false, List, [], ◌∷◌, ◌++◌, length, take, drop, get_or, ap, sym, ◌∙◌, append_assoc, append-nil, arith, ◌-◌, length-append, ◌≢◌, codes, Option, flat_map, flat_map-append, take-append_seam, ProgramText, EntryValue, SettingsValue, Ledger, after, RefusedAt, RunEnd, or_short, ReplayError, NoMemory, ReplayFails, cut, quoted, task_name, Json, Word, NoMember, Member, Members, json, further, more_member, more_members, arrays_are_joined, counts_of, process, lane, arrow_begins, arrow_ends, arguments, two_numbers, event, end_time, slice_name, entry_events, fork_events, task_begins, events_from, events_of, lanes, timeline, beginning, event_ending, span_head, event_head}
-use Rattle.run_journal.specs.declared.replay.ReplayError.TheVariants.{RefusedAt as FailsAt}
+use Rattle.run_timeline.proofs.Common.{◌≡◌, ◌<◌, ◌+◌, ◌==◌, ℕ, suc, false, List, [], ◌∷◌, ◌++◌, length, take, drop, get_or, ap, sym, ◌∙◌, append_assoc, append-nil, arith, ◌-◌, length-append, ◌≢◌, codes, Option, flat_map, flat_map-append, take-append_seam, ProgramText, EntryValue, SettingsValue, Ledger, after, RefusedAt, RunEnd, or_short, OrNoMemory, NoMemory, Refused, Reports, cut, quoted, task_name, Json, Word, NoMember, Member, Members, json, further, more_member, more_members, arrays_are_joined, counts_of, process, lane, arrow_begins, arrow_ends, arguments, two_numbers, event, end_time, slice_name, entry_events, fork_events, task_begins, events_from, events_of, lanes, timeline, beginning, event_ending, span_head, event_head}
 use Rattle.run_timeline.proofs.Made.{span_made, event_made}
 
 module _ (p : ProgramText) (s : SettingsValue) (l : Ledger) (n : ℕ) (journal : List EntryValue) (i : ℕ) (e : EntryValue) (lt : i < length journal) (is : e ≡ get_or journal i e) where
@@ -104,6 +103,6 @@ end_told name kept n w more before a b c d e ek ea eb ec ed ee =
     four y s z b q v m = simp append_assoc
 
 -- a replay that fails fails as that of a whole run
-pub fails_whole : (first : Option RefusedAt) (end : Option RunEnd) (at : ℕ) (error : ReplayError) → ReplayFails first error → ReplayFails (or_short first end at) error
-fails_whole first end at (FailsAt r) h = ap (λ o. or_short o end at) h
+pub fails_whole : (first : Option RefusedAt) (end : Option RunEnd) (at : ℕ) (error : OrNoMemory RefusedAt) → Reports first error → Reports (or_short first end at) error
+fails_whole first end at (Refused r) h = ap (λ o. or_short o end at) h
 fails_whole first end at NoMemory h = tt

@@ -4,8 +4,7 @@ ghost use Rattle.std.specs.Prelude.{◌≡◌, ◌<◌, ◌^◌, ◌-◌, ◌+�
 ghost use Rattle.std.specs.List.{flat_map};
 ghost use Rattle.json_text.specs.Json.{further};
 ghost use Rattle.run_journal.specs.below.run_ledger.{refusal, after, opening, ledger_of, first_refused, refused_as_run};
-ghost use Rattle.run_journal.specs.below.run_accounts.{FailsFor};
-ghost use Rattle.run_journal.specs.Replay.{ReplayFails};
+ghost use Rattle.run_journal.specs.below.or_no_memory.{Reports};
 ghost use Rattle.run_timeline.specs.Words.{counts_of, words_held};
 ghost use Rattle.run_timeline.specs.Entries.{slice_name, entry_events};
 ghost use Rattle.run_timeline.specs.Timeline.{events_of, lanes, timeline};
@@ -15,7 +14,7 @@ use crate::entry::{add_slice, slice_name};
 use crate::events::{EventWriter, Place};
 use crate::tasks::{Counter, EventContext, add_begins_and_ends, add_counted, add_run_ended};
 use crate::words::{AccountCounts, objects_by, words_behind};
-use run_journal::{ApplyError, Book, Entry, Program, Refused, RefusedAt, ReplayError, Settings};
+use run_journal::{Book, Entry, OrNoMemory, Program, Refused, RefusedAt, Settings};
 use run_report::cleared_words;
 use std::alloc::{AllocError, Global};
 
@@ -72,13 +71,13 @@ fn add_entered(
 }
 
 // Enters an entry, and says how many words are held behind it.
-fn apply(book: &mut Book, held: u64, entry: Entry) -> Result<u64, ApplyError>
+fn apply(book: &mut Book, held: u64, entry: Entry) -> Result<u64, OrNoMemory<Refused>>
     requires open { book.old.stopped ≡ false }
     requires held { held ≡ words_held book.old.ledger }
     ensures legal { OnOk result (refusal book.old.program book.old.settings book.old.ledger entry ≡ None) }
     ensures entered { OnOk result (book.new ≡ record book.old { ledger = after book.old.program book.old.settings book.old.ledger entry }) }
     ensures held { IfOk result (λ words. words ≡ words_held (after book.old.program book.old.settings book.old.ledger entry)) }
-    ensures fails { IfErr result (FailsFor (refusal book.old.program book.old.settings book.old.ledger entry)) }
+    ensures fails { IfErr result (Reports (refusal book.old.program book.old.settings book.old.ledger entry)) }
 {
     let kind = entry.kind();
     let cleared = cleared_words(book, kind);
@@ -87,7 +86,7 @@ fn apply(book: &mut Book, held: u64, entry: Entry) -> Result<u64, ApplyError>
     book.apply(entry)?;
     match words_behind(book, kind, held, cleared, objects) {
         Some(words) => Ok(words),
-        None => Err(ApplyError::NoMemory),
+        None => Err(OrNoMemory::NoMemory),
     }
 }
 
@@ -105,7 +104,7 @@ fn enter(
     book: &mut Book,
     progress: Progress,
     entry: Entry,
-) -> Result<u64, ApplyError>
+) -> Result<u64, OrNoMemory<Refused>>
     requires open { book.old.stopped ≡ false }
     requires program { book.old.program ≡ program.now }
     requires held { progress.held ≡ words_held book.old.ledger }
@@ -114,7 +113,7 @@ fn enter(
     ensures entered { OnOk result (book.new ≡ record book.old { ledger = after book.old.program book.old.settings book.old.ledger entry }) }
     ensures events { OnOk result (writer.new.text.items ≡ writer.old.text.items ++ flat_map further (entry_events program.now (slice_name program.now book.old.ledger.machine entry.kind) (counts_of book.old.ledger) (after book.old.program book.old.settings book.old.ledger entry) progress.number entry)) }
     ensures held { IfOk result (λ words. words ≡ words_held (after book.old.program book.old.settings book.old.ledger entry)) }
-    ensures fails { IfErr result (FailsFor (refusal book.old.program book.old.settings book.old.ledger entry)) }
+    ensures fails { IfErr result (Reports (refusal book.old.program book.old.settings book.old.ledger entry)) }
 {
     let was = AccountCounts {
         tasks: book.tasks() as u64,
@@ -122,7 +121,7 @@ fn enter(
         words: progress.held,
     };
     if was.tasks == u64::MAX {
-        return Err(ApplyError::NoMemory);
+        return Err(OrNoMemory::NoMemory);
     }
     let name = slice_name(writer.alloc, program, book.state(), entry.kind())?;
     let words = apply(book, progress.held, entry)?;
@@ -142,7 +141,7 @@ fn enter_all(
     program: &Program,
     book: &mut Book,
     journal: &[Entry],
-) -> Result<(), ReplayError>
+) -> Result<(), OrNoMemory<RefusedAt>>
     requires few { length journal.now < 2 ^ 32 - 1 }
     requires first { book.old.ledger ≡ opening book.old.program book.old.settings }
     requires open { book.old.stopped ≡ false }
@@ -150,7 +149,7 @@ fn enter_all(
     ensures book { OnOk result (book.new ≡ record book.old { ledger = ledger_of book.old.program book.old.settings journal.now }) }
     ensures events { OnOk result (writer.new.text.items ≡ writer.old.text.items ++ flat_map further (events_of book.old.program book.old.settings journal.now)) }
     ensures legal { OnOk result (first_refused book.old.program book.old.settings journal.now ≡ None) }
-    ensures fails { IfErr result (ReplayFails (first_refused book.old.program book.old.settings journal.now)) }
+    ensures fails { IfErr result (Reports (first_refused book.old.program book.old.settings journal.now)) }
 {
     let mut held: u64 = 0;
     let mut index: u32 = 1;
@@ -164,11 +163,11 @@ fn enter_all(
                 held = words;
                 index += 1;
             }
-            Err(ApplyError::Refused(cause)) => {
+            Err(OrNoMemory::Refused(cause)) => {
                 let index = index as u64;
-                return Err(ReplayError::RefusedAt(RefusedAt { index, cause }));
+                return Err(OrNoMemory::Refused(RefusedAt { index, cause }));
             }
-            Err(ApplyError::NoMemory) => return Err(ReplayError::NoMemory),
+            Err(OrNoMemory::NoMemory) => return Err(OrNoMemory::NoMemory),
         }
     }
     Ok(())
@@ -213,19 +212,19 @@ pub fn timeline_text(
     program: &Program,
     settings: Settings,
     journal: &[Entry],
-) -> Result<Vec<u8>, ReplayError>
+) -> Result<Vec<u8>, OrNoMemory<RefusedAt>>
     ensures whole { OnOk result (refused_as_run program.now settings journal.now ≡ None) }
     ensures text { IfOk result (λ text. text.items ≡ timeline program.now settings journal.now) }
-    ensures fails { IfErr result (ReplayFails (refused_as_run program.now settings journal.now)) }
+    ensures fails { IfErr result (Reports (refused_as_run program.now settings journal.now)) }
 {
     if journal.len() >= ENTRY_LIMIT {
-        return Err(ReplayError::NoMemory);
+        return Err(OrNoMemory::NoMemory);
     }
     let mut book = Book::open(alloc, program, settings)?;
     let mut writer = begin(alloc, settings.workers())?;
     enter_all(&mut writer, program, &mut book, journal)?;
     if book.end().is_none() {
-        return Err(ReplayError::RefusedAt(RefusedAt {
+        return Err(OrNoMemory::Refused(RefusedAt {
             index: journal.len() as u64 + 1,
             cause: Refused::Short,
         }));

@@ -3,3 +3,4 @@ pub mod Settings
 pub mod Line
 pub mod Trace
 pub mod TraceLaw
+pub mod below

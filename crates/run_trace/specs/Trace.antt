@@ -9,8 +9,6 @@ use Rattle.run_trace.specs.declared.settings.Version.TheVariants.{One, Two}
 use Rattle.run_trace.specs.declared.line.TraceLine.{TraceLine}
 use Rattle.run_trace.specs.declared.line.TraceLine.TheVariants.{Nothing, Says, Wrong}
 use Rattle.run_trace.specs.declared.trace.Trace.{Trace}
-use Rattle.run_trace.specs.declared.trace.TraceError.{TraceError}
-use Rattle.run_trace.specs.declared.trace.TraceError.TheVariants.{BadLine, NoMemory}
 use Rattle.run_trace.specs.Entry.{EntryValue}
 use Rattle.run_trace.specs.Settings.{version_number}
 use Rattle.run_trace.specs.Line.{trace_line, entry_line, line as line_with}
@@ -80,11 +78,6 @@ abbrev pub trace_text : Version → List EntryValue → List ℕ
 trace_text v journal = version_line v ++ flat_map entry_line journal
 
 -- THE READER
-
--- a reader fails at the first malformed line, or out of memory
-abbrev pub TraceFails : Option ℕ → TraceError → Type 0
-TraceFails bad (BadLine n) = bad ≡ Some n
-TraceFails bad NoMemory = Unit {0}
 
 abbrev pub NotesLine : List EntryValue → List EntryValue → TraceLine → Bool → Type 0
 NotesLine old new Nothing noted = (new ≡ old) × (noted ≡ true)

@@ -2,13 +2,15 @@
 
 ghost use Rattle.std.specs.Prelude.{◌≡◌, ◌≤◌, ◌+◌, length, IfOk, IfErr, None};
 ghost use Rattle.run_trace.specs.Line.{trace_line};
-ghost use Rattle.run_trace.specs.Trace.{version_by, version_of_words, version_of, first_bad, entries_in, trace_fault, IsTraceText, TraceFails, NotesLine};
+ghost use Rattle.run_trace.specs.Trace.{version_by, version_of_words, version_of, first_bad, entries_in, trace_fault, IsTraceText, NotesLine};
 ghost use Rattle.run_trace.specs.Trace.{trace_text as text_of};
 ghost use Rattle.text_lines.specs.Lines.{lines_of, words_of, most_bytes};
+ghost use Rattle.or_no_memory.specs.Refusals.{Reports};
 
 use crate::entry::Entry;
 use crate::line::{TraceLine, add_entry, read_line};
 use crate::settings::Version;
+use or_no_memory::OrNoMemory;
 use plain_vec::Listed;
 use std::alloc::{AllocError, Global};
 use text_lines::{next_line, next_word};
@@ -25,26 +27,6 @@ impl Drop for Trace {
             version: _,
             entries: _,
         } = self;
-    }
-}
-
-/// Why a text couldn't be read.
-#[derive(Clone, Copy)]
-pub enum TraceError {
-    /// The number of the first malformed line.
-    BadLine(u32),
-    /// Out of memory.
-    NoMemory,
-}
-
-impl From<AllocError> for TraceError {
-    ghost use Rattle.std.specs.Prelude.{◌≡◌};
-    ghost use Rattle.run_trace.specs.declared.trace.TraceError.TheVariants.{NoMemory};
-
-    ghost from_gives = { λ _ e. e ≡ NoMemory };
-
-    fn from(_: AllocError) -> TraceError {
-        TraceError::NoMemory
     }
 }
 
@@ -98,16 +80,16 @@ fn note(entries: &mut Listed<Entry>, line: &[u8]) -> Result<bool, AllocError>
 }
 
 /// Reads a trace text that begins on the line `first_line` of the whole input. The first line is `trace 1` or `trace
-/// 2`; each further line is an entry, or has no words.
-pub fn read_trace(alloc: Global, text: &[u8], first_line: u32) -> Result<Trace, TraceError>
+/// 2`; each further line is an entry, or has no words. It is refused with the number of its first malformed line.
+pub fn read_trace(alloc: Global, text: &[u8], first_line: u32) -> Result<Trace, OrNoMemory<u32>>
     requires sized { length text.now ≤ most_bytes }
     requires numbered { first_line ≤ most_bytes + 1 }
     ensures read { IfOk result (IsTraceText first_line text.now) }
-    ensures bad { IfErr result (TraceFails (trace_fault first_line text.now)) }
+    ensures bad { IfErr result (Reports (trace_fault first_line text.now)) }
 {
     let (line, lines) = next_line(text);
     let Some(version) = read_version(line) else {
-        return Err(TraceError::BadLine(first_line));
+        return Err(OrNoMemory::Refused(first_line));
     };
     let entries = match lines {
         None => Listed::new(alloc),
@@ -117,10 +99,14 @@ pub fn read_trace(alloc: Global, text: &[u8], first_line: u32) -> Result<Trace, 
 }
 
 // The entries of lines, the first of which has this number.
-fn read_entries(alloc: Global, text: &[u8], first_line: u32) -> Result<Listed<Entry>, TraceError>
+fn read_entries(
+    alloc: Global,
+    text: &[u8],
+    first_line: u32,
+) -> Result<Listed<Entry>, OrNoMemory<u32>>
     requires { first_line + length text.now ≤ 33554434 }
     ensures read { IfOk result (λ entries. (first_bad first_line (lines_of text.now) ≡ None) × (entries ≡ entries_in (lines_of text.now))) }
-    ensures bad { IfErr result (TraceFails (first_bad first_line (lines_of text.now))) }
+    ensures bad { IfErr result (Reports (first_bad first_line (lines_of text.now))) }
 {
     let mut entries = Listed::new(alloc);
     let mut rest = text;
@@ -128,7 +114,7 @@ fn read_entries(alloc: Global, text: &[u8], first_line: u32) -> Result<Listed<En
     loop {
         let (line, lines) = next_line(rest);
         if !note(&mut entries, line)? {
-            return Err(TraceError::BadLine(number));
+            return Err(OrNoMemory::Refused(number));
         }
         match lines {
             None => return Ok(entries),

@@ -2,14 +2,14 @@
 
 ghost use Rattle.std.specs.Prelude.{◌≡◌, ◌↔◌, None, IsTrue, OnOk, IfOk, IfErr};
 ghost use Rattle.run_ledger.specs.Journals.{first_refused, refused_as_run};
-ghost use Rattle.run_journal.specs.Replay.{ReplayFails};
+ghost use Rattle.run_journal.specs.below.or_no_memory.{Reports};
 ghost use Rattle.schedule_report.specs.Schedules.{AreClashes, IsAnswer};
 
 use crate::data::Clashes;
 use hh_model::End;
 use race_report::{Entry, Listed, Program, Settings, Sight, races_of};
-use run_journal::{ReplayError, model_replay};
-use run_ledger::RunEnd;
+use run_journal::{OrNoMemory, model_replay};
+use run_ledger::{RefusedAt, RunEnd};
 use std::alloc::{AllocError, Global};
 
 // Whether a run ended by the return of main.
@@ -49,10 +49,10 @@ pub fn clashes_of_run(
     program: &Program,
     settings: Settings,
     journal: &[Entry],
-) -> Result<Option<Clashes>, ReplayError>
+) -> Result<Option<Clashes>, OrNoMemory<RefusedAt>>
     ensures whole { OnOk result (refused_as_run program.now settings journal.now ≡ None) }
     ensures clashes { IfOk result (IsAnswer program.now settings journal.now) }
-    ensures fails { IfErr result (ReplayFails (refused_as_run program.now settings journal.now)) }
+    ensures fails { IfErr result (Reports (refused_as_run program.now settings journal.now)) }
 {
     let end = model_replay(alloc, program, settings, journal)?;
     if !is_done(end) {

@@ -1,8 +1,8 @@
 -- The names of lower crates and of the specifications that these proofs use. Declares nothing.
 pub use Rattle.run_journal.proofs.Replays.{cut}
 pub use Rattle.run_journal.specs.BookValue.{BookValue}
-pub use Rattle.run_journal.specs.Replay.{ReplayFails}
 pub use Rattle.run_journal.specs.below.hh_lang.{ProgramText}
+pub use Rattle.run_journal.specs.below.or_no_memory.{Reports}
 pub use Rattle.run_journal.specs.below.run_ledger.{Ledger, after, after_all, ledger_of, first_refused_from, first_refused, opening, end_of, refused_as_run}
 pub use Rattle.run_journal.specs.below.run_trace.{EntryValue}
 pub use Rattle.run_report.proofs.Sums.{accounts_on, refused_on}

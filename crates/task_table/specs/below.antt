@@ -1,3 +1,3 @@
 -- Re-exports from lower crates for the crates above.
-pub mod run_journal
+pub mod or_no_memory
 pub mod run_timeline

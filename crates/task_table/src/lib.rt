@@ -7,6 +7,6 @@ mod rows;
 mod table;
 
 pub use row::{ForkOrigin, TaskRow};
-pub use run_journal::ReplayError;
+pub use run_journal::{OrNoMemory, RefusedAt};
 pub use run_timeline::timeline_text;
 pub use table::table_text;

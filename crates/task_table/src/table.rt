@@ -3,17 +3,14 @@
 ghost use Rattle.std.specs.Prelude.{◌≡◌, ◌++◌, ◌∷◌, [], None, false, slice_get, OnOk, IfOk, IfErr};
 ghost use Rattle.run_journal.specs.below.run_trace.{AreSettings};
 ghost use Rattle.run_journal.specs.below.run_ledger.{refusal, after, opening, ledger_of, first_refused, refused_as_run};
-ghost use Rattle.run_journal.specs.below.run_accounts.{FailsFor};
-ghost use Rattle.run_journal.specs.Replay.{ReplayFails};
+ghost use Rattle.run_journal.specs.below.or_no_memory.{Reports};
 ghost use Rattle.task_table.specs.Rows.{fresh_row, rows_with, rows_from};
 ghost use Rattle.task_table.specs.Table.{first_line, task_row_line, task_row_lines, table};
 
 use crate::lines::add_line;
 use crate::row::TaskRow;
 use crate::rows::{fresh_row, tell_entry};
-use run_journal::{
-    ApplyError, Book, Entry, Listed, Program, Refused, RefusedAt, ReplayError, Settings,
-};
+use run_journal::{Book, Entry, Listed, OrNoMemory, Program, Refused, RefusedAt, Settings};
 use run_report::cleared_words;
 use std::alloc::{AllocError, Global};
 
@@ -23,16 +20,16 @@ fn enter(
     book: &mut Book,
     rows: &mut Listed<TaskRow>,
     entry: Entry,
-) -> Result<(), ApplyError>
+) -> Result<(), OrNoMemory<Refused>>
     requires open { book.old.stopped ≡ false }
     ensures legal { OnOk result (refusal book.old.program book.old.settings book.old.ledger entry ≡ None) }
     ensures entered { OnOk result (book.new ≡ record book.old { ledger = after book.old.program book.old.settings book.old.ledger entry }) }
     ensures rows { OnOk result (rows.new ≡ rows_with program.now book.old.ledger (after book.old.program book.old.settings book.old.ledger entry) entry rows.old) }
-    ensures fails { IfErr result (FailsFor (refusal book.old.program book.old.settings book.old.ledger entry)) }
+    ensures fails { IfErr result (Reports (refusal book.old.program book.old.settings book.old.ledger entry)) }
 {
     let made = book.tasks() as u64;
     if made == u64::MAX {
-        return Err(ApplyError::NoMemory);
+        return Err(OrNoMemory::NoMemory);
     }
     let kind = entry.kind();
     let before = cleared_words(book, kind);
@@ -47,7 +44,7 @@ fn enter_all(
     book: &mut Book,
     rows: &mut Listed<TaskRow>,
     journal: &[Entry],
-) -> Result<(), ReplayError>
+) -> Result<(), OrNoMemory<RefusedAt>>
     requires settings { AreSettings book.old.settings }
     requires first { book.old.ledger ≡ opening book.old.program book.old.settings }
     requires open { book.old.stopped ≡ false }
@@ -55,16 +52,16 @@ fn enter_all(
     ensures book { OnOk result (book.new ≡ record book.old { ledger = ledger_of book.old.program book.old.settings journal.now }) }
     ensures rows { OnOk result (rows.new ≡ rows_from book.old.program book.old.settings (opening book.old.program book.old.settings) rows.old journal.now) }
     ensures legal { OnOk result (first_refused book.old.program book.old.settings journal.now ≡ None) }
-    ensures fails { IfErr result (ReplayFails (first_refused book.old.program book.old.settings journal.now)) }
+    ensures fails { IfErr result (Reports (first_refused book.old.program book.old.settings journal.now)) }
 {
     let mut index: u64 = 1;
     for entry in journal {
         match enter(program, book, rows, *entry) {
             Ok(()) => index += 1,
-            Err(ApplyError::Refused(cause)) => {
-                return Err(ReplayError::RefusedAt(RefusedAt { index, cause }));
+            Err(OrNoMemory::Refused(cause)) => {
+                return Err(OrNoMemory::Refused(RefusedAt { index, cause }));
             }
-            Err(ApplyError::NoMemory) => return Err(ReplayError::NoMemory),
+            Err(OrNoMemory::NoMemory) => return Err(OrNoMemory::NoMemory),
         }
     }
     Ok(())
@@ -149,17 +146,17 @@ pub fn table_text(
     program: &Program,
     settings: Settings,
     journal: &[Entry],
-) -> Result<Vec<u8>, ReplayError>
+) -> Result<Vec<u8>, OrNoMemory<RefusedAt>>
     ensures whole { OnOk result (refused_as_run program.now settings journal.now ≡ None) }
     ensures text { IfOk result (λ text. text.items ≡ table program.now settings journal.now) }
-    ensures fails { IfErr result (ReplayFails (refused_as_run program.now settings journal.now)) }
+    ensures fails { IfErr result (Reports (refused_as_run program.now settings journal.now)) }
 {
     let _workers = settings.workers();
     let mut book = Book::open(alloc, program, settings)?;
     let mut rows = first_rows(alloc)?;
     enter_all(program, &mut book, &mut rows, journal)?;
     if book.end().is_none() {
-        return Err(ReplayError::RefusedAt(RefusedAt {
+        return Err(OrNoMemory::Refused(RefusedAt {
             index: journal.len() as u64 + 1,
             cause: Refused::Short,
         }));

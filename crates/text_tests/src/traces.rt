@@ -1,8 +1,6 @@
 // Traces, settings, and inputs of a program and a trace.
 
-use heap_image::{
-    Entry, Kind, MOST_BYTES, Settings, Trace, TraceError, Version, read_trace, trace_text,
-};
+use heap_image::{Entry, Kind, MOST_BYTES, Settings, Trace, Version, read_trace, trace_text};
 use program_reader::Cause;
 use std::alloc::Global;
 use trace_input::{InputFault, OrNoMemory, read_trace_input};
@@ -71,7 +69,7 @@ fn bad_line(alloc: Global, text: &[u8]) -> u32 {
         return 0;
     }
     match read_trace(alloc, text, 6) {
-        Err(TraceError::BadLine(told)) => told,
+        Err(OrNoMemory::Refused(told)) => told,
         _ => 0,
     }
 }

@@ -13,7 +13,7 @@ use crate::newer::is_newer;
 use hh_lang::Program;
 use or_no_memory::OrNoMemory;
 use program_reader::{Cause, TextFault, read_program};
-use run_trace::{Trace, TraceError, Version, read_trace, read_version};
+use run_trace::{Trace, Version, read_trace, read_version};
 use std::alloc::{AllocError, Global};
 use text_lines::{MOST_BYTES, next_line};
 
@@ -80,8 +80,8 @@ fn read_for(
     }
     match read_trace(alloc, text, number) {
         Ok(trace) => Ok(trace),
-        Err(TraceError::NoMemory) => Err(OrNoMemory::NoMemory),
-        Err(TraceError::BadLine(line)) => Err(bad_line_error(line)),
+        Err(OrNoMemory::NoMemory) => Err(OrNoMemory::NoMemory),
+        Err(OrNoMemory::Refused(line)) => Err(bad_line_error(line)),
     }
 }
 

@@ -7,7 +7,6 @@ ghost use Rattle.view_core.specs.Page.{ShowsJournalPage, ShowsPage, ShowsPageOf,
 use refusal_replies::{AnswerStatus, Refusal, Reply, refused};
 use run_page::{Entry, OrNoMemory, Program, Settings, TraceInput, page_of, read_trace_input};
 use std::alloc::{AllocError, Global};
-use task_table::ReplayError;
 use view_arguments::{InputFile, PageTitle};
 
 /// A page has at most so many entries.
@@ -47,8 +46,8 @@ fn show_journal_page(
 {
     match page_of(alloc, title, input, program, settings, journal) {
         Ok(page) => Ok(Reply::of_bytes(AnswerStatus::Done, page)),
-        Err(ReplayError::RefusedAt(entry)) => refused(alloc, Refusal::Entry(entry)),
-        Err(ReplayError::NoMemory) => Err(AllocError),
+        Err(OrNoMemory::Refused(entry)) => refused(alloc, Refusal::Entry(entry)),
+        Err(OrNoMemory::NoMemory) => Err(AllocError),
     }
 }
 

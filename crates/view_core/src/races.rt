@@ -2,7 +2,7 @@
 
 ghost use Rattle.std.specs.Prelude.{◌≡◌, None, OnOk, IfOk, IfErr};
 ghost use Rattle.run_page.specs.below.run_ledger.{refused_as_run};
-ghost use Rattle.task_table.specs.below.run_journal.{ReplayFails};
+ghost use Rattle.task_table.specs.below.or_no_memory.{Reports};
 ghost use Rattle.refusal_replies.specs.below.whole_call.{Says};
 ghost use Rattle.view_core.specs.Races.{ShowsRaces, status_of_count};
 
@@ -10,7 +10,7 @@ use refusal_replies::{AnswerStatus, Reply};
 use run_page::{Entry, Program, Settings};
 use schedule_report::{ShownRaces, shown_races};
 use std::alloc::Global;
-use task_table::ReplayError;
+use task_table::{OrNoMemory, RefusedAt};
 
 fn status_of_count(count: usize) -> AnswerStatus
     ensures { result ≡ status_of_count count }
@@ -35,10 +35,10 @@ pub(crate) fn show_races(
     program: &Program,
     settings: Settings,
     journal: &[Entry],
-) -> Result<Reply, ReplayError>
+) -> Result<Reply, OrNoMemory<RefusedAt>>
     ensures whole { OnOk result (refused_as_run program.now settings journal.now ≡ None) }
     ensures shown { IfOk result (ShowsRaces source.now program.now settings journal.now) }
-    ensures fails { IfErr result (ReplayFails (refused_as_run program.now settings journal.now)) }
+    ensures fails { IfErr result (Reports (refused_as_run program.now settings journal.now)) }
 {
     let shown = shown_races(alloc, source, program, settings, journal)?;
     Ok(reply(shown))

@@ -2,7 +2,7 @@
 
 ghost use Rattle.std.specs.Prelude.{◌≡◌, None, OnOk, IfOk, IfErr};
 ghost use Rattle.run_page.specs.below.run_ledger.{refused_as_run};
-ghost use Rattle.task_table.specs.below.run_journal.{ReplayFails};
+ghost use Rattle.task_table.specs.below.or_no_memory.{Reports};
 ghost use Rattle.refusal_replies.specs.below.whole_call.{Says};
 ghost use Rattle.view_core.specs.Shown.{ShowsJournal, ShowsTrace, ShowsRun};
 
@@ -12,7 +12,7 @@ use refusal_replies::{AnswerStatus, Refusal, Reply, refused};
 use run_log::log_text;
 use run_page::{Entry, OrNoMemory, Program, Settings, TraceInput, read_trace_input};
 use std::alloc::{AllocError, Global};
-use task_table::{ReplayError, table_text, timeline_text};
+use task_table::{RefusedAt, table_text, timeline_text};
 use view_arguments::RunView;
 
 // A picture of a run.
@@ -30,10 +30,10 @@ fn show_journal(
     program: &Program,
     settings: Settings,
     journal: &[Entry],
-) -> Result<Reply, ReplayError>
+) -> Result<Reply, OrNoMemory<RefusedAt>>
     ensures whole { OnOk result (refused_as_run program.now settings journal.now ≡ None) }
     ensures shown { IfOk result (ShowsJournal view input.now program.now settings journal.now) }
-    ensures fails { IfErr result (ReplayFails (refused_as_run program.now settings journal.now)) }
+    ensures fails { IfErr result (Reports (refused_as_run program.now settings journal.now)) }
 {
     match view {
         RunView::Timeline => Ok(picture(timeline_text(alloc, program, settings, journal)?)),
@@ -59,8 +59,8 @@ fn show_trace(
     let journal = trace.entries.as_slice();
     match show_journal(alloc, view, input, program, settings, journal) {
         Ok(shown) => Ok(shown),
-        Err(ReplayError::RefusedAt(entry)) => refused(alloc, Refusal::Entry(entry)),
-        Err(ReplayError::NoMemory) => Err(AllocError),
+        Err(OrNoMemory::Refused(entry)) => refused(alloc, Refusal::Entry(entry)),
+        Err(OrNoMemory::NoMemory) => Err(AllocError),
     }
 }
 

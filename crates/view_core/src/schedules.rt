@@ -2,7 +2,7 @@
 
 ghost use Rattle.std.specs.Prelude.{◌≡◌, None, OnOk, IfOk, IfErr};
 ghost use Rattle.run_page.specs.below.run_ledger.{refused_as_run};
-ghost use Rattle.task_table.specs.below.run_journal.{ReplayFails};
+ghost use Rattle.task_table.specs.below.or_no_memory.{Reports};
 ghost use Rattle.schedule_report.specs.Schedules.{verdict_of};
 ghost use Rattle.schedule_report.specs.Text.{clashes_text};
 ghost use Rattle.refusal_replies.specs.below.whole_call.{Says};
@@ -12,7 +12,7 @@ use refusal_replies::{AnswerStatus, Reply};
 use run_page::{Entry, Program, Settings};
 use schedule_report::{Clashes, Verdict, clashes_of_run, clashes_text};
 use std::alloc::{AllocError, Global};
-use task_table::ReplayError;
+use task_table::{OrNoMemory, RefusedAt};
 
 fn status_of_verdict(verdict: Verdict) -> AnswerStatus
     ensures { result ≡ status_of_verdict verdict }
@@ -55,10 +55,10 @@ pub(crate) fn show_schedules(
     program: &Program,
     settings: Settings,
     journal: &[Entry],
-) -> Result<Reply, ReplayError>
+) -> Result<Reply, OrNoMemory<RefusedAt>>
     ensures whole { OnOk result (refused_as_run program.now settings journal.now ≡ None) }
     ensures shown { IfOk result (ShowsSchedules program.now settings journal.now) }
-    ensures fails { IfErr result (ReplayFails (refused_as_run program.now settings journal.now)) }
+    ensures fails { IfErr result (Reports (refused_as_run program.now settings journal.now)) }
 {
     let answer = clashes_of_run(alloc, program, settings, journal)?;
     Ok(show_answer(alloc, &answer)?)

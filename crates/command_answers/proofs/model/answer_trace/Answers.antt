@@ -11,8 +11,8 @@ returns-in-Ok c =
     (c.in-Ok.ensures.text ∙ ap (λ (x : Extras). out_text c.args.read.now.program c.with_version-settings.result x.report x.trace c.as_slice-journal.result.now) c.extras_of.ensures)
     c.bytes_alone.ensures)
 
-pub returns-in-Err-RefusedAt : goal.returns-in-Err-RefusedAt
-returns-in-Err-RefusedAt c =
+pub returns-in-Err-Refused : goal.returns-in-Err-Refused
+returns-in-Err-Refused c =
     IfOk-weaker c.refused.result _ _
-    (λ a h. trace_told (IsModelled c.args.options) c.args.options.settings c.args.read.now c.with_version-settings.result c.as_slice-journal.result.now (Some c.in-Err-RefusedAt.entry) a
+    (λ a h. trace_told (IsModelled c.args.options) c.args.options.settings c.args.read.now c.with_version-settings.result c.as_slice-journal.result.now (Some c.in-Err-Refused.entry) a
     c.with_version-settings.ensures c.as_slice-journal.ensures (search rules) h) c.refused.ensures

@@ -13,8 +13,8 @@ returns-in-Ok c =
       text = subst (λ (rs : List Race). IsText (races_status rs) (races_text rs) a) c.as_slice.ensures.value h;
     })) c.answer_found.ensures
 
-pub returns-in-Err-RefusedAt : goal.returns-in-Err-RefusedAt
-returns-in-Err-RefusedAt c =
+pub returns-in-Err-Refused : goal.returns-in-Err-Refused
+returns-in-Err-Refused c =
     IfOk-weaker c.refused.result _ _
-    (λ a h. trace_told IsRaceAnswer c.args.settings c.args.read.now c.with_version-settings.result c.as_slice-journal.result.now (Some c.in-Err-RefusedAt.entry) a
+    (λ a h. trace_told IsRaceAnswer c.args.settings c.args.read.now c.with_version-settings.result c.as_slice-journal.result.now (Some c.in-Err-Refused.entry) a
     c.with_version-settings.ensures c.as_slice-journal.ensures (search rules) h) c.refused.ensures

@@ -1,4 +1,4 @@
-use Rattle.run_report.proofs.Common.{◌∙◌, ap, subst, opening, first_refused, BookValue, ReplayFails, totals_from}
+use Rattle.run_report.proofs.Common.{◌∙◌, ap, subst, opening, first_refused, BookValue, Reports, totals_from}
 use Rattle.run_report.proofs.counting.count.Goals as goal
 
 pub returns-in-Ok-clause-totals : goal.returns-in-Ok-clause-totals
@@ -7,4 +7,4 @@ returns-in-Ok-clause-totals c =
 
 pub returns-in-Err-clause-fails : goal.returns-in-Err-clause-fails
 returns-in-Err-clause-fails c =
-    subst (λ (b : BookValue). ReplayFails (first_refused b.program b.settings c.args.journal.now) c.in-Err.error) c.in_ok-book.ensures c.in-Err.ensures.fails
+    subst (λ (b : BookValue). Reports (first_refused b.program b.settings c.args.journal.now) c.in-Err.error) c.in_ok-book.ensures c.in-Err.ensures.fails

@@ -1,4 +1,4 @@
-use Rattle.run_report.proofs.Common.{◌≡◌, ◌∙◌, Some, ap, subst, sym, IfOk, IfErr, opening, end_of, refused_as_run, out_text, BookValue, ReplayFails, totals_from}
+use Rattle.run_report.proofs.Common.{◌≡◌, ◌∙◌, Some, ap, subst, sym, IfOk, IfErr, opening, end_of, refused_as_run, out_text, BookValue, Reports, totals_from}
 use Rattle.run_report.proofs.whole.whole_run.Goals as goal
 
 pub whole_of-whole-requires-clause-totals : goal.whole_of-whole-requires-clause-totals
@@ -17,4 +17,4 @@ returns-clause-text c =
 
 pub returns-clause-fails : goal.returns-clause-fails
 returns-clause-fails c =
-    subst (λ (o : BookValue). IfErr c.whole_of-whole.result (ReplayFails (refused_as_run o.program c.args.settings c.args.journal.now))) c.in_ok-counted.ensures.book c.whole_of-whole.ensures.fails
+    subst (λ (o : BookValue). IfErr c.whole_of-whole.result (Reports (refused_as_run o.program c.args.settings c.args.journal.now))) c.in_ok-counted.ensures.book c.whole_of-whole.ensures.fails

@@ -8,8 +8,8 @@ returns-in-Ok c =
     c.with_version-settings.ensures c.as_slice-journal.ensures (search rules)
     c.in-Ok.ensures.shown
 
-pub returns-in-Err-RefusedAt : goal.returns-in-Err-RefusedAt
-returns-in-Err-RefusedAt c =
+pub returns-in-Err-Refused : goal.returns-in-Err-Refused
+returns-in-Err-Refused c =
     IfOk-weaker c.refused.result _ _
-    (λ w h. trace_told c.args.view c.args.settings c.args.input.now c.args.read.now c.with_version-settings.result c.as_slice-journal.result.now (Some c.in-Err-RefusedAt.entry) w
+    (λ w h. trace_told c.args.view c.args.settings c.args.input.now c.args.read.now c.with_version-settings.result c.as_slice-journal.result.now (Some c.in-Err-Refused.entry) w
     c.with_version-settings.ensures c.as_slice-journal.ensures (search rules) h) c.refused.ensures
