@@ -79,16 +79,9 @@ pub fn grow(
 {
     task_slots.reserve(2)?;
     task_slots.make_block(part.task)?;
-    fork(
-        task_slots.allocator(),
-        tree,
-        part.task,
-        &part.heap,
-        Some(&part.view),
-        &part.frames,
-        left,
-        right,
-    )
+    let view = part.heap.view(Some(&part.view))?;
+    let alloc = task_slots.allocator();
+    fork(alloc, tree, part.task, view, &part.frames, left, right)
 }
 
 /// Blocks for the slots of the two children of a task that forks.

@@ -92,7 +92,8 @@ pub fn forked(
     if tree.state(t) != Some(TaskState::Out) {
         return None;
     }
-    fork(alloc, tree, t, heap, above, top, 5, 6).ok()
+    let view = heap.view(above).ok()?;
+    fork(alloc, tree, t, view, top, 5, 6).ok()
 }
 
 /// Whether a task without chunks forks. Its children are dropped.
