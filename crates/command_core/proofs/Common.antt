@@ -16,7 +16,7 @@ pub use Rattle.command_answers.specs.declared.answer.CommandStatus.TheVariants.{
 pub use Rattle.command_answers.specs.declared.wanted.Wanted.{Wanted}
 pub use Rattle.command_answers.specs.declared.wanted.Wanted.TheVariants.{Amid}
 pub use Rattle.command_core.specs.Call.{AnswersCommand, AnswersInput, call_reads, call_status, line_reads}
-pub use Rattle.command_core.specs.Outcomes.{AnswersOutcome}
+pub use Rattle.command_core.specs.Left.{AnswersLeft}
 pub use Rattle.command_line.specs.CommandLine.{command_line}
 pub use Rattle.command_line.specs.below.run_trace.{SettingsValue}
 pub use Rattle.command_line.specs.declared.line.CommandLine.{CommandLine}
@@ -24,7 +24,7 @@ pub use Rattle.command_line.specs.declared.line.CommandLine.TheVariants.{Check, 
 pub use Rattle.gc_pacer.proofs.Sent.{paced_send}
 pub use Rattle.io_traits.specs.Fault.{HasRisen}
 pub use Rattle.refusal_lines.specs.below.program_reader.{TextFault}
-pub use Rattle.refusal_lines.specs.below.run_ledger.{RunEnd, end_of, is_paced}
+pub use Rattle.refusal_lines.specs.below.run_ledger.{is_paced}
 pub use Rattle.refusal_lines.specs.below.run_report.{Extras}
 pub use Rattle.std.proofs.Common.{◌≡◌, ◌≤◌, ◌+◌, ℕ, Bool, true, false, List, [], length, take, drop, refl, ap, sym, subst, arith, Some, true≢false, ◌∙◌, rules}
 pub use Rattle.std.proofs.lemmas.Bool.{false≢true}
@@ -35,7 +35,5 @@ pub use Rattle.whole_call.specs.Input.{Reads, ReadsNothing, ReadsUpTo, SourceSta
 pub use Rattle.whole_call.specs.declared.status.AnswerStatus.{AnswerStatus}
 pub use Rattle.whole_call.specs.declared.status.CallStatus.{CallStatus}
 pub use Rattle.whole_call.specs.declared.status.CallStatus.TheVariants.{Answered}
-pub use Rattle.worker_run.specs.Outcomes.{IsRunOf, finish_of}
+pub use Rattle.worker_run.specs.Outcomes.{IsRunOf}
 pub use Rattle.worker_run.specs.below.core_invariant.{SharedValue, accounts, without_journal}
-pub use Rattle.worker_run.specs.declared.end.Finish.{Finish}
-pub use Rattle.worker_run.specs.declared.end.Finish.TheVariants.{Ended}

@@ -5,5 +5,5 @@ pub use Rattle.command_answers.specs.Answers
 pub use Rattle.command_answers.specs.Delivery
 pub use Rattle.command_answers.specs.Laws
 pub use Rattle.command_answers.specs.Headline
-pub mod Outcomes
+pub mod Left
 pub mod Call

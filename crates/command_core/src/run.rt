@@ -1,12 +1,10 @@
 // The answers of runs.
 
-ghost use Rattle.std.specs.Prelude.{◌≡◌, IfOk, IfErr, Some};
-ghost use Rattle.refusal_lines.specs.below.run_ledger.{RunEnd};
-ghost use Rattle.worker_run.specs.below.core_invariant.{SharedValue, accounts};
+ghost use Rattle.std.specs.Prelude.{◌≡◌, IfOk, IfErr};
 ghost use Rattle.command_answers.specs.Answers.{AnswersProgram, AnswersRun, LeavesRun};
 ghost use Rattle.command_answers.specs.Delivery.{IsWanted, remains_of};
 ghost use Rattle.command_answers.specs.Runs.{LeavesPaced};
-ghost use Rattle.command_core.specs.Outcomes.{AnswersOutcome};
+ghost use Rattle.command_core.specs.Left.{AnswersLeft};
 
 use command_answers::{
     Answer, Program, Wanted, amid, answer_ended, extras_of, program_in, refused,
@@ -18,19 +16,20 @@ use refusal_lines::{Extras, Refusal};
 use std::alloc::Global;
 use std::sync::Wait;
 use std::thread::Threads;
-use worker_run::{Finish, Outcome, run_on_workers};
+use worker_run::{EntryCalls, run_on_workers};
 
-// The answer from what workers have left. If an allocation fails, all that they have left is returned.
-fn answer_outcome(alloc: Global, outcome: Outcome<Paced>, extras: Extras) -> Result<Answer, Wanted>
-    requires { (w : SharedValue) (end : RunEnd) → outcome.shared ≡ Some w → outcome.finish ≡ Finish.Ended end → (accounts w).end ≡ Some end }
-    ensures answer { IfOk result (AnswersOutcome outcome extras) }
-    ensures wanted { IfErr result (λ w. w ≡ remains_of outcome.shared) }
+// The answer from what workers have left. If an allocation has failed or fails here, all that they have left is
+// returned.
+fn answer_left(alloc: Global, left: Option<Paced>, extras: Extras) -> Result<Answer, Wanted>
+    ensures answer { IfOk result (AnswersLeft left extras) }
+    ensures wanted { IfErr result (λ w. w ≡ remains_of left) }
 {
-    let Outcome { finish, shared } = outcome;
-    match (finish, shared) {
-        (_, None) => Err(Wanted::Before),
-        (Finish::NoMemory, Some(paced)) => Err(amid(paced.into_shared())),
-        (Finish::Ended(end), Some(paced)) => answer_ended(alloc, paced.into_shared(), end, extras),
+    let Some(paced) = left else {
+        return Err(Wanted::Before);
+    };
+    match paced.ended() {
+        None => Err(amid(paced.into_shared())),
+        Some(end) => answer_ended(alloc, paced.into_shared(), end, extras),
     }
 }
 
@@ -45,8 +44,8 @@ fn answer_program<R: Threads + Wait + Sync, G: Gate>(
     ensures answer { IfOk result (AnswersProgram options program.now) }
     ensures wanted { IfErr result (IsWanted (LeavesPaced program.now options.settings)) }
 {
-    let outcome = run_on_workers::<R, Paced, G>(rt, alloc, program, options.settings, gate);
-    answer_outcome(alloc, outcome, extras_of(options))
+    let left = run_on_workers::<R, Paced, G>(rt, alloc, program, options.settings, gate);
+    answer_left(alloc, left, extras_of(options))
 }
 
 /// Reads a program and runs it.

@@ -15,7 +15,7 @@ pub use Rattle.copied_part_laws.specs.below.leaf_collections.{FitsCopied}
 pub use Rattle.copied_part_laws.specs.below.leaf_heap.{LeafHeapValue}
 pub use Rattle.copied_part_laws.specs.below.ledger_step_laws.{aside}
 pub use Rattle.copied_part_laws.specs.below.object_layout.{ChunkValue, number_of}
-pub use Rattle.copied_part_laws.specs.below.run_ledger.{RunEnd, end_of, is_legal, is_paced}
+pub use Rattle.copied_part_laws.specs.below.run_ledger.{is_legal, is_paced}
 pub use Rattle.copied_part_laws.specs.below.run_trace.{EntryValue, SettingsValue, Kind, private_limit}
 pub use Rattle.copied_part_laws.specs.below.task_frames.{FramesValue}
 pub use Rattle.copied_part_laws.specs.below.task_machine.{Begun, Private}
@@ -47,9 +47,8 @@ pub use Rattle.turn_entries.specs.declared.between_turns.Ready.{Ready}
 pub use Rattle.turn_entries.specs.declared.between_turns.Ready.TheVariants.{Paused, Copied, Found, OutOfMemory}
 pub use Rattle.turn_entries.specs.declared.run.Run.{Run}
 pub use Rattle.turn_entries.specs.declared.run.Setup.{Setup}
-pub use Rattle.worker_run.specs.Outcomes.{IsRunOf, WasGivenBack, finish_of}
+pub use Rattle.worker_run.specs.Outcomes.{IsRunOf, WasGivenBack}
 pub use Rattle.worker_run.specs.Rounds.{GoesRound, MakesRound, AllGoRound}
 pub use Rattle.worker_run.specs.Tasks.{Finds, HaveRoot, Looks, Puts, SharesRight, TriedBefore, after_it, Prepares}
 pub use Rattle.worker_run.specs.WorkerStates.{AreHands, HasEntry, IsWorkerState, DoesOnce, HasStopped, TakesTurn, AreAllWorkerStates, AreNewWorkerStates, AreOpened, HasOfEach, HaveSeen, HaveStopped, SameWorkerState, entries_of}
-pub use Rattle.worker_run.specs.declared.end.Finish.{Finish}
 pub use Rattle.worker_run.specs.declared.worker_state.WorkerState.{WorkerState}

@@ -1,5 +1,5 @@
 -- Worker states and their seats.
-use Rattle.worker_run.proofs.Common.{◌≡◌, ℕ, zero, suc, ◌<◌, ◌^◌, true, List, [], ◌∷◌, ◌++◌, length, map, take, drop, take_all, drop_of_length-le, slice_get, get_or, remove, sym, ap, ◌∙◌, subst, arith, Option, Some, append_assoc, append-nil, slice_get_within, slice_get-get_or, same_Some, none-some, map-append, length-map, TableId, Seat, got_map, map_got, ProgramText, EntryValue, SettingsValue, RunEnd, end_of, is_legal, is_paced, IsSharedValue, SharedValue, accounts, entries_by, view, HasNoTurn, HasOwnEntries, SameWorker, AreNewSeats, AreAllSeats, IsFinalFor, first_there, new_are_all, kept_are_all, removed_first, Run, Setup, Sight, FitsSnapshot, journal_of, setup_of, worker_of, WorkerState, Finish, AreAllWorkerStates, AreNewWorkerStates, AreOpened, HasOfEach, HaveSeen, HaveStopped, IsWorkerState, SameWorkerState, entries_of, IsRunOf, WasGivenBack, finish_of, AllGoRound}
+use Rattle.worker_run.proofs.Common.{◌≡◌, ℕ, zero, suc, ◌<◌, ◌^◌, true, List, [], ◌∷◌, ◌++◌, length, map, take, drop, take_all, drop_of_length-le, slice_get, get_or, remove, sym, ap, ◌∙◌, subst, arith, Option, Some, append_assoc, append-nil, slice_get_within, slice_get-get_or, same_Some, none-some, map-append, length-map, TableId, Seat, got_map, map_got, ProgramText, EntryValue, SettingsValue, is_legal, is_paced, IsSharedValue, SharedValue, accounts, entries_by, view, HasNoTurn, HasOwnEntries, SameWorker, AreNewSeats, AreAllSeats, IsFinalFor, first_there, new_are_all, kept_are_all, removed_first, Run, Setup, Sight, FitsSnapshot, journal_of, setup_of, worker_of, WorkerState, AreAllWorkerStates, AreNewWorkerStates, AreOpened, HasOfEach, HaveSeen, HaveStopped, IsWorkerState, SameWorkerState, entries_of, IsRunOf, WasGivenBack, AllGoRound}
 
 abbrev pub Chair : Type 0 → Type 0
 Chair P = Seat (Option (Run P)) (Sight P)
@@ -136,8 +136,3 @@ is_run p s w I program settings paced = record {
   paced = subst (λ (q : ProgramText). is_paced q s w.journal.items ≡ true) program (subst (λ (t : SettingsValue). is_paced w.program t w.journal.items ≡ true) settings paced);
   stands = I;
 }
-
--- how it finished, if its end was reported
-pub told_finish : (p : ProgramText) (s : SettingsValue) (w : SharedValue) (f : Finish) (e : Option RunEnd) → IsRunOf p s w → e ≡ (accounts w).end → f ≡ finish_of e → f ≡ finish_of (end_of p s w.journal.items)
-told_finish p s w f e run is told =
-    subst (λ (q : ProgramText). f ≡ finish_of (end_of q s w.journal.items)) run.program (subst (λ (l : SettingsValue). f ≡ finish_of (end_of w.program l w.journal.items)) run.settings (told ∙ ap finish_of is))

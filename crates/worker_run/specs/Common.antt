@@ -2,7 +2,7 @@
 pub use Rattle.atomic_table.specs.Seated.{TableId}
 pub use Rattle.copied_part_laws.specs.below.core_invariant.{IsSharedValue, SharedValue}
 pub use Rattle.copied_part_laws.specs.below.hh_lang.{ProgramText}
-pub use Rattle.copied_part_laws.specs.below.run_ledger.{RunEnd, is_legal, is_paced}
+pub use Rattle.copied_part_laws.specs.below.run_ledger.{is_legal, is_paced}
 pub use Rattle.copied_part_laws.specs.below.run_trace.{EntryValue, SettingsValue, Kind}
 pub use Rattle.steal_scheduler.specs.Hands.{AreNewHands, ChangesAt, KeepsOwn, PutOnDeque, PutOnList, SameHand, TookFromDeque, TookFromList, TookNone, empty_pops, thefts}
 pub use Rattle.steal_scheduler.specs.Thefts.{SameTheft, Stole, StoleNone}

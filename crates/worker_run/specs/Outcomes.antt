@@ -1,16 +1,9 @@
 -- What a run by workers leaves.
-use Rattle.std.specs.Prelude.{◌≡◌, List, Option, Some, None, true}
-use Rattle.worker_run.specs.Common.{TableId, ProgramText, EntryValue, SettingsValue, RunEnd, is_legal, is_paced, IsSharedValue, SharedValue}
+use Rattle.std.specs.Prelude.{◌≡◌, List, true}
+use Rattle.worker_run.specs.Common.{TableId, ProgramText, EntryValue, SettingsValue, is_legal, is_paced, IsSharedValue, SharedValue}
 use Rattle.worker_run.specs.declared.worker_state.WorkerState.{WorkerState}
-use Rattle.worker_run.specs.declared.end.Finish.{Finish}
-use Rattle.worker_run.specs.declared.end.Finish.TheVariants.{Ended, NoMemory}
 use Rattle.worker_run.specs.WorkerStates.{AreAllWorkerStates, AreOpened, HasOfEach, HaveSeen, HaveStopped}
 use Rattle.worker_run.specs.Rounds.{AllGoRound}
-
--- how a run finished whose journal has this end, or none
-abbrev pub finish_of : Option RunEnd → Finish
-finish_of None = NoMemory
-finish_of (Some end) = Ended end
 
 -- a run of this program with these settings: it stands for its journal, which is legal and paced
 pub record IsRunOf (p : ProgramText) (s : SettingsValue) (w : SharedValue) : Type 0 where

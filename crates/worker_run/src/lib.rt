@@ -2,8 +2,7 @@
 //! steps and copies heaps outside it.
 #![tactic(auto)]
 
-// The workers in threads, and what a run leaves.
-mod end;
+// The workers in threads.
 mod workers;
 mod working;
 
@@ -17,7 +16,6 @@ mod parking;
 mod run_context;
 mod worker_state;
 
-pub use end::{Finish, Outcome};
 pub use local::{copy_part, run_part};
 pub use parking::Parker;
 pub use run_context::RunContext;

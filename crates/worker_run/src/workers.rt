@@ -1,15 +1,13 @@
 //! The workers in threads.
-ghost use Rattle.std.specs.Prelude.{◌≡◌, ◌<◌, ◌≤◌, ◌^◌, [], map, IfNone, IfOk, IfSome, vec_len, vec_capacity};
+ghost use Rattle.std.specs.Prelude.{◌≡◌, ◌<◌, ◌≤◌, ◌^◌, [], map, IfOk, IfSome, vec_len, vec_capacity};
 ghost use Rattle.copied_part_laws.specs.below.hh_lang.{ProgramText};
 ghost use Rattle.copied_part_laws.specs.below.run_trace.{SettingsValue};
-ghost use Rattle.copied_part_laws.specs.below.run_ledger.{end_of};
 ghost use Rattle.turn_entries.specs.below.turn_lock.{identity};
 ghost use Rattle.worker_run.specs.WorkerStates.{AreAllWorkerStates, AreHands, AreNewWorkerStates, AreOpened, HasOfEach, HasStopped, HaveSeen, HaveStopped, IsWorkerState, SameWorkerState};
-ghost use Rattle.worker_run.specs.Outcomes.{finish_of, IsRunOf, WasGivenBack};
+ghost use Rattle.worker_run.specs.Outcomes.{IsRunOf, WasGivenBack};
 ghost use Rattle.worker_run.specs.Rounds.{AllGoRound, GoesRound};
 ghost use Rattle.worker_run.specs.Tasks.{HaveRoot};
 
-use crate::end::{Finish, Outcome};
 use crate::parking::Parker;
 use crate::run_context::RunContext;
 use crate::worker_state::WorkerState;
@@ -190,33 +188,20 @@ fn run_all<R: Threads + Wait + Sync, P: EntryCalls + Drop + Send, G: Gate>(
 }
 
 /// Runs a program with workers in threads: its journal is legal and paced, its order is that of the turns, and for each
-/// worker it has exactly the entries that this one gave back. The shared value is missing only if an allocation failed
-/// before the first entry.
+/// worker it has exactly the entries that this one gave back. Returns the shared value, which says how the run has
+/// ended; None only if an allocation failed before the first entry.
 pub fn run_on_workers<R: Threads + Wait + Sync, P: EntryCalls + Drop + Send, G: Gate>(
     rt: &R,
     alloc: Global,
     program: &Program,
     settings: Settings,
     gate: &G,
-) -> Outcome<P>
-    ensures run { IfSome result.shared (λ w. IsRunOf program.now settings (P.value w)) }
-    ensures gave { IfSome result.shared (λ w. WasGivenBack P.value program.now settings (P.value w).journal.items) }
-    ensures finish { IfSome result.shared (λ w. result.finish ≡ finish_of (end_of program.now settings (P.value w).journal.items)) }
-    ensures none { IfNone result.shared (result.finish ≡ Finish.NoMemory) }
+) -> Option<P>
+    ensures run { IfSome result (λ w. IsRunOf program.now settings (P.value w)) }
+    ensures gave { IfSome result (λ w. WasGivenBack P.value program.now settings (P.value w).journal.items) }
 {
     let Ok((turn, worker_states, seats)) = with_seats::<P>(alloc, program, settings) else {
-        return Outcome {
-            finish: Finish::NoMemory,
-            shared: None,
-        };
+        return None;
     };
-    let shared = run_all(rt, turn, worker_states, seats, program, gate);
-    let finish = match shared.ended() {
-        Some(end) => Finish::Ended(end),
-        None => Finish::NoMemory,
-    };
-    Outcome {
-        finish,
-        shared: Some(shared),
-    }
+    Some(run_all(rt, turn, worker_states, seats, program, gate))
 }
