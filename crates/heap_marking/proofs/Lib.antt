@@ -1,3 +1,4 @@
+pub mod HeapAsked
 pub mod HeapClosed
 mod MarkBegun
 mod MarkingEntered

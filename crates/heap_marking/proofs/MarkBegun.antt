@@ -1,7 +1,8 @@
 -- A marking of a waiting heap begins, from the registers and the roots as they are now: it can go on to the whole
 -- snapshot.
-use Rattle.heap_marking.proofs.Common.{◌≡◌, ◌⊎◌, ◌↔◌, ℕ, suc, ◌+◌, ◌<◌, ◌≤◌, ◌++◌, true, Some, None, List, [], ◌∷◌, length, slice_get, inl, inr, refl, ap, sym, subst, ◌∙◌, contains_from_in, in_append_cases, in_append_left, in_append_right, in_from_contains, reached_more, reached_start, reached_within, is_waiting, wait_there, waiting_stops, Ledger, heap_of, legal_sound, Addr, cell_of, object_count, ChunkValue, HasObjectAt, RefersTo, Located, CallFrame, IsMarking, IsOf, MarkingValue, Fork, IsInSnapshot, MarkStarts, Rests, legal_idle, In, Memory, object_name, objects, objects_of_chunks, HoldsAt, IsRememberedRoot, LeadsAt, CanGoOnMarking, kept, IsReachedNow, StartsNow, snapshot_now, ParkedTask, chunks_of, SharedValue, accounts, belongings_in, rest_at, value_of, HeapForm, IsSharedValue, stands_now, objects_counted, belongings_chunks, MarksBegin}
+use Rattle.heap_marking.proofs.Common.{◌≡◌, ◌⊎◌, ◌↔◌, ℕ, suc, ◌+◌, ◌<◌, ◌≤◌, ◌++◌, true, Some, None, List, [], ◌∷◌, length, slice_get, inl, inr, refl, ap, sym, subst, ◌∙◌, contains_from_in, in_append_cases, in_append_left, in_append_right, in_from_contains, reached_more, reached_start, reached_within, is_waiting, wait_there, waiting_stops, heap_of, legal_sound, Addr, cell_of, object_count, ChunkValue, HasObjectAt, RefersTo, Located, CallFrame, IsMarking, IsOf, MarkingValue, Fork, IsInSnapshot, MarkStarts, Rests, legal_idle, In, object_name, objects, objects_of_chunks, HoldsAt, IsRememberedRoot, LeadsAt, CanGoOnMarking, kept, IsReachedNow, StartsNow, snapshot_now, ParkedTask, chunks_of, SharedValue, accounts, belongings_in, rest_at, value_of, HeapForm, IsSharedValue, stands_now, objects_counted, belongings_chunks, MarksBegin}
 use Rattle.heap_marking.proofs.HeapClosed.{held_seen, seen_held}
+use Rattle.heap_marking.proofs.HeapAsked.{heap_names}
 
 pub length_chunks : (cs : List ChunkValue) → length (chunks_of cs) ≡ length cs
 length_chunks [] = refl
@@ -16,11 +17,7 @@ pub chunks_at_rest : (w : SharedValue) (t : ℕ) (r : ParkedTask) → rest_at w.
 chunks_at_rest w t r there = ap (λ o. (belongings_in o).chunks) there ∙ belongings_chunks r
 
 module _ (w : SharedValue) (I : IsSharedValue w) (on : (accounts w).end ≡ None) (t : ℕ) (r : ParkedTask) (there : rest_at w.rests t ≡ Some r) (wait : is_waiting (slice_get (accounts w).machine.tasks t) ≡ true) (keeps : ((value_of w).noted t).keeps ≡ true) where
-  abbrev l : Ledger
-  l = accounts w
-
-  abbrev v : Memory
-  v = value_of w
+  open (heap_names w t) use {l, v}
 
   abbrev ks : List ChunkValue
   ks = r.heap.chunks

@@ -1,6 +1,6 @@
 -- Entries that mark a heap: why they are refused, and what they keep.
 use Rattle.std.proofs.Common.{le-leb}
-use Rattle.heap_marking.proofs.Common.{◌≡◌, ◌==◌, ◌↔◌, ℕ, ◌+◌, ◌-◌, ◌^◌, ◌<◌, ◌≤◌, arith, All, Bool, true, false, min, Option, Some, None, List, length, is_none, is_some, slice_get, slice_set, take, inl, inr, refl, ap, sym, subst, ◌∙◌, option_flatten, IfSome, cases_lt, got_other, got_same, got_within, none_of, got_set, Mark, More, EntryValue, SettingsValue, Heap, Ledger, Refused, Marked, Marking, NotDue, after, kind_refusal, refused_if, refused_unless, heap_of, left_in, or_fresh, with_heap, words_in, SoundLedger, entry_tells, legal_sound, heap_there, Addr, held_words, HasObjectAt, saturating_words, AreFields, SetOf, IsAllMarked, IsMarking, IsOf, MarkingValue, marked_of, Fork, IsSince, heap_then, with_at, CanGoOnMarking, kept, kept_of, ParkedTask, resting_references, first_cause, or_else, refused, EachPartStillFits, heaps_of, sources_of, SharedValue, accounts, marks_at, noted_in, rest_at, value_of, IsSharedValue, words_are, entry_on, found_first, nothing_first, stands_now, on_is, refused_is, marking_cause, waiting_cause, words_cause, marked_more, MarkingHasBegun, starts_by, starts_in, starts_of}
+use Rattle.heap_marking.proofs.Common.{◌≡◌, ◌==◌, ◌↔◌, ℕ, ◌+◌, ◌-◌, ◌^◌, ◌<◌, ◌≤◌, arith, All, Bool, true, false, min, Option, Some, None, List, length, is_none, is_some, slice_get, slice_set, take, inl, inr, refl, ap, sym, subst, ◌∙◌, option_flatten, IfSome, cases_lt, got_other, got_same, got_within, none_of, got_set, Mark, More, EntryValue, SettingsValue, Heap, Ledger, Refused, Marked, Marking, NotDue, after, kind_refusal, refused_if, refused_unless, heap_of, left_in, or_fresh, with_heap, words_in, SoundLedger, entry_tells, legal_sound, heap_there, Addr, held_words, HasObjectAt, saturating_words, AreFields, SetOf, IsAllMarked, IsMarking, IsOf, MarkingValue, marked_of, Fork, IsSince, heap_then, with_at, CanGoOnMarking, kept, kept_of, ParkedTask, resting_references, first_cause, or_else, refused, EachPartStillFits, heaps_of, sources_of, SharedValue, accounts, marks_at, noted_in, rest_at, value_of, IsSharedValue, words_are, entry_on, stands_now, on_is, refused_is, marking_cause, waiting_cause, words_cause, marked_more, MarkingHasBegun, starts_by, starts_in, starts_of, RefField}
 use Rattle.heap_marking.proofs.MarkBegun.{chunks_at_rest, marks_begin, waiting_rests}
 use Rattle.heap_marking.proofs.MarkCauses.{marks_refuse}
 use Rattle.heap_marking.proofs.MarkCounts.{marks_count}
@@ -8,6 +8,7 @@ use Rattle.heap_marking.proofs.MarkedHeap.{further, keeps, wait}
 use Rattle.heap_marking.proofs.MarkingEntered.{marks_enter}
 use Rattle.heap_marking.proofs.MarkingStarts.{fields_there, starts_are, starts_held}
 use Rattle.heap_marking.proofs.WaitingSlot as task_slots
+use Rattle.heap_marking.proofs.HeapAsked.{AsksMarked, AsksWaiting, heap_names}
 
 -- WHY THEY ARE REFUSED
 
@@ -40,7 +41,7 @@ module _ (w : SharedValue) (I : IsSharedValue w) (k t : ℕ) where
   abbrev l : Ledger
   l = accounts w
 
-  mark_answer : is_some (first_cause w.end w.steps w.settings k false) ≡ false → refused w (record { worker = k; kind = Mark t }) ≡ or_else (waiting_cause w t) (refused_if (is_some (marks_at w.marks t)) Marking (words_cause w.settings (saturating_words (words_in l.machine (heap_of l t)))))
+  pub mark_answer : is_some (first_cause w.end w.steps w.settings k false) ≡ false → refused w (record { worker = k; kind = Mark t }) ≡ or_else (waiting_cause w t) (refused_if (is_some (marks_at w.marks t)) Marking (words_cause w.settings (saturating_words (words_in l.machine (heap_of l t)))))
   mark_answer h =
       refused_is w I (record { worker = k; kind = Mark t })
       ∙ (ap (λ o. or_else o (kind_refusal w.program w.settings l k (Mark t))) (none_of (first_cause w.end w.steps w.settings k false) h)
@@ -50,87 +51,62 @@ module _ (w : SharedValue) (I : IsSharedValue w) (k t : ℕ) where
       few : w.settings.inner < 2 ^ 32
       few = let h = I.settings.inner.1 in omega (arith, h)
 
-  -- in their order
-  pub mark_as_waiting : (o : Option Refused) → is_some (first_cause w.end w.steps w.settings k false) ≡ false → o ≡ waiting_cause w t → is_some o ≡ true → o ≡ refused w (record { worker = k; kind = Mark t })
-  mark_as_waiting o h is some = is ∙ (found_first (waiting_cause w t) _ (ap is_some (sym is) ∙ some) ∙ sym (mark_answer h))
-
-  pub mark_as_marking : (o : Option Refused) → is_some (first_cause w.end w.steps w.settings k false) ≡ false → o ≡ waiting_cause w t → is_some o ≡ false → is_some (marks_at w.marks t) ≡ true → Some Marking ≡ refused w (record { worker = k; kind = Mark t })
-  mark_as_marking o h is none marked =
-      ap (λ b. refused_if b Marking (words_cause w.settings (saturating_words (words_in l.machine (heap_of l t))))) (sym marked)
-      ∙ (nothing_first (waiting_cause w t) _ (ap is_some (sym is) ∙ none) ∙ sym (mark_answer h))
-
-  pub mark_as_words : (o : Option Refused) → is_some (first_cause w.end w.steps w.settings k false) ≡ false → o ≡ waiting_cause w t → is_some o ≡ false → is_some (marks_at w.marks t) ≡ false
-      → words_cause w.settings (saturating_words (words_in l.machine (heap_of l t))) ≡ refused w (record { worker = k; kind = Mark t })
-  mark_as_words o h is none unmarked =
-      ap (λ b. refused_if b Marking (words_cause w.settings (saturating_words (words_in l.machine (heap_of l t))))) (sym unmarked)
-      ∙ (nothing_first (waiting_cause w t) _ (ap is_some (sym is) ∙ none) ∙ sym (mark_answer h))
-
-  some_answer : (n : ℕ) → is_some (first_cause w.end w.steps w.settings k false) ≡ false → refused w (record { worker = k; kind = More t n }) ≡ or_else (marking_cause w t) (refused_if (left_in (heap_of l t) == 0) Marked None)
+  pub some_answer : (n : ℕ) → is_some (first_cause w.end w.steps w.settings k false) ≡ false → refused w (record { worker = k; kind = More t n }) ≡ or_else (marking_cause w t) (refused_if (left_in (heap_of l t) == 0) Marked None)
   some_answer n h =
       refused_is w I (record { worker = k; kind = More t n })
       ∙ (ap (λ o. or_else o (kind_refusal w.program w.settings l k (More t n))) (none_of (first_cause w.end w.steps w.settings k false) h) ∙ (marks_refuse w k t I (on_is w I k false h)).more n)
 
-  pub some_as_marking : (n : ℕ) (o : Option Refused) → is_some (first_cause w.end w.steps w.settings k false) ≡ false → o ≡ marking_cause w t → is_some o ≡ true → o ≡ refused w (record { worker = k; kind = More t n })
-  some_as_marking n o h is some = is ∙ (found_first (marking_cause w t) _ (ap is_some (sym is) ∙ some) ∙ sym (some_answer n h))
-
-  pub some_as_left : (n : ℕ) (o : Option Refused) → is_some (first_cause w.end w.steps w.settings k false) ≡ false → o ≡ marking_cause w t → is_some o ≡ false → (b : Bool) → b ≡ (left_in (heap_of l t) == 0)
-      → refused_if b Marked None ≡ refused w (record { worker = k; kind = More t n })
-  some_as_left n o h is none b left = ap (λ z. refused_if z Marked None) left ∙ (nothing_first (marking_cause w t) _ (ap is_some (sym is) ∙ none) ∙ sym (some_answer n h))
-
   -- what follows if an entry isn't refused
-  pub mark_waits : refused w (record { worker = k; kind = Mark t }) ≡ None → waiting_cause w t ≡ None
-  mark_waits free =
+  pub mark_asks : refused w (record { worker = k; kind = Mark t }) ≡ None → AsksWaiting w t
+  mark_asks free =
       let on = entry_on w (record { worker = k; kind = Mark t }) free in
-      (or_none (waiting_cause w t) _ (sym (marks_refuse w k t I on).mark ∙ kind_free w (record { worker = k; kind = Mark t }) free)).0
+      record { I = I; on = on; free = (or_none (waiting_cause w t) _ (sym (marks_refuse w k t I on).mark ∙ kind_free w (record { worker = k; kind = Mark t }) free)).0 }
 
-  pub some_marks : (n : ℕ) → refused w (record { worker = k; kind = More t n }) ≡ None → marking_cause w t ≡ None
-  some_marks n free =
+  pub some_asks : (n : ℕ) → refused w (record { worker = k; kind = More t n }) ≡ None → AsksMarked w t
+  some_asks n free =
       let on = entry_on w (record { worker = k; kind = More t n }) free in
-      (or_none (marking_cause w t) _ (sym ((marks_refuse w k t I on).more n) ∙ kind_free w (record { worker = k; kind = More t n }) free)).0
-
--- THE WORDS of the heap of a waiting task
-pub words_now : (w : SharedValue) (I : IsSharedValue w) (t : ℕ) (on : (accounts w).end ≡ None) → waiting_cause w t ≡ None → (r : ParkedTask) → rest_at w.rests t ≡ Some r → words_in (accounts w).machine (heap_of (accounts w) t) ≡ held_words r.heap.chunks
-words_now w I t on free r there =
-    let l : Ledger = accounts w in
-    let wait = task_slots.wait w I on t free in
-    words_are (value_of w) l t r.heap.chunks (stands_now w I on).belongings (waiting_rests w I on t wait)
-    (chunks_at_rest w t r there) (I.heaps t r there).tidy
+      record { I = I; on = on; free = (or_none (marking_cause w t) _ (sym ((marks_refuse w k t I on).more n) ∙ kind_free w (record { worker = k; kind = More t n }) free)).0 }
 
 -- what it keeps
 pub kept_noted : (o : Option SetOf) → kept_of o ≡ (noted_in o).kept
 kept_noted None = refl
 kept_noted (Some s) = refl
 
--- THE MARKING that begins
-pub mark_goes : (w : SharedValue) (I : IsSharedValue w) (t : ℕ) (on : (accounts w).end ≡ None) → waiting_cause w t ≡ None → (r : ParkedTask) → rest_at w.rests t ≡ Some r → (m : MarkingValue) → ((kept : List Addr) → IsOf r.heap.chunks kept m)
-    → ((f : Fork) (kept : List Addr) → f.roots ≡ starts_of w t → ((a : Addr) → HasObjectAt f.heap a ↔ HasObjectAt r.heap.chunks a) → IsMarking f kept m) → CanGoOnMarking (value_of w) t (heap_of (accounts w) t).snapshot m
-mark_goes w I t on free r there m own marking =
-    let wait = task_slots.wait w I on t free in
-    marks_begin w t r (starts_of w t) m I on there wait (task_slots.keeps w I on t free) (starts_are w I on t r there wait) (own (kept (value_of w) t))
-    (marking (record { heap = r.heap.chunks; roots = starts_of w t }) (kept (value_of w) t) refl (λ a. ((λ h. h), (λ h. h))))
+module _ {w : SharedValue} {t : ℕ} (asks : AsksWaiting w t) where
+  open asks use {I, on}
+  open (heap_names w t) use {v, a}
 
-pub mark_holds : (w : SharedValue) (I : IsSharedValue w) (t : ℕ) (on : (accounts w).end ≡ None) → waiting_cause w t ≡ None → (r : ParkedTask) → rest_at w.rests t ≡ Some r → All (HasObjectAt r.heap.chunks) (starts_of w t)
-mark_holds w I t on free r there = starts_held w I on t r there (task_slots.wait w I on t free) (task_slots.keeps w I on t free)
+  abbrev ss : List RefField
+  ss = sources_of (slice_get w.sets t)
 
-pub mark_fields : (w : SharedValue) (I : IsSharedValue w) (t : ℕ) (on : (accounts w).end ≡ None) → waiting_cause w t ≡ None → AreFields resting_references (heaps_of w) (sources_of (slice_get w.sets t))
-mark_fields w I t on free = let r = task_slots.rest w I on t free in fields_there w I on t r.0 r.1 (task_slots.wait w I on t free)
+  -- THE WORDS of the heap
+  pub words_now : (r : ParkedTask) → rest_at w.rests t ≡ Some r → words_in (accounts w).machine a ≡ held_words r.heap.chunks
+  words_now r there = words_are v (accounts w) t r.heap.chunks (stands_now w I on).belongings (waiting_rests w I on t (task_slots.wait asks)) (chunks_at_rest w t r there) (I.heaps t r there).tidy
 
--- it begins at objects of the heap
-pub mark_starts : (w : SharedValue) (I : IsSharedValue w) (t : ℕ) (on : (accounts w).end ≡ None) → waiting_cause w t ≡ None → IfSome (rest_at w.rests t) (λ r. All (HasObjectAt r.heap.chunks) (starts_in (heaps_of w) (sources_of (slice_get w.sets t)) r))
-mark_starts w I t on free = mark_starts_by_cases (rest_at w.rests t) refl
-  where
-    mark_starts_by_cases : (o : Option ParkedTask) → rest_at w.rests t ≡ o → IfSome o (λ r. All (HasObjectAt r.heap.chunks) (starts_in (heaps_of w) (sources_of (slice_get w.sets t)) r))
-    mark_starts_by_cases None e = tt
-    mark_starts_by_cases (Some r) e = subst (λ xs. All (HasObjectAt r.heap.chunks) xs) (ap (starts_by (heaps_of w) (sources_of (slice_get w.sets t))) e) (mark_holds w I t on free r e)
+  -- THE MARKING that begins
+  mark_goes : (r : ParkedTask) → rest_at w.rests t ≡ Some r → (m : MarkingValue) → ((kept : List Addr) → IsOf r.heap.chunks kept m)
+      → ((f : Fork) (kept : List Addr) → f.roots ≡ starts_of w t → ((a : Addr) → HasObjectAt f.heap a ↔ HasObjectAt r.heap.chunks a) → IsMarking f kept m) → CanGoOnMarking v t a.snapshot m
+  mark_goes r there m own marking =
+      marks_begin w t r (starts_of w t) m I on there (task_slots.wait asks) (task_slots.keeps asks) (starts_are w I on t r there (task_slots.wait asks)) (own (kept v t))
+      (marking (record { heap = r.heap.chunks; roots = starts_of w t }) (kept v t) refl (λ a. ((λ h. h), (λ h. h))))
 
--- and goes on to exactly the snapshot
-pub mark_begun : (w : SharedValue) (I : IsSharedValue w) (t : ℕ) (on : (accounts w).end ≡ None) → waiting_cause w t ≡ None → (m : MarkingValue) → IfSome (rest_at w.rests t) (λ r. MarkingHasBegun r.heap.chunks (starts_in (heaps_of w) (sources_of (slice_get w.sets t)) r) m)
-    → (m.marked ≡ 0) × CanGoOnMarking (value_of w) t (heap_of (accounts w) t).snapshot m
-mark_begun w I t on free m B =
-    let r = task_slots.rest w I on t free in
-    let P : Option ParkedTask → Type 0 = λ o. IfSome o (λ x. MarkingHasBegun x.heap.chunks (starts_in (heaps_of w) (sources_of (slice_get w.sets t)) x) m) in
-    let b : MarkingHasBegun r.0.heap.chunks (starts_in (heaps_of w) (sources_of (slice_get w.sets t)) r.0) m = subst P r.1 B in
-    (b.none, mark_goes w I t on free r.0 r.1 m b.own (λ f kept e. b.marking f kept (e ∙ ap (starts_by (heaps_of w) (sources_of (slice_get w.sets t))) r.1)))
+  pub mark_fields : AreFields resting_references (heaps_of w) ss
+  mark_fields = let r = task_slots.rest asks in fields_there w I on t r.0 r.1 (task_slots.wait asks)
+
+  -- it begins at objects of the heap
+  pub mark_starts : IfSome (rest_at w.rests t) (λ r. All (HasObjectAt r.heap.chunks) (starts_in (heaps_of w) ss r))
+  mark_starts = mark_starts_by_cases (rest_at w.rests t) refl
+    where
+      mark_starts_by_cases : (o : Option ParkedTask) → rest_at w.rests t ≡ o → IfSome o (λ r. All (HasObjectAt r.heap.chunks) (starts_in (heaps_of w) ss r))
+      mark_starts_by_cases None e = tt
+      mark_starts_by_cases (Some r) e = subst (All (HasObjectAt r.heap.chunks)) (ap (starts_by (heaps_of w) ss) e) (starts_held w I on t r e (task_slots.wait asks) (task_slots.keeps asks))
+
+  -- and goes on to exactly the snapshot
+  pub mark_begun : (m : MarkingValue) → IfSome (rest_at w.rests t) (λ r. MarkingHasBegun r.heap.chunks (starts_in (heaps_of w) ss r) m) → (m.marked ≡ 0) × CanGoOnMarking v t a.snapshot m
+  mark_begun m B =
+      let r = task_slots.rest asks in
+      let b : MarkingHasBegun r.0.heap.chunks (starts_in (heaps_of w) ss r.0) m = subst (λ (o : Option ParkedTask). IfSome o (λ x. MarkingHasBegun x.heap.chunks (starts_in (heaps_of w) ss x) m)) r.1 B in
+      (b.none, mark_goes r.0 r.1 m b.own (λ f kept e. b.marking f kept (e ∙ ap (starts_by (heaps_of w) ss) r.1)))
 
 -- WHAT THEY KEEP
 
@@ -140,10 +116,8 @@ module _ (w : SharedValue) (I : IsSharedValue w) (k t : ℕ) (m : MarkingValue) 
       → IsSharedValue (marked_more w (record { worker = k; kind = Mark t }) marks room) × EachPartStillFits w (marked_more w (record { worker = k; kind = Mark t }) marks room)
   mark_enters free none G =
       let l : Ledger = accounts w in
-      let on = entry_on w (record { worker = k; kind = Mark t }) free in
-      let waits = mark_waits w I k t free in
       let S : SoundLedger l = legal_sound w.program w.settings w.journal.items I.legal in
-      let x = task_slots.task w I on t waits in
+      let x = task_slots.task (mark_asks w I k t free) in
       let h = heap_there l.machine.tasks l.heaps t S.lengths (got_within l.machine.tasks t x.0 x.1) in
       let f : Heap → Heap = λ h. record h { marked = Some 0 } in
       let then_ : (heap_of (with_heap l t f) t).marked ≡ Some 0 = ap (λ o. (or_fresh o).marked) (with_at l t f ∙ ap (heap_then f) h.1) in
@@ -153,17 +127,14 @@ module _ (w : SharedValue) (I : IsSharedValue w) (k t : ℕ) (m : MarkingValue) 
 module _ (w : SharedValue) (I : IsSharedValue w) (k t n : ℕ) (free : refused w (record { worker = k; kind = More t n }) ≡ None) (r : ParkedTask) (m m' : MarkingValue) (count : ℕ) (there : rest_at w.rests t ≡ Some r) (at : marks_at w.marks t ≡ Some m)
     (own : IsOf r.heap.chunks (kept (value_of w) t) m') (sum : m'.marked ≡ m.marked + count) (most : count ≤ n) (marking : (f : Fork) → IsSince f (kept (value_of w) t) r.heap.chunks → IsMarking f (kept (value_of w) t) m → IsMarking f (kept (value_of w) t) m')
     (left : (f : Fork) → IsSince f (kept (value_of w) t) r.heap.chunks → IsMarking f (kept (value_of w) t) m → count < n → IsAllMarked f (kept (value_of w) t) m') where
-  on : (accounts w).end ≡ None
-  on = entry_on w (record { worker = k; kind = More t n }) free
-
-  marks_now : marking_cause w t ≡ None
-  marks_now = some_marks w I k t n free
+  abbrev asked : AsksMarked w t
+  asked = some_asks w I k t n free
 
   goes : CanGoOnMarking (value_of w) t (heap_of (accounts w) t).snapshot m'
-  goes = (further w I on t marks_now r m there at).further m' own marking
+  goes = (further asked r m there at).further m' own marking
 
   counts : (count ≡ min n (left_in (heap_of (accounts w) t))) × ((heap_of (after w.program w.settings (accounts w) (record { worker = k; kind = More t n })) t).marked ≡ Some (length (marked_of m')))
-  counts = marks_count w k t r m m' n count I on there (wait w I on t marks_now) (keeps w I on t marks_now) at goes sum most (λ lt f since is. left f since is lt)
+  counts = marks_count w k t r m m' n count I asked.on there (wait asked) (keeps asked) at goes sum most (λ lt f since is. left f since is lt)
 
   pub some_count : count ≡ min n (left_in (heap_of (accounts w) t))
   some_count = counts.0

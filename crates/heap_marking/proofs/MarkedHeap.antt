@@ -1,9 +1,10 @@
 -- What is known of a heap that is being marked.
-use Rattle.heap_marking.proofs.Common.{◌≡◌, ◌==◌, ◌↔◌, ℕ, ◌<◌, Bool, true, false, IsTrue, Option, Some, None, List, is_some, length, slice_get, refl, sym, subst, option_flatten, eqb-true, got_within, is_waiting, Ledger, Refused, NotMarking, refused_unless, heap_of, left_in, IsAllMarked, IsMarking, MarkingValue, Fork, IsSince, MarkedBy, kept, Memory, ParkedTask, or_else, SharedValue, accounts, marks_at, rest_at, value_of, IsSharedValue, stands_now, marking_cause, waiting_cause, Further, MarkedHeapStands}
+use Rattle.heap_marking.proofs.Common.{◌≡◌, ◌==◌, ◌↔◌, ℕ, ◌<◌, Bool, true, false, IsTrue, Option, Some, None, List, is_some, length, slice_get, refl, sym, subst, option_flatten, eqb-true, got_within, is_waiting, Refused, NotMarking, refused_unless, heap_of, left_in, IsAllMarked, IsMarking, MarkingValue, Fork, IsSince, MarkedBy, kept, ParkedTask, or_else, SharedValue, marks_at, rest_at, value_of, stands_now, waiting_cause, Further, MarkedHeapStands}
 use Rattle.std.proofs.lemmas.Bool.{eq-eqb}
 use Rattle.heap_marking.proofs.MarkingGoesOn.{marks_go_further}
 use Rattle.heap_marking.proofs.WaitingSlot as task_slots
 use Rattle.heap_marking.proofs.WaitingSlot.{some_of}
+use Rattle.heap_marking.proofs.HeapAsked.{AsksMarked, AsksWaiting, heap_names}
 
 -- there is no cause
 or_none : (o : Option Refused) (b : Bool) → or_else o (refused_unless b NotMarking None) ≡ None → (o ≡ None) × (b ≡ true)
@@ -11,30 +12,30 @@ or_none (Some c) b e = absurd cc
 or_none None false e = absurd cc
 or_none None true e = (refl, refl)
 
-module _ (w : SharedValue) (I : IsSharedValue w) (on : (accounts w).end ≡ None) (t : ℕ) (free : marking_cause w t ≡ None) where
-  abbrev l : Ledger
-  l = accounts w
-
-  abbrev v : Memory
-  v = value_of w
+module _ {w : SharedValue} {t : ℕ} (asks : AsksMarked w t) where
+  open asks use {I, on, free}
+  open (heap_names w t) use {l, v}
 
   tells : (waiting_cause w t ≡ None) × (is_some (marks_at w.marks t) ≡ true)
   tells = or_none (waiting_cause w t) (is_some (marks_at w.marks t)) free
 
+  abbrev waiting : AsksWaiting w t
+  waiting = record { I = I; on = on; free = tells.0 }
+
   pub wait : is_waiting (slice_get l.machine.tasks t) ≡ true
-  wait = task_slots.wait w I on t tells.0
+  wait = task_slots.wait waiting
 
   pub keeps : ((value_of w).noted t).keeps ≡ true
-  keeps = task_slots.keeps w I on t tells.0
+  keeps = task_slots.keeps waiting
 
   pub rest : (r : ParkedTask) × (rest_at w.rests t ≡ Some r)
-  rest = task_slots.rest w I on t tells.0
+  rest = task_slots.rest waiting
 
   pub marks : (m : MarkingValue) × (marks_at w.marks t ≡ Some m)
   marks = some_of (marks_at w.marks t) tells.1
 
   pub never_gone : rest_at w.rests t ≡ None → ⊥
-  never_gone = task_slots.never_gone w I on t tells.0
+  never_gone = task_slots.never_gone waiting
 
   pub never_unmarked : marks_at w.marks t ≡ None → ⊥
   never_unmarked none = never_unmarked_by_cases (marks_at w.marks t) none tells.1
@@ -81,6 +82,7 @@ module _ (w : SharedValue) (I : IsSharedValue w) (on : (accounts w).end ≡ None
 
 pub marked_heap_stands : MarkedHeapStands
 marked_heap_stands w t I on free =
-    let r = rest w I on t free in
-    let m = marks w I on t free in
-    record { wait = wait w I on t free; keeps = keeps w I on t free; rest = r.0; there = r.1; marks = m.0; at = m.1; further = further w I on t free r.0 m.0 r.1 m.1; left = left_by w I on t free r.0 m.0 r.1 m.1 }
+    let asks : AsksMarked w t = record { I = I; on = on; free = free } in
+    let r = rest asks in
+    let m = marks asks in
+    record { wait = wait asks; keeps = keeps asks; rest = r.0; there = r.1; marks = m.0; at = m.1; further = further asks r.0 m.0 r.1 m.1; left = left_by asks r.0 m.0 r.1 m.1 }

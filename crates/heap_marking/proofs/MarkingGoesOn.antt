@@ -1,15 +1,12 @@
 -- A marking that can go on marks more: what it requires of the heap, and that it can go on afterwards.
-use Rattle.heap_marking.proofs.Common.{◌≡◌, ◌⊎◌, ◌↔◌, ℕ, ◌+◌, ◌<◌, ◌≤◌, true, Some, None, List, All, Contains, length, slice_get, inl, inr, ap, sym, subst, ◌∙◌, contains_from_in, in_from_contains, all_from, reached_more, reached_within, is_waiting, wait_there, Ledger, heap_of, held_in, left_in, snapshots_are_held, legal_sound, Addr, cell_of, object_count, ChunkValue, HeapIsClosed, HasObjectAt, RefersTo, Located, IsAllMarked, IsMarking, IsOf, MarkingValue, marked_of, Fork, IsInSnapshot, IsSince, MarkStarts, In, Memory, object_name, objects, objects_of_chunks, LeadsAt, CanGoOnMarking, MarksStand, kept, StandsFor, marks_are_all, snapshot_now, IsReachedNow, StartsNow, lies_in, ParkedTask, SharedValue, accounts, rest_at, tree_counts_of, value_of, HeapForm, IsSharedValue, objects_counted, stands_now, MarksGoFurther}
+use Rattle.heap_marking.proofs.Common.{◌≡◌, ◌⊎◌, ◌↔◌, ℕ, ◌+◌, ◌<◌, ◌≤◌, true, Some, None, List, All, Contains, length, slice_get, inl, inr, ap, sym, subst, ◌∙◌, contains_from_in, in_from_contains, all_from, reached_more, reached_within, is_waiting, wait_there, heap_of, held_in, left_in, snapshots_are_held, legal_sound, Addr, cell_of, object_count, ChunkValue, HeapIsClosed, HasObjectAt, RefersTo, Located, IsAllMarked, IsMarking, IsOf, MarkingValue, marked_of, Fork, IsInSnapshot, IsSince, MarkStarts, In, object_name, objects, objects_of_chunks, LeadsAt, CanGoOnMarking, MarksStand, kept, StandsFor, marks_are_all, snapshot_now, IsReachedNow, StartsNow, lies_in, ParkedTask, SharedValue, accounts, rest_at, tree_counts_of, value_of, HeapForm, IsSharedValue, objects_counted, stands_now, MarksGoFurther}
 use Rattle.heap_marking.proofs.HeapClosed.{closed as is_closed}
 use Rattle.heap_marking.proofs.MarkBegun as begun
+use Rattle.heap_marking.proofs.HeapAsked.{heap_names}
 
 module _ (w : SharedValue) (I : IsSharedValue w) (on : (accounts w).end ≡ None) (t : ℕ) (r : ParkedTask) (there : rest_at w.rests t ≡ Some r) (wait : is_waiting (slice_get (accounts w).machine.tasks t) ≡ true) (keeps : ((value_of w).noted t).keeps ≡ true)
     (m : MarkingValue) (G : CanGoOnMarking (value_of w) t (heap_of (accounts w) t).snapshot m) where
-  abbrev l : Ledger
-  l = accounts w
-
-  abbrev v : Memory
-  v = value_of w
+  open (heap_names w t) use {l, v}
 
   abbrev ks : List ChunkValue
   ks = r.heap.chunks

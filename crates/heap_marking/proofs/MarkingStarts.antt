@@ -1,7 +1,8 @@
 -- The start of the marking of a waiting heap, computed from its words, is its start by the accounts.
-use Rattle.heap_marking.proofs.Common.{◌≡◌, ◌↔◌, ℕ, true, All, Option, Some, None, List, [], ◌∷◌, slice_get, inl, inr, refl, ap, sym, subst, ◌∙◌, flat_map, in_append_cases, in_append_left, in_append_right, in_flat, all_from, TaskStatus, Running, Waiting, Ended, Joined, Task, Name, is_waiting, waits, wait_there, Ledger, Addr, has_chunk, ChunkValue, HasObjectAt, Located, CallFrame, frames_of, RefField, AreFields, into, targets_of, references_in, Rests, AreRoots, HoldsAt, FramesAreRead, HoldsRead, LiesWithOwner, MemoryStands, Belongings, In, Memory, objects, objects_of_chunks, sources, from_flat, lies_in, frame_name, ParkedTask, Work, Calls, Result, resting_references, chunks_of, heaps_of, sources_of, SharedValue, accounts, frames_down, belongings_by, belongings_in, belongings_of, rest_at, value_of, IsSharedValue, stands_now, into_tells, into_there, read_at_rest, noted_sources, IsStart, registers_of, starts_by, starts_in, starts_of}
+use Rattle.heap_marking.proofs.Common.{◌≡◌, ◌↔◌, ℕ, true, All, Option, Some, None, List, [], ◌∷◌, slice_get, inl, inr, refl, ap, sym, subst, ◌∙◌, flat_map, in_append_cases, in_append_left, in_append_right, in_flat, all_from, TaskStatus, Running, Waiting, Ended, Joined, Task, Name, is_waiting, waits, wait_there, Addr, has_chunk, ChunkValue, HasObjectAt, Located, CallFrame, frames_of, RefField, AreFields, into, targets_of, references_in, Rests, AreRoots, HoldsAt, FramesAreRead, HoldsRead, LiesWithOwner, MemoryStands, Belongings, In, objects, objects_of_chunks, sources, from_flat, lies_in, frame_name, ParkedTask, Work, Calls, Result, resting_references, chunks_of, heaps_of, sources_of, SharedValue, accounts, frames_down, belongings_by, belongings_in, belongings_of, rest_at, value_of, IsSharedValue, stands_now, into_tells, into_there, read_at_rest, noted_sources, IsStart, registers_of, starts_by, starts_in, starts_of}
 use Rattle.core_invariant.proofs.RootsHeld as held
 use Rattle.heap_marking.proofs.MarkBegun as begun
+use Rattle.heap_marking.proofs.HeapAsked.{heap_names}
 
 -- REGISTERS: the references of frames, in the order of the stack and in that of belongings
 abbrev seen_frames : Work → List CallFrame
@@ -37,11 +38,7 @@ frames_read at h x Joined e k = absurd cc
 
 -- A WAITING TASK, with its parked state
 module _ (w : SharedValue) (I : IsSharedValue w) (on : (accounts w).end ≡ None) (t : ℕ) (r : ParkedTask) (there : rest_at w.rests t ≡ Some r) (wait : is_waiting (slice_get (accounts w).machine.tasks t) ≡ true) where
-  abbrev l : Ledger
-  l = accounts w
-
-  abbrev v : Memory
-  v = value_of w
+  open (heap_names w t) use {l, v}
 
   abbrev ks : List ChunkValue
   ks = r.heap.chunks

@@ -4,6 +4,7 @@ use Rattle.heap_marking.proofs.MarkCauses.{marks_refuse}
 use Rattle.heap_marking.proofs.SweptBelongings as swept
 use Rattle.heap_marking.proofs.SweptStart as start
 use Rattle.heap_marking.proofs.SweptUnits.{sweep_is}
+use Rattle.heap_marking.proofs.HeapAsked.{AsksMarked, heap_names}
 
 -- WHAT FOLLOWS FROM THE ENTRY
 pub record SweepTells (w : SharedValue) (t given : ℕ) : Type 0 where
@@ -50,33 +51,33 @@ module _ (w : SharedValue) (k t given : ℕ) (I : IsSharedValue w) (free : refus
   pub T : SweepTells w t given
   T = sweep_tells w k t given I free
 
-  abbrev l : Ledger
-  l = accounts w
+  open (heap_names w t) use {l, v}
 
-  abbrev v : Memory
-  v = value_of w
+  -- the heap is being marked
+  abbrev asked : AsksMarked w t
+  asked = record { I = I; on = on; free = T.cause }
 
   abbrev L : Ledger
   L = with_heap l t swept_heap
 
   abbrev pub r : ParkedTask
-  r = (start.Z w I on t T.cause).rest
+  r = (start.Z asked).rest
 
   abbrev pub m : MarkingValue
-  m = (start.Z w I on t T.cause).marks
+  m = (start.Z asked).marks
 
   pub rest_is_there : rest_at w.rests t ≡ Some r
-  rest_is_there = (start.Z w I on t T.cause).there
+  rest_is_there = (start.Z asked).there
 
   pub marked : marks_at w.marks t ≡ Some m
-  marked = (start.Z w I on t T.cause).at
+  marked = (start.Z asked).at
 
   -- it can be swept
   pub can : CanSweep r.heap m w.pool
   can = record {
-    done = start.done w I on t T.cause T.none_left;
-    room = (start.Z w I on t T.cause).further.own.room;
-    in_use = all_from (λ (c : ChunkValue). IsSome (slot_at w.pool c.number)) r.heap.chunks (λ c i. is_there (slot_at w.pool c.number) _ (swept.measured_was w I on t T.cause T.none_left c i));
+    done = start.done asked T.none_left;
+    room = (start.Z asked).further.own.room;
+    in_use = all_from (λ (c : ChunkValue). IsSome (slot_at w.pool c.number)) r.heap.chunks (λ c i. is_there (slot_at w.pool c.number) _ (swept.measured_was asked T.none_left c i));
   }
 
   pub has_slot : IsSome (rest_at w.rests t)
@@ -91,7 +92,7 @@ module _ (w : SharedValue) (k t given : ℕ) (I : IsSharedValue w) (free : refus
   module _ (pool : PoolValue) (G : AreGiven w.pool pool (gone_of r.heap (marked_of m))) (slots spare : ℕ) (sets : List SetOf) (many : length sets ≡ length w.sets) (kept_none : content_at sets t ≡ option_map (keeping false) (content_at w.sets t))
       (others : (u : ℕ) → u ≢ t → slice_get sets u ≡ slice_get w.sets u) (room : ℕ) where
     abbrev rest' : ParkedTask
-    rest' = swept.rest' w I on t T.cause T.none_left pool G slots spare
+    rest' = swept.rest' asked T.none_left pool G slots spare
 
     abbrev pub rests : List (Option ParkedTask)
     rests = slice_set w.rests t (Some rest')
@@ -106,7 +107,7 @@ module _ (w : SharedValue) (k t given : ℕ) (I : IsSharedValue w) (free : refus
     enters = record { journal = refl; program = refl; settings = refl; halted = refl }
 
     keeps_units : (u : ℕ) → (u ≡ t → ⊥) → KeepsUnits w.pool pool u
-    keeps_units u ne = given_keeps w.pool pool (gone_of r.heap (marked_of m)) t u G (swept.owned_gone w I on t T.cause T.none_left) ne
+    keeps_units u ne = given_keeps w.pool pool (gone_of r.heap (marked_of m)) t u G (swept.owned_gone asked T.none_left) ne
 
     changes : ChangesRest w w' t (Some rest')
     changes = record { rests = refl; there = got_within w.rests t (Some r) (some_flat (slice_get w.rests t) r rest_is_there); keeps = keeps_units; free = λ u ne y. y }
@@ -124,7 +125,7 @@ module _ (w : SharedValue) (k t given : ℕ) (I : IsSharedValue w) (free : refus
     ]
 
     keeps : KeepsJust v v' l L t (heap_of l t).snapshot
-    keeps = swept.keeps_just w I on t T.cause T.none_left pool G slots spare v' L (ap belongings_in (rest_then I changes)) refl (swept.there_by l t (length (marked_of m)) (start.M w I on t T.cause).0.count) (heap_machine l t swept_heap)
+    keeps = swept.keeps_just asked T.none_left pool G slots spare v' L (ap belongings_in (rest_then I changes)) refl (swept.there_by l t (length (marked_of m)) (start.M asked).0.count) (heap_machine l t swept_heap)
         (λ u ne. ap belongings_in (rest_off I changes u ne)) sources_same
 
     notes : OthersNotes v v' t
@@ -136,7 +137,7 @@ module _ (w : SharedValue) (k t given : ℕ) (I : IsSharedValue w) (free : refus
     counts : CountsGo w.program w.settings l (tree_counts_of w) (tree_counts_of w') k (Sweep t given)
     counts = (
       record { node = λ u. refl; task_out = λ u. refl; steps = refl; outputs = refl },
-      (let g = G.units in let c = swept.units_go w I on t T.cause T.none_left in let s = sweep_is w I on t T.cause T.none_left in let n = T.number in omega (arith, g, c, s, n)),
+      (let g = G.units in let c = swept.units_go asked T.none_left in let s = sweep_is asked T.none_left in let n = T.number in omega (arith, g, c, s, n)),
       refl,
     )
 
@@ -146,11 +147,11 @@ module _ (w : SharedValue) (k t given : ℕ) (I : IsSharedValue w) (free : refus
     pub swept_world : IsSharedValue w'
     swept_world =
         entered_world I free enters
-        (changed_form I changes (λ x q. subst (IsWell pool t) (same_Some rest' x q) (swept.form_then w I on t T.cause T.none_left pool G slots spare, swept.measured_then w I on t T.cause T.none_left pool G slots spare)) refl many refl G.limit) stands
+        (changed_form I changes (λ x q. subst (IsWell pool t) (same_Some rest' x q) (swept.form_then asked T.none_left pool G slots spare, swept.measured_then asked T.none_left pool G slots spare)) refl many refl G.limit) stands
 
     -- a task that a worker holds is another one
     apart : (u : ℕ) (q : Private) → WorkerPartFits w u q → q.task ≡ t → ⊥
-    apart u q F s = none_some (sym (start.rests w I on t T.cause) ∙ (ap (λ z. (heap_of l z).worker) (sym s) ∙ F.out))
+    apart u q F s = none_some (sym (start.rests asked) ∙ (ap (λ z. (heap_of l z).worker) (sym s) ∙ F.out))
 
     pub swept_fits : EachPartStillFits w w'
     swept_fits u q F =

@@ -1,5 +1,5 @@
 -- A sweep leaves in a heap exactly what its snapshot names.
-use Rattle.heap_marking.proofs.Common.{◌≡◌, ℕ, ◌*◌, ◌/◌, arith, All, true, false, Option, Some, None, List, [], ◌∷◌, filter, length, option_map, slice_get, inl, inr, refl, ap, sym, subst, ◌∙◌, false≢true, not-true, same_Some, in_from_kept, in_kept, all_from, in_map, map_in, MachineState, row_of, is_joined, Heap, Ledger, heap_of, left_in, or_fresh, swept_heap, with_heap, holds_from_in, in_from_holds, Addr, ChunkValue, Located, Slot, PoolValue, slot_at, owner_of, slot_units, LeafHeapValue as HeapOfCode, IsFresh, room_of, with_places, unit_count, Level, marked_of, AreGiven, gone_of, goes, swept, units_in_slots, heap_then, with_at, KeepsJust, AreLaidOut, ChunksHaveNames, BelongingsStand, Belongings, In, Memory, object_name, objects, objects_of_chunks, sources, ParkedTask, Work, Calls, Result, AreMeasured, chunk_of, chunks_of, HeapForm, IsSharedValue, SharedValue, accounts, belongings_by, belongings_of, value_of, places_form, free_at_rest, inside_from, laid_from, same_chunk, belongings_chunks, fresh_by, owned_before, marking_cause}
+use Rattle.heap_marking.proofs.Common.{◌≡◌, ℕ, ◌*◌, ◌/◌, arith, All, true, false, Option, Some, None, List, [], ◌∷◌, filter, length, option_map, slice_get, inl, inr, refl, ap, sym, subst, ◌∙◌, false≢true, not-true, same_Some, in_from_kept, in_kept, all_from, in_map, map_in, MachineState, row_of, is_joined, Heap, Ledger, heap_of, left_in, or_fresh, swept_heap, with_heap, holds_from_in, in_from_holds, Addr, ChunkValue, Located, Slot, PoolValue, slot_at, owner_of, slot_units, LeafHeapValue as HeapOfCode, IsFresh, room_of, with_places, unit_count, Level, marked_of, AreGiven, gone_of, goes, swept, units_in_slots, heap_then, with_at, KeepsJust, AreLaidOut, ChunksHaveNames, BelongingsStand, Belongings, In, Memory, object_name, objects, objects_of_chunks, sources, ParkedTask, Work, Calls, Result, AreMeasured, chunk_of, chunks_of, HeapForm, SharedValue, accounts, belongings_by, belongings_of, places_form, free_at_rest, inside_from, laid_from, same_chunk, belongings_chunks, fresh_by, owned_before}
 use Rattle.core_invariant.specs.below.refinement.{Chunk}
 use Rattle.heap_marking.proofs.SweptCells.{is_there}
 use Rattle.heap_marking.proofs.SweptChunks.{gone, has, left, objects_left}
@@ -8,6 +8,7 @@ use Rattle.heap_marking.proofs.SweptPlaces.{left_was}
 use Rattle.heap_marking.proofs.SweptStart as start
 use Rattle.heap_marking.proofs.SweptStart.{room_there, since_there}
 use Rattle.heap_marking.proofs.SweptUnits.{know, names_left}
+use Rattle.heap_marking.proofs.HeapAsked.{AsksMarked, heap_names}
 
 -- the belongings of a task beside its heap
 abbrev frames_by : (h g : HeapOfCode) (view : List Level) (n : ℕ) (x : Work) → (belongings_by h view n x).frames ≡ (belongings_by g view n x).frames
@@ -44,37 +45,31 @@ there_by l t n some = there_by_cases (slice_get l.heaps t) refl
     there_by_cases None e = none_some (sym (ap (λ o. (or_fresh o).marked) e) ∙ some)
     there_by_cases (Some h) e = ap or_fresh (with_at l t swept_heap ∙ ap (heap_then swept_heap) e) ∙ sym (ap (λ o. swept_heap (or_fresh o)) e)
 
-module _ (w : SharedValue) (I : IsSharedValue w) (on : (accounts w).end ≡ None) (t : ℕ) (free : marking_cause w t ≡ None) (none_left : left_in (heap_of (accounts w) t) ≡ 0) where
-  abbrev l : Ledger
-  l = accounts w
-
-  abbrev v : Memory
-  v = value_of w
-
-  abbrev a : Heap
-  a = heap_of (accounts w) t
+module _ {w : SharedValue} {t : ℕ} (asks : AsksMarked w t) (none_left : left_in (heap_of (accounts w) t) ≡ 0) where
+  open asks use {I, on}
+  open (heap_names w t) use {l, v, a}
 
   abbrev pub r : ParkedTask
-  r = (start.Z w I on t free).rest
+  r = (start.Z asks).rest
 
   abbrev pub kept : List Addr
-  kept = marked_of (start.Z w I on t free).marks
+  kept = marked_of (start.Z asks).marks
 
   abbrev ks : List ChunkValue
   ks = r.heap.chunks
 
   F : HeapForm r.heap
-  F = start.form w I on t free
+  F = start.form asks
 
   abbrev now : List ChunkValue
   now = left kept r.heap.chunks
 
   abbrev plain : HeapOfCode
-  plain = form.plain kept r.heap F (start.none w I on t free) (start.large w I on t free)
+  plain = form.plain kept r.heap F (start.none asks) (start.large asks)
 
   -- WHAT IS RELEASED
   gone_is : gone_of r.heap kept ≡ gone kept ks
-  gone_is = form.gone_plain kept r.heap F (start.none w I on t free) (start.large w I on t free)
+  gone_is = form.gone_plain kept r.heap F (start.none asks) (start.large asks)
 
   gone_was : (c : ChunkValue) → In (gone kept ks) c → In ks c × (has kept c ≡ false)
   gone_was c i = let f = in_from_kept (goes kept None) ks c i in (f.0, not-true (has kept c) f.1)
@@ -86,10 +81,10 @@ module _ (w : SharedValue) (I : IsSharedValue w) (on : (accounts w).end ≡ None
       false≢true (sym g.1 ∙ (ap (has kept) (same_chunk ks c x F.shaped.apart g.0 i e) ∙ h)))
 
   owned_was : (c : ChunkValue) → In ks c → owner_of w.pool c.number ≡ Some t
-  owned_was c i = (start.H w I on t free).owned (chunk_of c) (subst (λ cs. In cs (chunk_of c)) (sym (start.chunks_here w I on t free)) (in_map chunk_of ks c i))
+  owned_was c i = (start.H asks).owned (chunk_of c) (subst (λ cs. In cs (chunk_of c)) (sym (start.chunks_here asks)) (in_map chunk_of ks c i))
 
   pub measured_was : AreMeasured w.pool t ks
-  measured_was = I.measured t r (start.Z w I on t free).there (free_at_rest w t I on (start.rests w I on t free))
+  measured_was = I.measured t r (start.Z asks).there (free_at_rest w t I on (start.rests asks))
 
   -- as the pool counts it
   pub units_go : units_in_slots w.pool (gone_of r.heap kept) ≡ unit_count (gone_of r.heap kept)
@@ -114,10 +109,10 @@ module _ (w : SharedValue) (I : IsSharedValue w) (on : (accounts w).end ≡ None
     rest' = record r { heap = heap' }
 
     heap_is : heap' ≡ with_places plain slots spare
-    heap_is = ap (λ h. with_places h slots spare) (form.swept_plain kept r.heap F (start.none w I on t free) (start.large w I on t free))
+    heap_is = ap (λ h. with_places h slots spare) (form.swept_plain kept r.heap F (start.none asks) (start.large asks))
 
     pub form_then : HeapForm heap'
-    form_then = subst HeapForm (sym heap_is) (places_form plain slots spare (form.plain_form kept r.heap F (start.none w I on t free) (start.large w I on t free)))
+    form_then = subst HeapForm (sym heap_is) (places_form plain slots spare (form.plain_form kept r.heap F (start.none asks) (start.large asks)))
 
     chunks_are : heap'.chunks ≡ now
     chunks_are = ap (λ (h : HeapOfCode). h.chunks) heap_is
@@ -144,10 +139,10 @@ module _ (w : SharedValue) (I : IsSharedValue w) (on : (accounts w).end ≡ None
       chunks_then = ap (λ (h : Belongings). h.chunks) belongings ∙ (belongings_chunks rest' ∙ ap chunks_of chunks_are)
 
       objects_then : objects v' t ≡ filter (is_there kept) (objects_of_chunks (chunks_of ks))
-      objects_then = ap objects_of_chunks chunks_then ∙ objects_left kept ks (form.filled kept r.heap F (start.none w I on t free) (start.large w I on t free))
+      objects_then = ap objects_of_chunks chunks_then ∙ objects_left kept ks (form.filled kept r.heap F (start.none asks) (start.large asks))
 
       objects_before : objects v t ≡ objects_of_chunks (chunks_of ks)
-      objects_before = ap objects_of_chunks (start.chunks_here w I on t free)
+      objects_before = ap objects_of_chunks (start.chunks_here asks)
 
       was : (o : Located) → In (objects v' t) o → In (objects v t) o × (is_there kept o ≡ true)
       was o i =
@@ -163,20 +158,20 @@ module _ (w : SharedValue) (I : IsSharedValue w) (on : (accounts w).end ≡ None
       belongings_then : BelongingsStand v' L t
       belongings_then = record {
         names = subst (λ cs. ChunksHaveNames cs (heap_of L t)) (sym chunks_then) (subst (ChunksHaveNames (chunks_of now)) (sym account)
-            (names_left kept l.machine a ks (form.filled kept r.heap F (start.none w I on t free) (start.large w I on t free)) (start.names w I on t free) (start.agree w I on t free none_left) (know w I on t free)));
+            (names_left kept l.machine a ks (form.filled kept r.heap F (start.none asks) (start.large asks)) (start.names asks) (start.agree asks none_left) (know asks)));
         room = ap (λ (h : Belongings). h.room) belongings ∙ (room_there rest' ∙ (ap room_of heap_is
-            ∙ (form.plain_room kept r.heap F (start.none w I on t free) (start.large w I on t free) a (start.names w I on t free).small (start.room w I on t free) (start.agree w I on t free none_left) ∙ sym (ap (λ (z : Heap). z.room) account))));
-        since = ap (λ (h : Belongings). h.since) belongings ∙ (since_there rest' ∙ (start.since w I on t free ∙ sym (ap (λ (z : Heap). z.since) account)));
-        count = λ live. ap (λ (h : Belongings). h.count) belongings ∙ (count_by heap' r.heap r.view r.allocations r.work ∙ (ap (λ (h : Belongings). h.count) (sym (start.own_belongings w I on t free))
-            ∙ ((start.H w I on t free).count (ap (λ (m : MachineState). is_joined (slice_get m.tasks t)) (sym machine) ∙ live) ∙ ap (λ (m : MachineState). length (row_of (slice_get m.store t))) (sym machine))));
+            ∙ (form.plain_room kept r.heap F (start.none asks) (start.large asks) a (start.names asks).small (start.room asks) (start.agree asks none_left) ∙ sym (ap (λ (z : Heap). z.room) account))));
+        since = ap (λ (h : Belongings). h.since) belongings ∙ (since_there rest' ∙ (start.since asks ∙ sym (ap (λ (z : Heap). z.since) account)));
+        count = λ live. ap (λ (h : Belongings). h.count) belongings ∙ (count_by heap' r.heap r.view r.allocations r.work ∙ (ap (λ (h : Belongings). h.count) (sym (start.own_belongings asks))
+            ∙ ((start.H asks).count (ap (λ (m : MachineState). is_joined (slice_get m.tasks t)) (sym machine) ∙ live) ∙ ap (λ (m : MachineState). length (row_of (slice_get m.store t))) (sym machine))));
         owned = λ c i.
             let x = chunk_was c i in
             ap (λ (f : ℕ → Option ℕ). f c.number) owner ∙ (ap (owner_of pool) (sym x.3) ∙ (ap (option_map (λ (h : Slot). h.owner)) (others x.0.number (left_off x.0 x.1 x.2)) ∙ owned_was x.0 x.1));
         inside = λ c o i j. inside_from now c o (subst (λ cs. In cs c) chunks_then i) j;
-        once = λ o q i j e. (start.H w I on t free).once o q (was o i).0 (was q j).0 e;
-        named = λ o q i j e. (start.H w I on t free).named o q (was o i).0 (was q j).0 e;
+        once = λ o q i j e. (start.H asks).once o q (was o i).0 (was q j).0 e;
+        named = λ o q i j e. (start.H asks).named o q (was o i).0 (was q j).0 e;
         laid = subst (λ cs. AreLaidOut cs (heap_of L t).reserved) (sym chunks_then) (subst (λ (z : Heap). AreLaidOut (chunks_of now) z.reserved) (sym account)
-            (laid_from plain (form.plain_formed kept r.heap F (start.none w I on t free) (start.large w I on t free)) a.reserved (start.nothing_reserved w I on t free)));
+            (laid_from plain (form.plain_formed kept r.heap F (start.none asks) (start.large asks)) a.reserved (start.nothing_reserved asks)));
       }
 
       pub keeps_just : ((u : ℕ) → (u ≡ t → ⊥) → v'.belongings u ≡ v.belongings u) → ((u : ℕ) → sources v' u ≡ sources v u) → KeepsJust v v' l L t a.snapshot
@@ -184,14 +179,14 @@ module _ (w : SharedValue) (I : IsSharedValue w) (on : (accounts w).end ≡ None
         belongings = belongings_then;
         stays = λ o i n.
             let j : In (objects_of_chunks (chunks_of ks)) o = subst (λ os. In os o) objects_before i in
-            subst (λ os. In os o) (sym objects_then) (in_kept (is_there kept) (objects_of_chunks (chunks_of ks)) o j (start.agree w I on t free none_left o j ∙ holds_from_in a.snapshot (object_name o) n));
+            subst (λ os. In os o) (sym objects_then) (in_kept (is_there kept) (objects_of_chunks (chunks_of ks)) o j (start.agree asks none_left o j ∙ holds_from_in a.snapshot (object_name o) n));
         only = λ o i.
             let x = was o i in
             let j : In (objects_of_chunks (chunks_of ks)) o = subst (λ os. In os o) objects_before x.0 in
-            (x.0, in_from_holds a.snapshot (object_name o) (sym (start.agree w I on t free none_left o j) ∙ x.1));
-        frames = ap (λ (h : Belongings). h.frames) belongings ∙ (frames_by heap' r.heap r.view r.allocations r.work ∙ ap (λ (h : Belongings). h.frames) (sym (start.own_belongings w I on t free)));
-        result = ap (λ (h : Belongings). h.result) belongings ∙ (result_by heap' r.heap r.view r.allocations r.work ∙ ap (λ (h : Belongings). h.result) (sym (start.own_belongings w I on t free)));
-        view = ap (λ (h : Belongings). h.view) belongings ∙ (view_by heap' r.heap r.view r.allocations r.work ∙ ap (λ (h : Belongings). h.view) (sym (start.own_belongings w I on t free)));
+            (x.0, in_from_holds a.snapshot (object_name o) (sym (start.agree asks none_left o j) ∙ x.1));
+        frames = ap (λ (h : Belongings). h.frames) belongings ∙ (frames_by heap' r.heap r.view r.allocations r.work ∙ ap (λ (h : Belongings). h.frames) (sym (start.own_belongings asks)));
+        result = ap (λ (h : Belongings). h.result) belongings ∙ (result_by heap' r.heap r.view r.allocations r.work ∙ ap (λ (h : Belongings). h.result) (sym (start.own_belongings asks)));
+        view = ap (λ (h : Belongings). h.view) belongings ∙ (view_by heap' r.heap r.view r.allocations r.work ∙ ap (λ (h : Belongings). h.view) (sym (start.own_belongings asks)));
         others = off;
         owners = λ n u ne o. ap (λ (f : ℕ → Option ℕ). f n) owner ∙ owners n u ne o;
         owned = λ n u o. owned n u (ap (λ (f : ℕ → Option ℕ). f n) (sym owner) ∙ o);

@@ -1,9 +1,10 @@
 -- What is known of a completely marked heap before it is swept.
-use Rattle.heap_marking.proofs.Common.{◌≡◌, ℕ, zero, suc, arith, not, true, Option, Some, None, slice_get, refl, ap, sym, subst, ◌∙◌, contains_from_in, in_from_contains, in_map, same_truth, TaskStatus, Running, Waiting, Ended, Joined, Task, is_running, is_waiting, runs, waits, Heap, Ledger, heap_of, held_in, left_in, holds_name, snapshots_are_held, holds_from_in, in_from_holds, chunks_are_used, room_of, IsDone, has_address, marked_of, has_in, in_has, all_marked_is_done, Rests, AreLaidOut, MarkedBy, kept as kept_of, ChunksHaveNames, BelongingsStand, Belongings, In, Memory, object_name, objects, objects_of_chunks, StandsFor, Located, marks_are_all, HasReservedUnits, ParkedTask, Work, Calls, Result, chunk_of, chunks_of, SharedValue, accounts, belongings_by, belongings_in, belongings_of, tree_counts_of, value_of, HeapForm, IsSharedValue, counted_from, reserved_none, stands_now, marking_cause, StandsMarked}
+use Rattle.heap_marking.proofs.Common.{◌≡◌, ℕ, zero, suc, arith, not, true, Option, Some, None, slice_get, refl, ap, sym, subst, ◌∙◌, contains_from_in, in_from_contains, in_map, same_truth, TaskStatus, Running, Waiting, Ended, Joined, Task, is_running, is_waiting, runs, waits, held_in, left_in, holds_name, snapshots_are_held, holds_from_in, in_from_holds, chunks_are_used, room_of, IsDone, has_address, marked_of, has_in, in_has, all_marked_is_done, Rests, AreLaidOut, MarkedBy, kept as kept_of, ChunksHaveNames, BelongingsStand, Belongings, In, object_name, objects, objects_of_chunks, StandsFor, Located, marks_are_all, HasReservedUnits, ParkedTask, Work, Calls, Result, chunk_of, chunks_of, SharedValue, belongings_by, belongings_in, belongings_of, tree_counts_of, HeapForm, counted_from, reserved_none, stands_now, StandsMarked}
 use Rattle.heap_marking.proofs.MarkBegun as begun
 use Rattle.heap_marking.proofs.MarkedHeap.{marked_heap_stands}
 use Rattle.heap_marking.proofs.SweptChunks.{Agrees}
 use Rattle.heap_marking.proofs.SweptForm.{HoldLarge}
+use Rattle.heap_marking.proofs.HeapAsked.{AsksMarked, heap_names}
 
 -- a task doesn't both run and wait
 apart : (o : Option Task) → is_running o ≡ true → is_waiting o ≡ true → ⊥
@@ -30,15 +31,9 @@ since_there r = since_there_by_cases r.work
     since_there_by_cases (Calls s) = refl
     since_there_by_cases (Result n b) = refl
 
-module _ (w : SharedValue) (I : IsSharedValue w) (on : (accounts w).end ≡ None) (t : ℕ) (free : marking_cause w t ≡ None) where
-  abbrev l : Ledger
-  l = accounts w
-
-  abbrev v : Memory
-  v = value_of w
-
-  abbrev a : Heap
-  a = heap_of (accounts w) t
+module _ {w : SharedValue} {t : ℕ} (asks : AsksMarked w t) where
+  open asks use {I, on, free}
+  open (heap_names w t) use {l, v, a}
 
   pub Z : StandsMarked w t
   Z = marked_heap_stands w t I on free

@@ -1,8 +1,9 @@
 -- How many units a sweep releases with its chunks: as the account says.
-use Rattle.heap_marking.proofs.Common.{◌≡◌, ℕ, zero, suc, ◌+◌, ◌-◌, ◌*◌, ◌^◌, ◌<◌, ◌≤◌, ◌==◌, ◌++◌, arith, Bool, true, false, cond, not, Option, Some, None, List, [], ◌∷◌, filter, length, length-append, map, min, sum_by, slice_get, inl, inr, refl, ap, ap₂, sym, subst, ◌∙◌, unwrap_or, flat_map, same_Some, length-map, map-append, length-take-le, sum_by-append, sum_by-cons, in_append_left, in_append_right, MachineState, Heap, Ledger, begun_in, heap_of, held, held_in, in_use, left_in, marked_in, or_fresh, small_in, sweep_number, swept_heap, units_in, units_sum, without_empty, words_at, words_sum, holds_name, heaps_fit, use_is_bounded, Addr, ChunkValue, Located, counted32, unit_count, IsDone, MarkingValue, marked_of, gone_of, found_few, words, MarkedBy, ChunksHaveNames, large_chunks, chunk_names, small_chunks, In, object_name, objects_of_chunks, ParkedTask, chunk_of, chunks_of, SharedValue, accounts, marks_at, rest_at, value_of, IsSharedValue, words_same, objects_counted, marking_cause}
+use Rattle.heap_marking.proofs.Common.{◌≡◌, ℕ, zero, suc, ◌+◌, ◌-◌, ◌*◌, ◌^◌, ◌<◌, ◌≤◌, ◌==◌, ◌++◌, arith, Bool, true, false, cond, not, Option, Some, None, List, [], ◌∷◌, filter, length, length-append, map, min, sum_by, slice_get, inl, inr, refl, ap, ap₂, sym, subst, ◌∙◌, unwrap_or, flat_map, same_Some, length-map, map-append, length-take-le, sum_by-append, sum_by-cons, in_append_left, in_append_right, MachineState, Heap, Ledger, begun_in, heap_of, held, held_in, in_use, left_in, marked_in, or_fresh, small_in, sweep_number, swept_heap, units_in, units_sum, without_empty, words_at, words_sum, holds_name, heaps_fit, use_is_bounded, Addr, ChunkValue, Located, counted32, unit_count, IsDone, MarkingValue, marked_of, gone_of, found_few, words, MarkedBy, ChunksHaveNames, large_chunks, chunk_names, small_chunks, In, object_name, objects_of_chunks, ParkedTask, chunk_of, chunks_of, SharedValue, marks_at, rest_at, value_of, words_same, objects_counted}
 use Rattle.heap_marking.proofs.SweptChunks.{Agrees, AreFilled, Goes, KnowWords, gone, large_left, large_units, left, many, small_left, units_gone}
 use Rattle.heap_marking.proofs.SweptForm.{filled, gone_plain}
 use Rattle.heap_marking.proofs.SweptStart as start
+use Rattle.heap_marking.proofs.HeapAsked.{AsksMarked, heap_names}
 
 -- THE NUMBER OF A SWEEP, of chunks with these names
 module _ (kept : List Addr) (m : MachineState) (a : Heap) (ks : List ChunkValue) (F : AreFilled ks) (N : ChunksHaveNames (chunks_of ks) a) (A : Agrees kept (holds_name a.snapshot) (objects_of_chunks (chunks_of ks))) (W : KnowWords kept m (objects_of_chunks (chunks_of ks))) where
@@ -110,21 +111,18 @@ module _ (m : MachineState) where
       omega (arith, both, small, large, few)
 
 -- OF A HEAP that is marked
-module _ (w : SharedValue) (I : IsSharedValue w) (on : (accounts w).end ≡ None) (t : ℕ) (free : marking_cause w t ≡ None) where
-  abbrev l : Ledger
-  l = accounts w
-
-  abbrev a : Heap
-  a = heap_of (accounts w) t
+module _ {w : SharedValue} {t : ℕ} (asks : AsksMarked w t) where
+  open asks use {I}
+  open (heap_names w t) use {l, a}
 
   abbrev marks : MarkingValue
-  marks = (start.Z w I on t free).marks
+  marks = (start.Z asks).marks
 
   abbrev ks : List ChunkValue
-  ks = (start.Z w I on t free).rest.heap.chunks
+  ks = (start.Z asks).rest.heap.chunks
 
   pub know : (o : Located) → In (objects_of_chunks (chunks_of ks)) o → words_at l.machine (object_name o) ≡ words o
-  know o i = words_same (value_of w) l t ks (start.S w I on t free).belongings (start.rests w I on t free) (start.chunks_here w I on t free) o (start.object_there w I on t free o i)
+  know o i = words_same (value_of w) l t ks (start.S asks).belongings (start.rests asks) (start.chunks_here asks) o (start.object_there asks o i)
 
   used : in_use l ≤ 65536
   used =
@@ -135,21 +133,21 @@ module _ (w : SharedValue) (I : IsSharedValue w) (on : (accounts w).end ≡ None
   -- it fits in 32 bits
   few_marked : marks.marked < 2 ^ 32
   few_marked =
-      let found : length marks.found ≤ length (objects_of_chunks (chunks_of ks)) = subst (λ n. length marks.found ≤ n) (objects_counted ks (start.form w I on t free).tidy) (found_few ks marks (start.Z w I on t free).further.own.room) in
-      let below : marks.marked ≤ length marks.found = (start.Z w I on t free).further.own.marked in
-      let named : length (objects_of_chunks (chunks_of ks)) ≤ words_sum l.machine (held_in a) = held_few l.machine a ks (start.names w I on t free) know in
+      let found : length marks.found ≤ length (objects_of_chunks (chunks_of ks)) = subst (λ n. length marks.found ≤ n) (objects_counted ks (start.form asks).tidy) (found_few ks marks (start.Z asks).further.own.room) in
+      let below : marks.marked ≤ length marks.found = (start.Z asks).further.own.marked in
+      let named : length (objects_of_chunks (chunks_of ks)) ≤ words_sum l.machine (held_in a) = held_few l.machine a ks (start.names asks) know in
       let all : words_sum l.machine (held_in a) ≤ words_sum l.machine (held l) = few_words l t in
       let fits : words_sum l.machine (held l) ≤ 1024 * in_use l = (heaps_fit w.program w.settings w.journal.items I.legal).words in
       let most = used in
       omega (arith, found, below, named, all, fits, most)
 
   pub few_at : (m : MarkingValue) → marks_at w.marks t ≡ Some m → m.marked < 2 ^ 32
-  few_at m at = subst (λ (y : MarkingValue). y.marked < 2 ^ 32) (same_Some marks m (sym (start.Z w I on t free).at ∙ at)) few_marked
+  few_at m at = subst (λ (y : MarkingValue). y.marked < 2 ^ 32) (same_Some marks m (sym (start.Z asks).at ∙ at)) few_marked
 
   -- as its account says
   pub count_at : (m : MarkingValue) → marks_at w.marks t ≡ Some m → m.marked ≡ marked_in a
   count_at m at =
-      let M : MarkedBy (value_of w) l t (Some m) = subst (MarkedBy (value_of w) l t) at ((start.S w I on t free).marks t (start.Z w I on t free).keeps) in
+      let M : MarkedBy (value_of w) l t (Some m) = subst (MarkedBy (value_of w) l t) at ((start.S asks).marks t (start.Z asks).keeps) in
       sym (ap (λ (o : Option ℕ). unwrap_or o 0) M.0.count ∙ length-take-le m.marked m.found M.1.marked)
 
   module _ (none_left : left_in a ≡ 0) where
@@ -157,15 +155,15 @@ module _ (w : SharedValue) (I : IsSharedValue w) (on : (accounts w).end ≡ None
     kept = marked_of marks
 
     -- the number of its sweep
-    pub sweep_is : sweep_number l.machine a ≡ unit_count (gone_of (start.Z w I on t free).rest.heap kept)
+    pub sweep_is : sweep_number l.machine a ≡ unit_count (gone_of (start.Z asks).rest.heap kept)
     sweep_is =
-        number_is kept l.machine a ks (filled kept (start.Z w I on t free).rest.heap (start.form w I on t free) (start.none w I on t free) (start.large w I on t free)) (start.names w I on t free) (start.agree w I on t free none_left) know
-        ∙ ap unit_count (sym (gone_plain kept (start.Z w I on t free).rest.heap (start.form w I on t free) (start.none w I on t free) (start.large w I on t free)))
+        number_is kept l.machine a ks (filled kept (start.Z asks).rest.heap (start.form asks) (start.none asks) (start.large asks)) (start.names asks) (start.agree asks none_left) know
+        ∙ ap unit_count (sym (gone_plain kept (start.Z asks).rest.heap (start.form asks) (start.none asks) (start.large asks)))
 
-    pub would_is : counted32 (unit_count (gone_of (start.Z w I on t free).rest.heap kept)) ≡ sweep_number l.machine a
-    would_is = counted (unit_count (gone_of (start.Z w I on t free).rest.heap kept)) (sweep_number l.machine a) (sym sweep_is)
+    pub would_is : counted32 (unit_count (gone_of (start.Z asks).rest.heap kept)) ≡ sweep_number l.machine a
+    would_is = counted (unit_count (gone_of (start.Z asks).rest.heap kept)) (sweep_number l.machine a) (sym sweep_is)
         (let n : sweep_number l.machine a ≤ units_in l.machine a = number_few kept l.machine a ks
-        (filled kept (start.Z w I on t free).rest.heap (start.form w I on t free) (start.none w I on t free) (start.large w I on t free)) (start.names w I on t free) (start.agree w I on t free none_left) know in
+        (filled kept (start.Z asks).rest.heap (start.form asks) (start.none asks) (start.large asks)) (start.names asks) (start.agree asks none_left) know in
         let u : units_in l.machine a ≤ in_use l = few_units l t in
         let most = used in omega (arith, n, u, most))
       where
@@ -175,6 +173,6 @@ module _ (w : SharedValue) (I : IsSharedValue w) (on : (accounts w).end ≡ None
     -- for the heap and the marking that a call has
     pub would_be : (r : ParkedTask) (m : MarkingValue) → rest_at w.rests t ≡ Some r → marks_at w.marks t ≡ Some m → IsDone m × (counted32 (unit_count (gone_of r.heap (marked_of m))) ≡ sweep_number l.machine a)
     would_be r m there at =
-        subst (λ (x : ParkedTask). IsDone m × (counted32 (unit_count (gone_of x.heap (marked_of m))) ≡ sweep_number l.machine a)) (same_Some (start.Z w I on t free).rest r (sym (start.Z w I on t free).there ∙ there))
-        (subst (λ (y : MarkingValue). IsDone y × (counted32 (unit_count (gone_of (start.Z w I on t free).rest.heap (marked_of y))) ≡ sweep_number l.machine a)) (same_Some marks m (sym (start.Z w I on t free).at ∙ at))
-        (start.done w I on t free none_left, would_is))
+        subst (λ (x : ParkedTask). IsDone m × (counted32 (unit_count (gone_of x.heap (marked_of m))) ≡ sweep_number l.machine a)) (same_Some (start.Z asks).rest r (sym (start.Z asks).there ∙ there))
+        (subst (λ (y : MarkingValue). IsDone y × (counted32 (unit_count (gone_of (start.Z asks).rest.heap (marked_of y))) ≡ sweep_number l.machine a)) (same_Some marks m (sym (start.Z asks).at ∙ at))
+        (start.done asks none_left, would_is))

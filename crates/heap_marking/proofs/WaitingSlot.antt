@@ -1,6 +1,7 @@
 -- What is known of a task that waits and whose heap wasn't swept since its fork.
-use Rattle.heap_marking.proofs.Common.{◌≡◌, ℕ, true, false, Bool, Option, Some, None, is_some, option_map, slice_get, refl, ap, sym, subst, ◌∙◌, Task, is_waiting, waits_is, wait_there, waiting_stops, Ledger, NotWaiting, Swept, refused_unless, legal_idle, HoldsRead, LiesWithOwner, Memory, StandsFor, ParkedTask, SharedValue, accounts, noted_in, rest_at, tree_counts_of, value_of, IsSharedValue, stands_now, HasCalls, has_calls, some_calls, is_state_waiting, waiting_cause}
+use Rattle.heap_marking.proofs.Common.{◌≡◌, ℕ, true, false, Bool, Option, Some, None, is_some, option_map, slice_get, refl, ap, sym, subst, ◌∙◌, Task, is_waiting, waits_is, wait_there, waiting_stops, NotWaiting, Swept, refused_unless, legal_idle, HoldsRead, LiesWithOwner, StandsFor, ParkedTask, SharedValue, noted_in, rest_at, tree_counts_of, value_of, stands_now, HasCalls, has_calls, some_calls, is_state_waiting}
 use Rattle.heap_marking.proofs.MarkCauses.{waits_told}
+use Rattle.heap_marking.proofs.HeapAsked.{AsksWaiting, heap_names}
 
 -- there is no cause
 causes_by : (a k : Bool) → refused_unless a NotWaiting (refused_unless k Swept None) ≡ None → (a ≡ true) × (k ≡ true)
@@ -12,12 +13,9 @@ pub some_of : {A : Type 0} (o : Option A) → is_some o ≡ true → (x : A) × 
 some_of None h = absurd cc
 some_of (Some x) h = (x, refl)
 
-module _ (w : SharedValue) (I : IsSharedValue w) (on : (accounts w).end ≡ None) (t : ℕ) (free : waiting_cause w t ≡ None) where
-  abbrev l : Ledger
-  l = accounts w
-
-  abbrev v : Memory
-  v = value_of w
+module _ {w : SharedValue} {t : ℕ} (asks : AsksWaiting w t) where
+  open asks use {I, on, free}
+  open (heap_names w t) use {l, v}
 
   abbrev S : StandsFor v (tree_counts_of w) l
   S = stands_now w I on

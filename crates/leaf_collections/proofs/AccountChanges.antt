@@ -1,22 +1,15 @@
 -- An entry changes the account of one heap, whose task's part a worker holds: what stays of the accounts, and that
 -- nothing moves.
-use Rattle.leaf_collections.proofs.Common.{◌≡◌, ◌⊎◌, ℕ, true, false, Option, Some, None, length, slice_get, is_some, inl, inr, refl, ap, sym, subst, ◌∙◌, both_ways, cases_eq, MachineState, row_of, is_joined, is_waiting, Heap, Ledger, heap_of, let_go, or_fresh, with_heap, heap_machine, PoolValue, owner_of, Rests, rested, heap_then, with_at, with_off, SameObjects, with_belongings, AreLaidOut, Chunk, Belongings, In, Memory, objects, objects_of_chunks, ChunksHaveNames, BelongingsStand, Located, belongings_kept, at_belongings, off_belongings, Begun, Private, SharedValue, accounts, value_by, value_of, with_marks, IsSharedValue, WorkerPartFits, belongings_of_part, account_is, belongings_stand, fits_now, part_idle, stands_now}
+use Rattle.leaf_collections.proofs.Common.{◌≡◌, ◌⊎◌, ℕ, true, false, Option, Some, length, slice_get, is_some, inl, inr, refl, ap, sym, subst, ◌∙◌, both_ways, cases_eq, MachineState, row_of, is_joined, is_waiting, Kind, Heap, Ledger, heap_of, let_go, or_fresh, with_heap, heap_machine, PoolValue, owner_of, Rests, rested, heap_then, with_at, with_off, SameObjects, with_belongings, AreLaidOut, Chunk, Belongings, In, Memory, objects, objects_of_chunks, ChunksHaveNames, BelongingsStand, Located, belongings_kept, at_belongings, off_belongings, Begun, Private, SharedValue, value_by, with_marks, belongings_of_part, account_is, belongings_stand, fits_now, part_idle, stands_now}
+use Rattle.leaf_collections.proofs.LeafEntry as leaf
+use Rattle.leaf_collections.proofs.LeafEntry.{AsksLeaf}
 
-module _ (w : SharedValue) (k : ℕ) (p : Private) (I : IsSharedValue w) (F : WorkerPartFits w k (record p { fresh = 0 })) (on : (accounts w).end ≡ None) (f : Heap → Heap) (holds : (h : Heap) → (f h).worker ≡ h.worker) where
-  abbrev P : Private
-  P = record p { fresh = 0 }
-
-  abbrev t : ℕ
-  t = p.task
-
-  abbrev l : Ledger
-  l = accounts w
+module _ {kind : ℕ → Kind} {w : SharedValue} {k : ℕ} {p : Private} (asks : AsksLeaf kind w k p) (f : Heap → Heap) (holds : (h : Heap) → (f h).worker ≡ h.worker) where
+  open asks use {I, F}
+  open (leaf.names asks) use {P, t, l, v, on}
 
   abbrev L : Ledger
   L = with_heap l t f
-
-  abbrev v : Memory
-  v = value_of w
 
   pub heap_is_in_ledger : (z : Heap) × (slice_get l.heaps t ≡ Some z)
   heap_is_in_ledger = account_is w k P I F on

@@ -1,8 +1,10 @@
 -- A part gets a chunk.
-use Rattle.leaf_collections.proofs.Common.{◌≡◌, ◌⊎◌, ℕ, ◌+◌, ◌*◌, ◌/◌, ◌<◌, ◌≤◌, true, false, ◌&&◌, not, Bool, cond, Option, Some, None, [], ◌∷◌, ◌++◌, length, map, slice_get, option_map, is_none, is_some, nat_lt, ◌==◌, inl, inr, refl, ap, ap₂, sym, subst, ◌∙◌, arith, lt-ltb, le-ltb, eq-eqb, ne_eqb, cases_eq, cases_lt, cond-false, cond-true, false≢true, leb-false, same_Some, append-nil, ReservedVecValue, in_map, MachineState, row_of, asked, is_joined, is_waiting, EntryValue, Heap, Ledger, Refused, Collecting, Due, NotNeeded, RunEnd, Pool as PoolOf, chunk_words, heap_of, in_use, is_small_size, lacks_room, let_go, or_fresh, units, with_heap, after, chunk_units, kind_refusal, refused_if, refused_unless, with_chunk, is_due, is_in_need, on_asked, entry_tells, legal_booked, heap_machine, place_in, ChunkValue, Located, Slot, PoolValue, Reserves as PoolTakes, units_in_use, LeafHeapValue, IsFresh, added, with_places, rested, heap_then, with_at, with_off, rested_view, Chunk, Belongings, In, Memory, object_name, objects, objects_of_chunks, AreLaidOut, reserved_chunks, reserved_units, ChunksHaveNames, BelongingsStand, large_chunks, SameObjects, AsksUnits, BegunBy, with_belongings, at_belongings, Private, HasReservedUnits, HeapMatchesAccount, HeapIsShaped, chunks_added, shape_added, chunk_of, chunks_of, SharedValue, accounts, tree_counts_of, value_of, AreMeasured, IsMeasured, KeepsUnits, HeapForm, IsSharedValue, WorkerPartFits, OthersFit, belongings_of_part, part_asks, need_cause, refused, asks_is, counted_is, account_idle, none_begun, small_names, entry_on, tasks_apart, MovesNothing, notes_unchanged, quiet_others, quiet_own, quiet_world, same_value, reserved_none, all_kept, measured_both, measured_new, part_kept, taken_keeps, fits_now, part_idle, stands_now, used_now, belongings_stand, places_form, some_units}
+use Rattle.leaf_collections.proofs.Common.{◌≡◌, ◌⊎◌, ℕ, ◌+◌, ◌*◌, ◌/◌, ◌<◌, ◌≤◌, true, false, ◌&&◌, not, Bool, cond, Option, Some, None, [], ◌∷◌, ◌++◌, length, map, slice_get, option_map, is_none, is_some, nat_lt, ◌==◌, inl, inr, refl, ap, ap₂, sym, subst, ◌∙◌, arith, lt-ltb, le-ltb, eq-eqb, ne_eqb, cases_eq, cases_lt, cond-false, cond-true, false≢true, leb-false, same_Some, append-nil, ReservedVecValue, in_map, MachineState, row_of, asked, is_joined, is_waiting, EntryValue, Heap, Ledger, Refused, Collecting, Due, NotNeeded, RunEnd, Pool as PoolOf, chunk_words, heap_of, in_use, is_small_size, lacks_room, let_go, or_fresh, units, with_heap, after, chunk_units, refused_if, refused_unless, with_chunk, is_due, is_in_need, on_asked, legal_booked, heap_machine, place_in, ChunkValue, Located, Slot, PoolValue, Reserves as PoolTakes, units_in_use, LeafHeapValue, IsFresh, added, with_places, rested, heap_then, with_at, with_off, rested_view, Chunk, Belongings, In, Memory, object_name, objects, objects_of_chunks, AreLaidOut, reserved_chunks, reserved_units, ChunksHaveNames, BelongingsStand, large_chunks, SameObjects, AsksUnits, BegunBy, with_belongings, at_belongings, Private, HasReservedUnits, HeapMatchesAccount, HeapIsShaped, chunks_added, shape_added, chunk_of, chunks_of, SharedValue, tree_counts_of, value_of, AreMeasured, IsMeasured, KeepsUnits, HeapForm, WorkerPartFits, belongings_of_part, part_asks, need_cause, asks_is, counted_is, account_idle, none_begun, small_names, MovesNothing, notes_unchanged, quiet_own, same_value, reserved_none, all_kept, measured_both, measured_new, part_kept, taken_keeps, fits_now, part_idle, stands_now, used_now, belongings_stand, places_form, some_units}
 use Rattle.core_invariant.specs.below.run_trace.{Chunk as ChunkOf}
 use Rattle.core_invariant.proofs.PartFitsMachine as link
 use Rattle.leaf_collections.proofs.AccountChanges as change
+use Rattle.leaf_collections.proofs.LeafEntry as leaf
+use Rattle.leaf_collections.proofs.LeafEntry.{AsksLeaf, LeafEntered}
 use Rattle.leaf_collections.proofs.MoreChunksRead.{units_some, chunk_begun, chunk_held, chunk_large, chunk_since, chunk_with, grown_counted, in_more, large_more, none_in, objects_more}
 use Rattle.leaf_collections.proofs.MoreChunksLaid.{form_more, laid_more}
 use Rattle.leaf_collections.proofs.WhyNoChunk.{at_work, chunk_is}
@@ -30,26 +32,41 @@ units_more number words z none = units_more_by_cases (is_small_size words) refl
         ap (λ n. reserved_units n ++ map (λ (c : Chunk). c.units) (reserved_chunks (chunk_of (chunk_with number (units words)) ∷ []))) (none s)
         ∙ (big_spare (units words) two ∙ (some_units (units words) (omega (arith, two)) ∙ ap reserved_units (sym (cond-false (is_small_size words) 1 (units words) s))))
 
--- the worker of the entry holds a part without fresh steps
-module _ (w : SharedValue) (k : ℕ) (p : Private) (I : IsSharedValue w) (F : WorkerPartFits w k (record p { fresh = 0 })) (on : (accounts w).end ≡ None) (free : refused w (record { worker = k; kind = ChunkOf p.task }) ≡ None)
-    (words : ℕ) (asks : part_asks w.program p ≡ Some words) where
-  abbrev P : Private
-  P = record p { fresh = 0 }
+words_by : (p : Private) (o : Option ℕ) → is_none (need_cause p o) ≡ true → (words : ℕ) × (o ≡ Some words)
+words_by p None h = absurd (false≢true h)
+words_by p (Some words) h = (words, refl)
 
-  abbrev t : ℕ
-  t = p.task
+-- if no chunk is refused to a part that is in no collection, it needs one
+cause_none : (o : Bool) (c : Refused) (rest : Option Refused) → is_none (refused_if o c rest) ≡ true → is_none rest ≡ true
+cause_none true c rest h = absurd (false≢true h)
+cause_none false c rest h = h
 
-  abbrev e : EntryValue
-  e = record { worker = k; kind = ChunkOf p.task }
+-- other spare capacities don't matter
+places_added : (h : LeafHeapValue) (K : ChunkValue) (a b c d : ℕ) → with_places (added (with_places h a b) K) c d ≡ with_places (added h K) c d
+places_added h K a b c d = places_added_by_cases (K.size == 1024)
+  where
+    places_added_by_cases : (v : Bool)
+        → with_places (cond v (record (with_places h a b) { chunks = h.chunks ++ K ∷ []; current = Some (length h.chunks) }) (record (with_places h a b) { chunks = h.chunks ++ K ∷ []; reserved = Some (length h.chunks) })) c d
+        ≡ with_places (cond v (record h { chunks = h.chunks ++ K ∷ []; current = Some (length h.chunks) }) (record h { chunks = h.chunks ++ K ∷ []; reserved = Some (length h.chunks) })) c d
+    places_added_by_cases true = refl
+    places_added_by_cases false = refl
 
-  abbrev l : Ledger
-  l = accounts w
+pub places_fit : (w : SharedValue) (k : ℕ) (p : Private) (a b : ℕ) → WorkerPartFits w k p → WorkerPartFits w k (record p { heap = with_places p.heap a b })
+places_fit w k p a b F = record { out = F.out; fits = F.fits; form = places_form p.heap a b F.form; measured = F.measured; leaf_limit = F.leaf_limit; field_limit = F.field_limit }
 
-  abbrev v : Memory
-  v = value_of w
+module _ {w : SharedValue} {k : ℕ} {p : Private} (asks : AsksLeaf ChunkOf w k p) where
+  open asks use {I, F, free}
+  open (leaf.names asks) use {P, t, e, l, v, on}
+
+  -- it needs a chunk for so many words
+  needs : (words : ℕ) × (part_asks w.program p ≡ Some words)
+  needs = words_by p (part_asks w.program p) (cause_none (is_some p.begun) Collecting (need_cause p (part_asks w.program p)) (ap is_none (sym (chunk_is w k p I F on)) ∙ leaf.kind_free asks))
+
+  abbrev words : ℕ
+  words = needs.0
 
   asked_is : asked w.program l.machine t ≡ Some words
-  asked_is = asks_is w k P I F on ∙ asks
+  asked_is = asks_is w k P I F on ∙ needs.1
 
   abbrev more : Heap → Heap
   more = with_chunk (Some words)
@@ -60,27 +77,19 @@ module _ (w : SharedValue) (k : ℕ) (p : Private) (I : IsSharedValue w) (F : Wo
   abbrev given_by : Option ℕ → Ledger
   given_by o = cond (nat_lt w.settings.chunks (in_use l + chunk_units o)) (record l { end = Some (PoolOf (in_use l)) }) (with_heap l t (with_chunk o))
 
-  -- ---- IF TOO FEW ARE FREE
-  pub full_then : w.pool.limit < units_in_use w.pool + chunk_units (Some words) → after w.program w.settings l e ≡ record l { end = Some (PoolOf (units_in_use w.pool)) }
-  full_then full =
-      ap given_by asked_is
-      ∙ (ap (λ n. cond (nat_lt w.settings.chunks (n + chunk_units (Some words))) (record l { end = Some (PoolOf n) }) L) (sym (used_now w I))
-      ∙ cond-true (nat_lt w.settings.chunks (units_in_use w.pool + chunk_units (Some words))) (record l { end = Some (PoolOf (units_in_use w.pool)) }) L
-      (lt-ltb w.settings.chunks (units_in_use w.pool + chunk_units (Some words)) (let q : w.pool.limit ≡ w.settings.chunks = I.limit in omega (arith, full, q))))
-
   -- ---- IF IT IS GIVEN
   abbrev heap_is_in_ledger : (z : Heap) × (slice_get l.heaps t ≡ Some z)
-  heap_is_in_ledger = change.heap_is_in_ledger w k p I F on more (chunk_held words)
+  heap_is_in_ledger = change.heap_is_in_ledger asks more (chunk_held words)
 
   heap_then_is : slice_get L.heaps t ≡ Some (more heap_is_in_ledger.0)
-  heap_then_is = change.heap_then_is w k p I F on more (chunk_held words)
+  heap_then_is = change.heap_then_is asks more (chunk_held words)
 
   -- the part is in no leaf collection
   abbrev by_need : Option Refused
   by_need = refused_if (is_due w.settings w.program l t) (Due (heap_of l t).since) (refused_unless (is_in_need w.program l t) (NotNeeded (heap_of l t).room) None)
 
-  pub idle_part : p.begun ≡ None
-  idle_part = none_begun w k P F on by_need (entry_tells w.program w.settings l e (ap is_none free)).2
+  idle_part : p.begun ≡ None
+  idle_part = none_begun w k P F on by_need (leaf.kind_free asks)
 
   idle : is_waiting (slice_get l.machine.tasks t) ≡ false
   idle = part_idle w k P F on
@@ -89,7 +98,7 @@ module _ (w : SharedValue) (k : ℕ) (p : Private) (I : IsSharedValue w) (F : Wo
   need : is_in_need w.program l t ≡ true
   need =
       needed (is_due w.settings w.program l t) (is_in_need w.program l t) (Due (heap_of l t).since) (NotNeeded (heap_of l t).room)
-      (ap is_none (sym (at_work w k p I F on idle_part by_need)) ∙ (entry_tells w.program w.settings l e (ap is_none free)).2)
+      (ap is_none (sym (at_work w k p I F on idle_part by_need)) ∙ leaf.kind_free asks)
 
   lacks : lacks_room (heap_of l t) words ≡ true
   lacks = ap (λ o. on_asked o (lacks_room (heap_of l t))) (sym asked_is) ∙ need
@@ -104,7 +113,10 @@ module _ (w : SharedValue) (k : ℕ) (p : Private) (I : IsSharedValue w) (F : Wo
     | inr le ↦ omega (arith, le)
   ]
 
-  module _ (pool : PoolValue) (number u slots spare : ℕ) (within : units_in_use w.pool + u ≤ w.pool.limit) (sized : u ≡ chunk_units (Some words)) (T : PoolTakes w.pool pool number (record { owner = p.task; units = u })) (j : ReservedVecValue EntryValue) where
+  module _ {pool : PoolValue} {number u : ℕ} (sized_by : u ≡ chunk_units (part_asks w.program p)) (within : units_in_use w.pool + u ≤ w.pool.limit) (T : PoolTakes w.pool pool number (record { owner = p.task; units = u })) (j : ReservedVecValue EntryValue) (slots spare : ℕ) where
+    sized : u ≡ chunk_units (Some words)
+    sized = sized_by ∙ ap chunk_units needs.1
+
     abbrev K : ChunkValue
     K = chunk_with number u
 
@@ -157,7 +169,7 @@ module _ (w : SharedValue) (k : ℕ) (p : Private) (I : IsSharedValue w) (F : Wo
 
     -- nothing moves
     objects_same : SameObjects v v' l L
-    objects_same = change.same_objects w k p I F on more (chunk_held words) pool owner_kept owner_taken
+    objects_same = change.same_objects asks more (chunk_held words) pool owner_kept owner_taken
 
     asks_units : AsksUnits (nat_lt w.settings.chunks (units_in_use w.pool + chunk_units (asked w.program l.machine t))) (tree_counts_of w) (tree_counts_of w') (chunk_units (asked w.program l.machine t))
     asks_units =
@@ -180,9 +192,6 @@ module _ (w : SharedValue) (k : ℕ) (p : Private) (I : IsSharedValue w) (F : Wo
       marks = λ u m. absurd m;
       counts = (record { node = λ u. refl; task_out = λ u. refl; steps = refl; outputs = refl }, asks_units);
     }
-
-    pub chunk_world : IsSharedValue w'
-    chunk_world = quiet_world I free moves
 
     -- ---- THE PART
     abbrev before : Memory
@@ -292,7 +301,7 @@ module _ (w : SharedValue) (k : ℕ) (p : Private) (I : IsSharedValue w) (F : Wo
     form_then = form_more p.heap F.form number u slots spare (omega (arith, size_least)) none_reserved shaped_then chunks_are counted_then.last counted_then.last_large
 
     rested_same : (rested l t).machine ≡ (rested L t).machine
-    rested_same = change.rested_same w k p I F on more (chunk_held words)
+    rested_same = change.rested_same asks more (chunk_held words)
 
     belongings_then : BelongingsStand after_ (rested L t) t
     belongings_then = record {
@@ -321,170 +330,81 @@ module _ (w : SharedValue) (k : ℕ) (p : Private) (I : IsSharedValue w) (F : Wo
             added_since_by_cases false = refl
 
     part_same : SameObjects before after_ (rested l t) (rested L t)
-    part_same = change.part_same w k p I F on more (chunk_held words) pool owner_kept (belongings_of_part Q) belongings_then refl objects_then owner_taken (λ q. refl)
+    part_same = change.part_same asks more (chunk_held words) pool owner_kept (belongings_of_part Q) belongings_then refl objects_then owner_taken (λ q. refl)
 
     none_then : (heap_of (rested L t) t).begun ≡ None
     none_then = ap (λ (z : Heap). z.begun) account_then ∙ (chunk_begun words heap_is_in_ledger.0 ∙ (ap (λ o. (or_fresh o).begun) (sym heap_is_in_ledger.1) ∙ account_idle w k P F on idle_part))
 
-    pub chunk_part : WorkerPartFits w' k Q
+    chunk_part : WorkerPartFits w' k Q
     chunk_part =
         quiet_own I free moves k p g p.begun F form_then measured_then
         (subst (λ (z : Ledger). SameObjects before after_ (rested l t) (rested z t)) (sym then) part_same)
         (subst (λ (z : Ledger). BegunBy after_ (rested z t) t p.begun) (sym then) (subst (λ o. BegunBy after_ (rested L t) t o) (sym idle_part) none_then))
 
-    -- ---- THE PARTS OF OTHERS
-    pub chunk_others : OthersFit w w' k
-    chunk_others o q ne G = quiet_others I free moves o q (tasks_apart w k o P q F G ne) G
+    -- so is made what the call says, whose heap had other spare capacities before
+    pub chunk_entered : (c : ChunkValue) → c ≡ K → (a b : ℕ) → LeafEntered w w' e (record p { heap = with_places (added (with_places p.heap a b) c) slots spare })
+    chunk_entered c is a b =
+        subst (λ (h : LeafHeapValue). LeafEntered w w' e (record p { heap = h })) (sym (ap (λ (z : ChunkValue). with_places (added (with_places p.heap a b) z) slots spare) is ∙ places_added p.heap K a b slots spare))
+        (leaf.leaf_entered asks (λ u q. q) moves g p.begun chunk_part)
 
--- ---- IF TOO FEW ARE FREE
-module _ (w : SharedValue) (k : ℕ) (p : Private) (I : IsSharedValue w) (F : WorkerPartFits w k (record p { fresh = 0 })) (on : (accounts w).end ≡ None) (free : refused w (record { worker = k; kind = ChunkOf p.task }) ≡ None)
-    (words : ℕ) (asks : part_asks w.program p ≡ Some words) (full : w.pool.limit < units_in_use w.pool + chunk_units (Some words)) (j : ReservedVecValue EntryValue) where
-  abbrev full_entry : EntryValue
-  full_entry = record { worker = k; kind = ChunkOf p.task }
+  -- ---- IF TOO FEW ARE FREE
+  module _ (u : ℕ) (sized_by : u ≡ chunk_units (part_asks w.program p)) (full_by : w.pool.limit < units_in_use w.pool + u) (j : ReservedVecValue EntryValue) where
+    full : w.pool.limit < units_in_use w.pool + chunk_units (Some words)
+    full = subst (λ n. w.pool.limit < units_in_use w.pool + n) (sized_by ∙ ap chunk_units needs.1) full_by
 
-  abbrev full_end : Option RunEnd
-  full_end = Some (PoolOf (units_in_use w.pool))
+    abbrev full_end : Option RunEnd
+    full_end = Some (PoolOf (units_in_use w.pool))
 
-  abbrev without_collection : SharedValue
-  without_collection = record w { end = full_end; journal = record { items = w.journal.items ++ full_entry ∷ []; room = j.room } }
+    abbrev ended : SharedValue
+    ended = record w { end = full_end; journal = record { items = w.journal.items ++ e ∷ []; room = j.room } }
 
-  abbrev full_ledger : Ledger
-  full_ledger = record (accounts w) { end = full_end }
+    abbrev full_ledger : Ledger
+    full_ledger = record l { end = full_end }
 
-  ends_so : after w.program w.settings (accounts w) full_entry ≡ full_ledger
-  ends_so = full_then w k p I F on free words asks full
+    ends_so : after w.program w.settings l e ≡ full_ledger
+    ends_so =
+        ap given_by asked_is
+        ∙ (ap (λ n. cond (nat_lt w.settings.chunks (n + chunk_units (Some words))) (record l { end = Some (PoolOf n) }) L) (sym (used_now w I))
+        ∙ cond-true (nat_lt w.settings.chunks (units_in_use w.pool + chunk_units (Some words))) full_ledger L
+        (lt-ltb w.settings.chunks (units_in_use w.pool + chunk_units (Some words)) (let q : w.pool.limit ≡ w.settings.chunks = I.limit in omega (arith, full, q))))
 
-  full_units : AsksUnits (nat_lt w.settings.chunks (units_in_use w.pool + chunk_units (asked w.program (accounts w).machine p.task))) (tree_counts_of w) (tree_counts_of without_collection) (chunk_units (asked w.program (accounts w).machine p.task))
-  full_units =
-      let limit : w.pool.limit ≡ w.settings.chunks = I.limit in
-      subst (λ o. AsksUnits (nat_lt w.settings.chunks (units_in_use w.pool + chunk_units o)) (tree_counts_of w) (tree_counts_of without_collection) (chunk_units o)) (sym (asked_is w k p I F on free words asks))
-      (subst (λ b. AsksUnits b (tree_counts_of w) (tree_counts_of without_collection) (chunk_units (Some words))) (sym (lt-ltb w.settings.chunks (units_in_use w.pool + chunk_units (Some words)) (omega (arith, full, limit))))
-      (refl, refl))
+    full_units : AsksUnits (nat_lt w.settings.chunks (units_in_use w.pool + chunk_units (asked w.program l.machine t))) (tree_counts_of w) (tree_counts_of ended) (chunk_units (asked w.program l.machine t))
+    full_units =
+        let limit : w.pool.limit ≡ w.settings.chunks = I.limit in
+        subst (λ o. AsksUnits (nat_lt w.settings.chunks (units_in_use w.pool + chunk_units o)) (tree_counts_of w) (tree_counts_of ended) (chunk_units o)) (sym asked_is)
+        (subst (λ b. AsksUnits b (tree_counts_of w) (tree_counts_of ended) (chunk_units (Some words))) (sym (lt-ltb w.settings.chunks (units_in_use w.pool + chunk_units (Some words)) (omega (arith, full, limit))))
+        (refl, refl))
 
-  moves_full : MovesNothing w without_collection full_entry
-  moves_full = record {
-    enters = record { journal = refl; program = refl; settings = refl; halted = refl };
-    quiet = tt;
-    tasks = refl;
-    limit = refl;
-    keeps = all_kept w.pool;
-    same = subst (SameObjects (value_of w) (value_of w) (accounts w)) (sym ends_so) (same_value (value_of w) (accounts w) full_ledger refl (λ u. refl) (stands_now w I on).belongings.belongings);
-    notes = λ u n. notes_unchanged (value_of w) u;
-    marks = λ u m. absurd m;
-    counts = (record { node = λ u. refl; task_out = λ u. refl; steps = refl; outputs = refl }, full_units);
-  }
+    moves_full : MovesNothing w ended e
+    moves_full = record {
+      enters = record { journal = refl; program = refl; settings = refl; halted = refl };
+      quiet = tt;
+      tasks = refl;
+      limit = refl;
+      keeps = all_kept w.pool;
+      same = subst (SameObjects v v l) (sym ends_so) (same_value v l full_ledger refl (λ u. refl) (stands_now w I on).belongings.belongings);
+      notes = λ u n. notes_unchanged v u;
+      marks = λ u m. absurd m;
+      counts = (record { node = λ u. refl; task_out = λ u. refl; steps = refl; outputs = refl }, full_units);
+    }
 
-  pub full_world : IsSharedValue without_collection
-  full_world = quiet_world I free moves_full
+    abbrev full_belongings : Memory
+    full_belongings = with_belongings v t (belongings_of_part P)
 
-  pub full_others : OthersFit w without_collection k
-  full_others o q ne G = quiet_others I free moves_full o q (tasks_apart w k o (record p { fresh = 0 }) q F G ne) G
+    heaps_rested : (u : ℕ) → heap_of (rested full_ledger t) u ≡ heap_of (rested l t) u
+    heaps_rested u = elim (cases_eq u t) [
+      | inl q ↦ ap (λ z. heap_of (rested full_ledger t) z) q ∙ (ap or_fresh (with_at full_ledger t let_go ∙ sym (with_at l t let_go)) ∙ ap (λ z. heap_of (rested l t) z) (sym q))
+      | inr ne ↦ ap or_fresh (with_off full_ledger t u let_go ne ∙ sym (with_off l t u let_go ne))
+    ]
 
-  abbrev full_belongings : Memory
-  full_belongings = with_belongings (value_of w) p.task (belongings_of_part (record p { fresh = 0 }))
+    none_full : (heap_of (rested full_ledger t) t).begun ≡ None
+    none_full = ap (λ (z : Heap). z.begun) (heaps_rested t) ∙ (rested_view (λ (z : Heap). z.begun) (λ z. refl) l t ∙ account_idle w k P F on idle_part)
 
-  heaps_rested : (u : ℕ) → heap_of (rested full_ledger p.task) u ≡ heap_of (rested (accounts w) p.task) u
-  heaps_rested u = elim (cases_eq u p.task) [
-    | inl q ↦
-        ap (λ z. heap_of (rested full_ledger p.task) z) q
-        ∙ (ap or_fresh (with_at full_ledger p.task let_go ∙ sym (with_at (accounts w) p.task let_go)) ∙ ap (λ z. heap_of (rested (accounts w) p.task) z) (sym q))
-    | inr ne ↦ ap or_fresh (with_off full_ledger p.task u let_go ne ∙ sym (with_off (accounts w) p.task u let_go ne))
-  ]
-
-  full_idle : p.begun ≡ None
-  full_idle = idle_part w k p I F on free words asks
-
-  none_full : (heap_of (rested full_ledger p.task) p.task).begun ≡ None
-  none_full =
-      ap (λ (z : Heap). z.begun) (heaps_rested p.task)
-      ∙ (rested_view (λ (z : Heap). z.begun) (λ z. refl) (accounts w) p.task ∙ account_idle w k (record p { fresh = 0 }) F on full_idle)
-
-  -- the part, whose heap may have other spare capacities
-  pub full_part : (a b : ℕ) → WorkerPartFits without_collection k (record p { fresh = 0; heap = with_places p.heap a b })
-  full_part a b =
-      quiet_own I free moves_full k p (with_places p.heap a b) p.begun F (places_form p.heap a b F.form) F.measured
-      (subst (λ (z : Ledger). SameObjects full_belongings full_belongings (rested (accounts w) p.task) (rested z p.task)) (sym ends_so)
-      (same_value full_belongings (rested (accounts w) p.task) (rested full_ledger p.task) (heap_machine full_ledger p.task let_go ∙ sym (heap_machine (accounts w) p.task let_go)) heaps_rested (fits_now w k (record p { fresh = 0 }) F on).stands.belongings))
-      (subst (λ (z : Ledger). BegunBy full_belongings (rested z p.task) p.task p.begun) (sym ends_so) (subst (λ o. BegunBy full_belongings (rested full_ledger p.task) p.task o) (sym full_idle) none_full))
-
--- ---- AS THE CALL MAKES IT
-
-words_by : (p : Private) (o : Option ℕ) → is_none (need_cause p o) ≡ true → (words : ℕ) × (o ≡ Some words)
-words_by p None h = absurd (false≢true h)
-words_by p (Some words) h = (words, refl)
-
--- if no chunk is refused to a part that is in no collection, it needs one
-cause_none : (o : Bool) (c : Refused) (rest : Option Refused) → is_none (refused_if o c rest) ≡ true → is_none rest ≡ true
-cause_none true c rest h = absurd (false≢true h)
-cause_none false c rest h = h
-
--- other spare capacities don't matter
-places_added : (h : LeafHeapValue) (K : ChunkValue) (a b c d : ℕ) → with_places (added (with_places h a b) K) c d ≡ with_places (added h K) c d
-places_added h K a b c d = places_added_by_cases (K.size == 1024)
-  where
-    places_added_by_cases : (v : Bool)
-        → with_places (cond v (record (with_places h a b) { chunks = h.chunks ++ K ∷ []; current = Some (length h.chunks) }) (record (with_places h a b) { chunks = h.chunks ++ K ∷ []; reserved = Some (length h.chunks) })) c d
-        ≡ with_places (cond v (record h { chunks = h.chunks ++ K ∷ []; current = Some (length h.chunks) }) (record h { chunks = h.chunks ++ K ∷ []; reserved = Some (length h.chunks) })) c d
-    places_added_by_cases true = refl
-    places_added_by_cases false = refl
-
-pub places_fit : (w : SharedValue) (k : ℕ) (p : Private) (a b : ℕ) → WorkerPartFits w k p → WorkerPartFits w k (record p { heap = with_places p.heap a b })
-places_fit w k p a b F = record { out = F.out; fits = F.fits; form = places_form p.heap a b F.form; measured = F.measured; leaf_limit = F.leaf_limit; field_limit = F.field_limit }
-
-module _ (w : SharedValue) (k : ℕ) (p : Private) (I : IsSharedValue w) (F : WorkerPartFits w k p) (none : p.fresh ≡ 0) (free : refused w (record { worker = k; kind = ChunkOf p.task }) ≡ None) where
-  part_is : p ≡ record p { fresh = 0 }
-  part_is = ap (λ n. record p { fresh = n }) none
-
-  F0 : WorkerPartFits w k (record p { fresh = 0 })
-  F0 = subst (WorkerPartFits w k) part_is F
-
-  runs_on : (accounts w).end ≡ None
-  runs_on = entry_on w (record { worker = k; kind = ChunkOf p.task }) free
-
-  not_refused : is_none (kind_refusal w.program w.settings (accounts w) k (ChunkOf p.task)) ≡ true
-  not_refused = (entry_tells w.program w.settings (accounts w) (record { worker = k; kind = ChunkOf p.task }) (ap is_none free)).2
-
-  pub needs : (words : ℕ) × (part_asks w.program p ≡ Some words)
-  needs = words_by p (part_asks w.program p) (cause_none (is_some p.begun) Collecting (need_cause p (part_asks w.program p)) (ap is_none (sym (chunk_is w k p I F0 runs_on)) ∙ not_refused))
-
-  -- too few are free
-  module _ (units : ℕ) (sized : units ≡ chunk_units (part_asks w.program p)) (full : w.pool.limit < units_in_use w.pool + units) (j : ReservedVecValue EntryValue) where
-    full_so : w.pool.limit < units_in_use w.pool + chunk_units (Some needs.0)
-    full_so = subst (λ n. w.pool.limit < units_in_use w.pool + n) (sized ∙ ap chunk_units needs.1) full
-
-    abbrev pool_ended : SharedValue
-    pool_ended = record w { journal = record { items = w.journal.items ++ record { worker = k; kind = ChunkOf p.task } ∷ []; room = j.room }; end = Some (PoolOf (units_in_use w.pool)) }
-
-    pub pool_world : IsSharedValue pool_ended
-    pool_world = full_world w k p I F0 runs_on free needs.0 needs.1 full_so j
-
-    pub pool_part : (a b : ℕ) → WorkerPartFits pool_ended k (record p { heap = with_places p.heap a b })
-    pool_part a b = subst (λ n. WorkerPartFits pool_ended k (record p { heap = with_places p.heap a b; fresh = n })) (sym none) (full_part w k p I F0 runs_on free needs.0 needs.1 full_so j a b)
-
-    pub pool_others : OthersFit w pool_ended k
-    pool_others = full_others w k p I F0 runs_on free needs.0 needs.1 full_so j
-
-  -- it is given
-  module _ (pool : PoolValue) (K : ChunkValue) (number units : ℕ) (K_is : K ≡ chunk_with number units) (sized : units ≡ chunk_units (part_asks w.program p)) (within : units_in_use w.pool + units ≤ w.pool.limit) (T : PoolTakes w.pool pool number (record { owner = p.task; units = units })) (j : ReservedVecValue EntryValue) where
-    abbrev given : SharedValue
-    given = record w { pool = pool; journal = record { items = w.journal.items ++ record { worker = k; kind = ChunkOf p.task } ∷ []; room = j.room } }
-
-    size_is : units ≡ chunk_units (Some needs.0)
-    size_is = sized ∙ ap chunk_units needs.1
-
-    pub given_fresh : IsFresh p.heap.chunks number
-    given_fresh = fresh w k p I F0 runs_on free needs.0 needs.1 pool number units 0 0 within size_is T j
-
-    pub given_world : IsSharedValue given
-    given_world = chunk_world w k p I F0 runs_on free needs.0 needs.1 pool number units 0 0 within size_is T j
-
-    pub given_part : (a b c d : ℕ) → WorkerPartFits given k (record p { heap = with_places (added (with_places p.heap a b) K) c d })
-    given_part a b c d =
-        let same : with_places (added p.heap (chunk_with number units)) c d ≡ with_places (added (with_places p.heap a b) K) c d =
-        sym (ap (λ (z : ChunkValue). with_places (added (with_places p.heap a b) z) c d) K_is ∙ places_added p.heap (chunk_with number units) a b c d) in
-        subst (λ (h : LeafHeapValue). WorkerPartFits given k (record p { heap = h })) same
-        (subst (λ n. WorkerPartFits given k (record p { heap = with_places (added p.heap (chunk_with number units)) c d; fresh = n })) (sym none)
-        (chunk_part w k p I F0 runs_on free needs.0 needs.1 pool number units c d within size_is T j))
-
-    pub given_others : OthersFit w given k
-    given_others = chunk_others w k p I F0 runs_on free needs.0 needs.1 pool number units 0 0 within size_is T j
+    -- the heap may have other spare capacities
+    pub full_entered : (a b : ℕ) → LeafEntered w ended e (record p { heap = with_places p.heap a b })
+    full_entered a b =
+        leaf.leaf_entered asks (λ u q. q) moves_full (with_places p.heap a b) p.begun
+        (quiet_own I free moves_full k p (with_places p.heap a b) p.begun F (places_form p.heap a b F.form) F.measured
+        (subst (λ (z : Ledger). SameObjects full_belongings full_belongings (rested l t) (rested z t)) (sym ends_so)
+        (same_value full_belongings (rested l t) (rested full_ledger t) (heap_machine full_ledger t let_go ∙ sym (heap_machine l t let_go)) heaps_rested (fits_now w k P F on).stands.belongings))
+        (subst (λ (z : Ledger). BegunBy full_belongings (rested z t) t p.begun) (sym ends_so) (subst (λ o. BegunBy full_belongings (rested full_ledger t) t o) (sym idle_part) none_full)))

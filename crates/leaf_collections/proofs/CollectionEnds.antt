@@ -1,5 +1,6 @@
 -- The end of a part's leaf collection: the new value stands, and parts fit.
 use Rattle.leaf_collections.proofs.Common.{◌≡◌, ℕ, ◌+◌, ◌-◌, ◌<◌, ◌&&◌, arith, true, false, not, Option, Some, None, is_some, List, [], ◌∷◌, ◌++◌, fold, length, slice_get, option_map, inl, inr, refl, ap, ap₂, sym, subst, ◌∙◌, cases_eq, same_Some, ReservedVecValue, got_within, each_from, got_some, in_map, map_in, read_in, none_some, Object, object_at, is_running, is_waiting, MachineState, runs_tell, EntryValue, End, Heap, Ledger, collected, heap_of, or_fresh, with_heap, with_heap_at, is_legal, SoundLedger, tasks_are_out_once, legal_sound, machine_goes_on, heap_machine, legal_then, waiters_are_free, Addr, Born, marked_object, cell_of, ChunkValue, Located, Slot, PoolValue, slot_at, owner_of, units_in_use, IsFresh, RefField, AreFields, redirected, StandOnce, Moved, new_address, AreGiven, units_in_slots, Rests, own, heap_then, with_at, with_off, legal_knows, CopyFits, EndsAt, CountsGo, OthersNotes, IsSource, LiesWithOwner, Chunk, Belongings, In, Lies, Memory, objects_of_chunks, rewritten_belongings, sources, Part, part_for, StandsFor, StandsForAll, as_node, by_end, WorkerFits, ends_stand_for, ends_fit_then, ends_leave, aside_is, Private, ParkedTask, refs_of_rest, Resting, refs_for, resting_references, with_ref_in, chunk_of, chunks_of, SharedValue, accounts, belongings_in, rest_at, tree_counts_of, value_of, KeepsUnits, RestsAreMeasured, IsSharedValue, WorkerPartFits, OthersFit, belongings_of_part, part_of, heaps_of, sources_of, Enters, refused, fresh_off, seen_object, accounts_are, entered_world, entry_on, fits_then, free_at_rest, free_rests, part_fits, worker_when_out, refs_long, fits_held, stands_for_held, are_once, fresh_by, noted_sources, owned_before, AreFormed, Led, SourceThere, belongings_chunks, lead_all, given_keeps, measured_given, measured_kept, part_kept, stands_now, FitsCopied, end_entry, without_collection}
+use Rattle.leaf_collections.proofs.LeafEntry.{LeafEntered}
 
 -- a heap that a worker holds exists
 held_there : (hs : List Heap) (t k : ℕ) → (or_fresh (slice_get hs t)).worker ≡ Some k → t < length hs
@@ -9,7 +10,19 @@ held_there hs t k = held_there_by_cases (slice_get hs t) refl
     held_there_by_cases None e h = absurd cc
     held_there_by_cases (Some x) e h = got_within hs t x e
 
-module _ (w : SharedValue) (k : ℕ) (p : Private) (moved : Moved) (I : IsSharedValue w) (F : FitsCopied w k p moved) (free : refused w (end_entry k p moved) ≡ None) where
+-- a call asks to end the collection of a copied part, and nothing refuses it
+pub record AsksLeafEnd (w : SharedValue) (k : ℕ) (p : Private) (moved : Moved) : Type 0 where
+  pub I : IsSharedValue w
+  pub F : FitsCopied w k p moved
+  pub free : refused w (end_entry k p moved) ≡ None
+
+-- by what is known of an equal value
+pub asks_leaf_end : {w old : SharedValue} {k : ℕ} {p : Private} {moved : Moved} → w ≡ old → IsSharedValue w → FitsCopied old k p moved → refused old (end_entry k p moved) ≡ None → AsksLeafEnd w k p moved
+asks_leaf_end {w} {old} {k} {p} {moved} same I F free = record { I = I; F = subst (λ z. FitsCopied z k p moved) (sym same) F; free = subst (λ z. refused z (end_entry k p moved) ≡ None) (sym same) free }
+
+module _ {w : SharedValue} {k : ℕ} {p : Private} {moved : Moved} (asks : AsksLeafEnd w k p moved) where
+  open asks use {I, F, free}
+
   abbrev e : EntryValue
   e = end_entry k p moved
 
@@ -107,7 +120,7 @@ module _ (w : SharedValue) (k : ℕ) (p : Private) (moved : Moved) (I : IsShared
     led : Led moved.moved.items (heaps_of w) Good ss H'
     led = lead_all moved.moved.items ss (heaps_of w) Good (are_once ss once) (λ s i. (source_object s i).place) formed
 
-    abbrev pub w' : SharedValue
+    abbrev w' : SharedValue
     w' = record w { pool = pool; rests = H'.rests; journal = record { items = w.journal.items ++ e ∷ []; room = room } }
 
     enters : Enters w w' e
@@ -229,14 +242,14 @@ module _ (w : SharedValue) (k : ℕ) (p : Private) (moved : Moved) (I : IsShared
     measured_then : RestsAreMeasured pool H'.rests w.tasks_out
     measured_then u r is none = measured_kept w.pool pool u r.heap.chunks (units_stay u (λ q. none k ((S.tree_counts.task_out k u).1 (ap (λ z. (heap_of l z).worker) q ∙ F.out)))) (led.measured u r (free_rests w u I on none) is)
 
-    pub end_world : IsSharedValue w'
+    end_world : IsSharedValue w'
     end_world = entered_world I free enters (record { made = led.count ∙ I.made; noted = I.noted; workers = refl; limit = G.limit; heaps = led.form; measured = measured_then }) stands_then
 
     -- PARTS
     held_value : (q : Part) → WorkerFits w.program w.settings q v'' L → WorkerFits w.program w.settings q v' L
     held_value q fits = fits_held v'' (λ u. v'.belongings u) L same_belongings w.program w.settings q sound' going' fits
 
-    pub end_fits : WorkerPartFits w' k (without_collection p)
+    end_fits : WorkerPartFits w' k (without_collection p)
     end_fits =
         fits_then I free enters end_world k (without_collection p) (worker_when_out I free enters end_world k t ((S.tree_counts.task_out k t).1 F.out)) F.leaf_limit F.field_limit F.form (measured_given w.pool pool moved.back.items t p.heap.chunks G own_apart F.measured, λ n i. absurd i)
         (held_value (part_of w.settings (without_collection p))
@@ -246,7 +259,7 @@ module _ (w : SharedValue) (k : ℕ) (p : Private) (moved : Moved) (I : IsShared
     apart : (u : ℕ) (q : Private) → (u ≡ k → ⊥) → WorkerPartFits w u q → q.task ≡ t → ⊥
     apart u q ne Q same = ne (same_Some u k (sym Q.out ∙ (ap (λ z. (heap_of l z).worker) same ∙ F.out)))
 
-    pub end_others : OthersFit w w' k
+    end_others : OthersFit w w' k
     end_others u q ne Q =
         part_fits I free enters end_world u q q refl Q refl Q.form (part_kept w.pool pool q (units_stay q.task (apart u q ne Q)) Q.measured)
         (held_value (part_of w.settings q)
@@ -254,25 +267,8 @@ module _ (w : SharedValue) (k : ℕ) (p : Private) (moved : Moved) (I : IsShared
         (λ same'. apart u q ne Q (sym same')) Q.fits))
 
   -- AS THE CALL MAKES IT
-  module _ (X : Resting) (is : X ≡ fold (redirected resting_references with_ref_in moved.moved.items) (heaps_of w) (sources_of (slice_get w.sets p.task))) (once : StandOnce (sources_of (slice_get w.sets p.task))) where
-    pub pool_same : X.pool ≡ w.pool
-    pool_same = ap (λ (h : Resting). h.pool) is ∙ (lead_all moved.moved.items ss (heaps_of w) Good (are_once ss once) (λ s i. (source_object s i).place) formed).pool
-
-    module _ (pool : PoolValue) (G : AreGiven X.pool pool moved.back.items) (j : ReservedVecValue EntryValue) (made : j ≡ record { items = w.journal.items ++ e ∷ []; room = w.journal.room - 1 }) where
-      given : AreGiven w.pool pool moved.back.items
-      given = subst (λ z. AreGiven z pool moved.back.items) pool_same G
-
-      abbrev pub entered_so : SharedValue
-      entered_so = record w { pool = pool; rests = X.rests; journal = j }
-
-      so : entered_so ≡ w' pool given once (w.journal.room - 1)
-      so = ap₂ (λ hs z. record w { pool = pool; rests = hs; journal = z }) (ap (λ (h : Resting). h.rests) is) made
-
-      pub world_so : IsSharedValue entered_so
-      world_so = subst IsSharedValue (sym so) (end_world pool given once (w.journal.room - 1))
-
-      pub fits_so : WorkerPartFits entered_so k (without_collection p)
-      fits_so = subst (λ (z : SharedValue). WorkerPartFits z k (without_collection p)) (sym so) (end_fits pool given once (w.journal.room - 1))
-
-      pub others_so : OthersFit w entered_so k
-      others_so = subst (λ (z : SharedValue). OthersFit w z k) (sym so) (end_others pool given once (w.journal.room - 1))
+  pub leaf_ended : {X : Resting} → X ≡ fold (redirected resting_references with_ref_in moved.moved.items) (heaps_of w) (sources_of (slice_get w.sets p.task)) → StandOnce (sources_of (slice_get w.sets p.task)) → {pool : PoolValue} → AreGiven w.pool pool moved.back.items
+      → {j : ReservedVecValue EntryValue} → j ≡ record { items = w.journal.items ++ e ∷ []; room = w.journal.room - 1 } → LeafEntered w (record w { pool = pool; rests = X.rests; journal = j }) e (without_collection p)
+  leaf_ended {X} is once {pool} G {j} made =
+      subst (λ (z : SharedValue). LeafEntered w z e (without_collection p)) (sym (ap₂ (λ hs z. record w { pool = pool; rests = hs; journal = z }) (ap (λ (h : Resting). h.rests) is) made))
+      (record { enters = enters pool G once (w.journal.room - 1); world = end_world pool G once (w.journal.room - 1); part = end_fits pool G once (w.journal.room - 1); others = end_others pool G once (w.journal.room - 1) })

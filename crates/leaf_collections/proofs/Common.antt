@@ -49,7 +49,7 @@ pub use Rattle.core_invariant.specs.below.ledger_step_laws.{Rests, rested, own, 
 pub use Rattle.core_invariant.specs.below.mark_sweep_gc.{AreGiven, units_in_slots}
 pub use Rattle.core_invariant.specs.below.object_layout.{Located, Addr, IsBorn, cell_of, small_words, ChunkValue, number_of, IsSoundReference, place_in, has_chunk, Born, marked_object, chunk_at, words_in, objects_from}
 pub use Rattle.core_invariant.specs.below.plain_vec.{ReservedVecValue, is_empty, option_is}
-pub use Rattle.core_invariant.specs.below.refinement.{SameObjects, with_belongings, AreLaidOut, Chunk, Belongings, In, Memory, objects, objects_of_chunks, ChunksHaveNames, BelongingsStand, object_name, reserved_chunks, reserved_units, large_chunks, AsksUnits, BegunBy, CopyFits, EndsAt, CountsGo, OthersNotes, IsSource, LiesWithOwner, Lies, rewritten_belongings, sources, Part, part_for, StandsFor, StandsForAll, as_node, by_end, WorkerFits, BegunStands, LeafCollectionBegins}
+pub use Rattle.core_invariant.specs.below.refinement.{SameObjects, with_belongings, AreLaidOut, Chunk, Belongings, In, Memory, objects, objects_of_chunks, ChunksHaveNames, BelongingsStand, object_name, reserved_chunks, reserved_units, large_chunks, AsksUnits, BegunBy, CopyFits, EndsAt, CountsGo, IsBy, OthersNotes, IsSource, LiesWithOwner, Lies, rewritten_belongings, sources, Part, part_for, StandsFor, StandsForAll, as_node, by_end, WorkerFits, BegunStands, LeafCollectionBegins}
 pub use Rattle.core_invariant.specs.below.remembered_set.{RefField, AreFields, redirected, StandOnce}
 pub use Rattle.core_invariant.specs.below.run_ledger.{Heap, Ledger, heap_of, let_go, or_fresh, with_heap, Refused, Collecting, Due, NotNeeded, RunEnd, Pool, chunk_words, in_use, is_small_size, lacks_room, units, after, chunk_units, kind_refusal, refused_if, refused_unless, with_chunk, is_due, is_in_need, on_asked, take_of, within, collected, with_heap_at, is_legal, SoundLedger, PoolEnough, is_pool_enough, on_due, is_fuel, on_running, PoolShort, Count, NotCollecting, NotOut, ends_as, is_out, end_numbers, NotDue, unless_wrong_number}
 pub use Rattle.core_invariant.specs.below.run_trace.{Begin, EntryValue, End, PutOff, Kind}

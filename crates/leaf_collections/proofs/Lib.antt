@@ -1,3 +1,4 @@
+pub mod LeafEntry
 pub mod WhyNoChunk
 mod WhyNotDue
 mod AccountChanges
@@ -6,7 +7,6 @@ pub mod WhyNoCollection
 mod NewChunks
 mod FallingChunks
 mod CollectionBegins
-mod PartCollecting
 pub mod BeginEntered
 mod MoreChunksRead
 pub mod MoreChunksLaid

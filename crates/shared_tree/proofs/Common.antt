@@ -18,7 +18,8 @@ pub use Rattle.fork_join_commit.specs.NoTask.{HoldsNone, GivesTaskUp}
 pub use Rattle.fork_join_commit.specs.below.step_commit.{IsShared, alone_entry, machine_after, HaltsAlone, then_accounts, GoesAlone, EndingTells, FinishesAlone, ended_rest, IsBeyond}
 pub use Rattle.fork_join_commit.specs.declared.fork.Forking.{Forking}
 pub use Rattle.fork_join_commit.specs.declared.fork.Forking.TheVariants.{Forked, Over}
-pub use Rattle.heap_marking.proofs.MarkEntries.{mark_enters, mark_waits, kept_noted, put_back, some_count, some_enters, some_marks, mark_as_marking, mark_as_waiting, mark_as_words, mark_begun, mark_fields, mark_starts, some_as_left, some_as_marking, words_now}
+pub use Rattle.heap_marking.proofs.HeapAsked.{AsksMarked, AsksWaiting, asks_marked, asks_waiting}
+pub use Rattle.heap_marking.proofs.MarkEntries.{mark_asks, mark_enters, kept_noted, put_back, some_asks, some_count, some_enters, mark_answer, mark_begun, mark_fields, mark_starts, some_answer, words_now}
 pub use Rattle.heap_marking.proofs.MarkedHeap.{further, marks_within, never_gone, never_unmarked}
 pub use Rattle.heap_marking.proofs.SweepEntered.{can_all, has_marking, m, marked, r, rest_is_there}
 pub use Rattle.heap_marking.proofs.SweptRefusals.{sweep_answer, sweep_cause}
@@ -28,18 +29,19 @@ pub use Rattle.heap_marking.specs.MarkCauses.{marking_cause, waiting_cause, word
 pub use Rattle.heap_marking.specs.Marking.{Further}
 pub use Rattle.heap_marking.specs.Starts.{MarkingHasBegun, starts_in}
 pub use Rattle.heap_marking.specs.Sweeping.{SweepsSlot}
-pub use Rattle.leaf_collections.proofs.BeginEntered.{begin_count, begin_few, begin_free, begins_apart, begins_fit, begins_idle, begins_with, begins_world}
-pub use Rattle.leaf_collections.proofs.ChunkGiven.{places_fit, given_fresh, given_others, given_part, given_world, pool_others, pool_part, pool_world}
-pub use Rattle.leaf_collections.proofs.CollectionEnds.{are_fields, back_in_use, fits_so, has_slot, others_so, pool_same, world_so}
-pub use Rattle.leaf_collections.proofs.CollectionPutOff.{put_off_apart, put_off_fits, put_off_stands, reset, without_fresh, put_off_answer}
+pub use Rattle.leaf_collections.proofs.BeginEntered.{begin_count, begin_few, begin_free, begins, begins_with}
+pub use Rattle.leaf_collections.proofs.ChunkGiven.{places_fit, fresh, chunk_entered, full_entered}
+pub use Rattle.leaf_collections.proofs.CollectionEnds.{AsksLeafEnd, asks_leaf_end, are_fields, back_in_use, has_slot, leaf_ended}
+pub use Rattle.leaf_collections.proofs.CollectionPutOff.{put_off_entered, reset, put_off_answer}
+pub use Rattle.leaf_collections.proofs.LeafEntry.{AsksLeaf, LeafEntered, asks_leaf, without_fresh}
 pub use Rattle.leaf_collections.proofs.WhyNoChunk.{chunk_answer, first_answer}
-pub use Rattle.leaf_collections.proofs.WhyNoCollection.{begin_answer}
+pub use Rattle.leaf_collections.proofs.WhyNoCollection.{begin_answer, begin_idle}
 pub use Rattle.leaf_collections.proofs.WhyNoEnd.{end_answer}
 pub use Rattle.leaf_collections.proofs.below.core_invariant.{same_length, worker_there, found_first, nothing_first, end_now, journal_by, four_changed, entry_on, steps_small, ran_world, ran_part, ran_others, fuel_all, fuel_world, at_work, calls, calls_of, has_node, some_calls, took_world, took_part, took_others, halted_fit, used_now, second_gives_first, first_by, outputs_now, enough_is, ran_answer, room_fit, room_world, steps_now, tree_long, took_answer}
 pub use Rattle.leaf_collections.proofs.below.plain_vec.{or_false, got_set, if_none, all_from, got_other}
 pub use Rattle.leaf_collections.proofs.below.task_machine.{same_line}
 pub use Rattle.leaf_collections.specs.LeafEnd.{FitsCopied, end_entry, without_collection}
-pub use Rattle.leaf_collections.specs.below.chunk_pool.{PoolValue, slot_at, NotTaken, Full, units_in_use}
+pub use Rattle.leaf_collections.specs.below.chunk_pool.{PoolValue, TakesAll, slot_at, NotTaken, Full, units_in_use}
 pub use Rattle.leaf_collections.specs.below.copying_gc.{Moved, ToChunks}
 pub use Rattle.leaf_collections.specs.below.core_invariant.{NotEntered, NoMemory, SharedValue, accounts, rest_at, value_of, IsSharedValue, EachPartStillFits, WorkerPartFits, EntersOrRefuses, IsCaused, refused, Refuses, above_of, is_beyond, is_beyond_by, is_beyond_line, is_joint, next_line, first_cause, or_else, chunk_cause, part_asks, OthersFit, take_by, CopyingHasBegun, roots_of, Enters, heaps_of, sources_of, Prints, marks_at, taken_part, due_cause, FitsFirst, Ending, IsOutPart, Beyond, Returns, NotRan, RanAnswers, is_state_ready, took_cause}
 pub use Rattle.leaf_collections.specs.below.fork_join.{Child, EndedChild, joined_nodes}
@@ -52,7 +54,7 @@ pub use Rattle.leaf_collections.specs.below.object_layout.{small_words, ChunkVal
 pub use Rattle.leaf_collections.specs.below.plain_vec.{ReservedVecValue}
 pub use Rattle.leaf_collections.specs.below.refinement.{CanGoOnMarking, kept}
 pub use Rattle.leaf_collections.specs.below.remembered_set.{RememberedValue, redirected, AreAscending, ArePlaces, StandOnce}
-pub use Rattle.leaf_collections.specs.below.run_ledger.{Ledger, owns, task_steps, touched, Refused, Collecting, refused_if, Machine, heap_of, left_in, Pool, chunk_units, in_use, PoolShort, is_pool_enough, refused_unless, words_in, PoolEnough, NotReady, refused_holding, sweep_number}
+pub use Rattle.leaf_collections.specs.below.run_ledger.{Ledger, Marked, Marking, is_fuel, owns, task_steps, touched, Refused, Collecting, refused_if, Machine, heap_of, left_in, Pool, chunk_units, in_use, PoolShort, is_pool_enough, refused_unless, words_in, PoolEnough, NotReady, refused_holding, sweep_number}
 pub use Rattle.leaf_collections.specs.below.run_trace.{EntryValue, Chunk, Begin, Mark, PutOff, More, Ran, Sweep, Fuel, Took, field_limit}
 pub use Rattle.leaf_collections.specs.below.task_frames.{FramesValue, frames_with_int, with_next, with_reference}
 pub use Rattle.leaf_collections.specs.below.task_machine.{Private, FitsNow, Places}

@@ -1,2 +1,2 @@
 -- Re-exports from `chunk_pool` for the crates above.
-pub use Rattle.core_invariant.specs.below.chunk_pool.{Full, NotTaken, PoolValue, Slot, owner_of, slot_at, slot_units, units_in_use}
+pub use Rattle.core_invariant.specs.below.chunk_pool.{Full, NotTaken, PoolValue, Slot, TakesAll, owner_of, slot_at, slot_units, units_in_use}

@@ -1,68 +1,11 @@
-use Rattle.shared_tree.proofs.Common.{◌≡◌, ◌<◌, ℕ, ◌+◌, ◌-◌, arith, Some, None, List, [], length, length-set, slice_get, slice_set, refl, ap, sym, subst, ◌∙◌, IsSome, ReservedVecValue, if_none, EntryValue, PoolValue, Ended, TaskNode, parent_of, state_of, with_state, sibling, RememberedValue, SetOf, EndedChild, joined_nodes, Private, TaskSlot, ParkedTask, TaskSlotsValue, SharedValue, rest_at, IsSharedValue, four_changed, alone_small, EndsChild, CanJoin, HasPlaces, parent_side, AsksEnd, asked_alone, asks_end, own_made, parent_low, few_tasks, other_made, left_by, Put, Taken, both_made, can_join, the_view}
+use Rattle.shared_tree.proofs.Common.{◌≡◌, ◌<◌, ℕ, ◌+◌, ◌-◌, arith, Some, None, List, [], length, length-set, slice_get, slice_set, refl, ap, sym, subst, ◌∙◌, IsSome, ReservedVecValue, if_none, EntryValue, PoolValue, Ended, TaskNode, parent_of, state_of, with_state, sibling, EndedChild, joined_nodes, Private, TaskSlotsValue, SharedValue, rest_at, IsSharedValue, four_changed, alone_small, EndsChild, CanJoin, HasPlaces, parent_side, AsksEnd, asked_alone, asks_end, own_made, parent_low, few_tasks, other_made, left_by, Put, Taken, both_made, can_join, the_view}
 use Rattle.fork_join_commit.proofs.JoinEntries as entry
 use Rattle.shared_tree.proofs.StepsEntered.{along, entered}
 use Rattle.shared_tree.proofs.shared.Shared.enter_join.Goals as goal
-use Rattle.shared_tree.proofs.shared.Shared.enter_join.Goals.{After-in_order-children, After-put_set}
+use Rattle.shared_tree.proofs.shared.Shared.enter_join.Goals.{After-in_order-children, After-put_set, After-self}
 
-pub sibling_of-other-requires-clause-child : goal.sibling_of-other-requires-clause-child
-sibling_of-other-requires-clause-child c =
-    let asks = asks_end c.self.view_is c.self.invariant c.requires.fits c.requires.ends c.requires.free in
-    let low = parent_low asks in
-    omega (arith, low)
-
-pub sibling_of-other-requires-clause-few : goal.sibling_of-other-requires-clause-few
-sibling_of-other-requires-clause-few c =
-    let w : SharedValue = the_view c.self.inside in
-    let asks = asks_end c.self.view_is c.self.invariant c.requires.fits c.requires.ends c.requires.free in
-    let few = few_tasks w asks.I in
-    let made = own_made asks in
-    omega (arith, few, made)
-
-pub enter_alone-requires-clause-small : goal.enter_alone-requires-clause-small
-enter_alone-requires-clause-small c =
-    let asks = asks_end c.self.view_is c.self.invariant c.requires.fits c.requires.ends c.requires.free in
-    alone_small (asked_alone asks)
-
-pub set_state-requires : goal.set_state-requires
-set_state-requires c =
-    let asks = asks_end c.self.view_is c.self.invariant c.requires.fits c.requires.ends c.requires.free in
-    own_made asks
-
-pub leave-requires : goal.leave-requires
-leave-requires c =
-    let p : Private = c.args.part in
-    let asks = asks_end c.self.view_is c.self.invariant c.requires.fits c.requires.ends c.requires.free in
-    record { made = subst (λ n. p.task < n) (sym asks.I.made) (own_made asks) }
-
-pub leave-requires-2 : goal.leave-requires-2
-leave-requires-2 c =
-    let w : SharedValue = the_view c.self.inside in
-    let p : Private = c.args.part in
-    let asks = asks_end c.self.view_is c.self.invariant c.requires.fits c.requires.ends c.requires.free in
-    let ended : state_of w.tree (sibling p.task) ≡ Some Ended = subst (λ (z : SharedValue). state_of z.tree (sibling p.task) ≡ Some Ended) (sym c.self.view_is) c.requires.ended in
-    let made = other_made asks ended in
-    let o = c.sibling_of-other.ensures in
-    let n = asks.I.made in
-    let m : length c.leave.new.self.rests ≡ length w.rests = ap (λ (z : TaskSlotsValue). length z.rests) c.leave.ensures.task_slots ∙ length-set w.rests p.task None in
-    record { made = omega (arith, made, o, n, m) }
-
-pub take_rest-above-requires : goal.take_rest-above-requires
-take_rest-above-requires c =
-    let w : SharedValue = the_view c.self.inside in
-    let p : Private = c.args.part in
-    let asks = asks_end c.self.view_is c.self.invariant c.requires.fits c.requires.ends c.requires.free in
-    let ended : state_of w.tree (sibling p.task) ≡ Some Ended = subst (λ (z : SharedValue). state_of z.tree (sibling p.task) ≡ Some Ended) (sym c.self.view_is) c.requires.ended in
-    let par : parent_of w.tree p.task ≡ Some c.args.parent = subst (λ (z : SharedValue). parent_of z.tree p.task ≡ Some c.args.parent) (sym c.self.view_is) c.requires.parent in
-    let h : TaskSlotsValue = c.self.inside.heaps.task_slots in
-    let two : c.leave-2.new.self ≡ left_by (left_by h p.task) c.sibling_of-other.result = c.leave-2.ensures.task_slots ∙ ap (λ (z : TaskSlotsValue). left_by z c.sibling_of-other.result) c.leave.ensures.task_slots in
-    record { there = subst (λ (z : TaskSlotsValue). IsSome (rest_at z.rests c.args.parent)) (sym two) (entry.parent_stays asks ended c.args.parent c.sibling_of-other.result par c.sibling_of-other.ensures) }
-
-pub take_set-requires : goal.take_set-requires
-take_set-requires c = record { block = c.take_rest-above.ensures.block }
-
--- What is known before the children join: the asks of an end, and that all that the calls took is that of the children
--- and of their parent.
-module _ (c : After-in_order-children) where
+-- What the end asks: the sibling has ended, and the parent is known.
+module _ (c : After-self) where
   abbrev w : SharedValue
   w = the_view c.self.inside
 
@@ -78,7 +21,48 @@ module _ (c : After-in_order-children) where
   par : parent_of w.tree p.task ≡ Some c.args.parent
   par = subst (λ (z : SharedValue). parent_of z.tree p.task ≡ Some c.args.parent) (sym c.self.view_is) c.requires.parent
 
-  taken : Taken w p c.args.parent c.sibling_of-other.result c.self.inside.heaps.task_slots c.leave.new.self c.leave-2.new.self c.take_rest-above.new.self c.take_set.new.self
+pub sibling_of-other-requires-clause-child : goal.sibling_of-other-requires-clause-child
+sibling_of-other-requires-clause-child c =
+    let low = parent_low (asks (goal.at.sibling_of-other-requires-clause-child c).After-self) in
+    omega (arith, low)
+
+pub sibling_of-other-requires-clause-few : goal.sibling_of-other-requires-clause-few
+sibling_of-other-requires-clause-few c =
+    let b = (goal.at.sibling_of-other-requires-clause-few c).After-self in
+    let few = few_tasks (w b) c.self.invariant in
+    let made = own_made (asks b) in
+    omega (arith, few, made)
+
+pub enter_alone-requires-clause-small : goal.enter_alone-requires-clause-small
+enter_alone-requires-clause-small c = alone_small (asked_alone (asks (goal.at.enter_alone-requires-clause-small c).After-self))
+
+pub set_state-requires : goal.set_state-requires
+set_state-requires c = own_made (asks (goal.at.set_state-requires c).After-self)
+
+pub leave-requires : goal.leave-requires
+leave-requires c = record { made = subst (λ n. c.args.part.task < n) (sym c.self.invariant.made) (own_made (asks (goal.at.leave-requires c).After-self)) }
+
+pub leave-requires-2 : goal.leave-requires-2
+leave-requires-2 c =
+    let b = (goal.at.leave-requires-2 c).After-self in
+    let made = other_made (asks b) (ended b) in
+    let o = c.sibling_of-other.ensures in
+    let n = c.self.invariant.made in
+    let m : length c.leave.new.self.rests ≡ length (w b).rests = ap (λ (z : TaskSlotsValue). length z.rests) c.leave.ensures.task_slots ∙ length-set (w b).rests (p b).task None in
+    record { made = omega (arith, made, o, n, m) }
+
+pub take_rest-above-requires : goal.take_rest-above-requires
+take_rest-above-requires c =
+    let b = (goal.at.take_rest-above-requires c).After-self in
+    let two : c.leave-2.new.self ≡ left_by (left_by c.self.inside.heaps.task_slots (p b).task) c.sibling_of-other.result = c.leave-2.ensures.task_slots ∙ ap (λ (z : TaskSlotsValue). left_by z c.sibling_of-other.result) c.leave.ensures.task_slots in
+    record { there = subst (λ (z : TaskSlotsValue). IsSome (rest_at z.rests c.args.parent)) (sym two) (entry.parent_stays (asks b) (ended b) c.args.parent c.sibling_of-other.result (par b) c.sibling_of-other.ensures) }
+
+pub take_set-requires : goal.take_set-requires
+take_set-requires c = record { block = c.take_rest-above.ensures.block }
+
+-- What is known before the children join: all that the calls took is that of the children and of their parent.
+module _ (c : After-in_order-children) where
+  taken : Taken (the_view c.self.inside) c.args.part c.args.parent c.sibling_of-other.result c.self.inside.heaps.task_slots c.leave.new.self c.leave-2.new.self c.take_rest-above.new.self c.take_set.new.self
       c.leave.result c.leave-2.result c.take_rest-above.result c.take_set.result c.into_parts-noted.result.0 c.own_child-own.result c.other_child-beside.result c.in_order-children.result.0 c.in_order-children.result.1
   taken = record {
     rests_are = refl;
@@ -102,19 +86,21 @@ module _ (c : After-in_order-children) where
     right_is = c.in_order-children.ensures.right;
   }
 
-  places : HasPlaces w p c.args.parent
-  places = subst (λ (z : SharedValue). HasPlaces z p c.args.parent) (sym c.self.view_is) c.requires.places
+  places : HasPlaces (the_view c.self.inside) c.args.part c.args.parent
+  places = subst (λ (z : SharedValue). HasPlaces z c.args.part c.args.parent) (sym c.self.view_is) c.requires.places
 
 pub join_children-rest-requires-clause-work : goal.join_children-rest-requires-clause-work
 join_children-rest-requires-clause-work c =
-    let b = (goal.at.join_children-rest-requires-clause-work c).After-in_order-children in
-    (can_join (asks b) (ended b) c.args.parent c.sibling_of-other.result (par b) c.sibling_of-other.ensures _ _ _ _ _ _ _ _ _ _ _ _ _ _ (taken b) (places b)).0
+    let b = (goal.at.join_children-rest-requires-clause-work c).After-self in
+    let d = (goal.at.join_children-rest-requires-clause-work c).After-in_order-children in
+    (can_join (asks b) (ended b) c.args.parent c.sibling_of-other.result (par b) c.sibling_of-other.ensures _ _ _ _ _ _ _ _ _ _ _ _ _ _ (taken d) (places d)).0
 
 pub join_children-rest-requires-clause-can : goal.join_children-rest-requires-clause-can
 join_children-rest-requires-clause-can c =
-    let b = (goal.at.join_children-rest-requires-clause-can c).After-in_order-children in
+    let b = (goal.at.join_children-rest-requires-clause-can c).After-self in
+    let d = (goal.at.join_children-rest-requires-clause-can c).After-in_order-children in
     subst (λ (ns : List TaskNode). CanJoin ns (the_view c.self.inside).pool (parent_side c.args.parent c.take_rest-above.result c.into_parts-noted.result.0) c.in_order-children.result.0 c.in_order-children.result.1) (sym c.set_state.ensures)
-    (can_join (asks b) (ended b) c.args.parent c.sibling_of-other.result (par b) c.sibling_of-other.ensures _ _ _ _ _ _ _ _ _ _ _ _ _ _ (taken b) (places b)).1
+    (can_join (asks b) (ended b) c.args.parent c.sibling_of-other.result (par b) c.sibling_of-other.ensures _ _ _ _ _ _ _ _ _ _ _ _ _ _ (taken d) (places d)).1
 
 pub remembering-set-requires : goal.remembering-set-requires
 remembering-set-requires c =
@@ -165,9 +151,9 @@ module _ (c : After-put_set) where
 
   both : IsSharedValue (with c.enter_alone.new.steps c.enter_alone.new.journal) × EndsChild v (with c.enter_alone.new.steps c.enter_alone.new.journal) k part (Some c.args.parent)
   both =
-      let b = (goal.at.invariant_of-self c).After-in_order-children in
+      let b = (goal.at.invariant_of-self c).After-self in
       let j : ReservedVecValue EntryValue = record { items = []; room = v.journal.room - 1 } in
-      let ends = both_made (asks b) (ended b) c.args.parent c.sibling_of-other.result (par b) c.sibling_of-other.ensures _ _ _ _ _ _ _ _ _ _ _ _ _ _ pool c.join_children-rest.result.0 c.join_children-rest.result.1 c.put_rest.new.self h6 c.remembering-set.result j (taken b) put in
+      let ends = both_made (asks b) (ended b) c.args.parent c.sibling_of-other.result (par b) c.sibling_of-other.ensures _ _ _ _ _ _ _ _ _ _ _ _ _ _ pool c.join_children-rest.result.0 c.join_children-rest.result.1 c.put_rest.new.self h6 c.remembering-set.result j (taken (goal.at.invariant_of-self c).After-in_order-children) put in
       let now : SharedValue = record v { pool = pool; sets = h6.sets; marks = h6.marks; steps = v.steps + (part.fresh + 1) } in
       let tree : c.join_children-rest.new.tree ≡ joined_nodes (with_state v.tree part.task Ended) c.args.parent left.side.task right.side.task = c.join_children-rest.ensures.tree ∙ ap (λ ns. joined_nodes ns c.args.parent left.side.task right.side.task) c.set_state.ensures in
       let same = four_changed now (joined_nodes (with_state v.tree part.task Ended) c.args.parent left.side.task right.side.task) c.join_children-rest.new.tree h6.rests h6.rests (slice_set v.tasks_out k None) c.set.new.self (entered v k part) _ tree refl c.set.ensures refl in

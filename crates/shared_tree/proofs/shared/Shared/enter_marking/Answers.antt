@@ -1,30 +1,22 @@
-use Rattle.shared_tree.proofs.Common.{◌≡◌, ℕ, ◌-◌, ◌<◌, ◌++◌, ◌∷◌, [], All, List, Option, Some, None, min, is_some, option_copied, slice_get, slice_set, ap, sym, subst, ◌∙◌, ReservedVecValue, EntryValue, More, heap_of, left_in, Addr, HasObjectAt, IsAllMarked, IsMarking, IsOf, MarkingValue, ParkedTask, ChunkValue, Fork, IsSince, kept, TaskSlotsValue, kept_of, refused, EachPartStillFits, SharedValue, accounts, marks_at, rest_at, value_of, IsSharedValue, journal_by, entry_on, marking_cause, Further, kept_noted, put_back, some_count, some_enters, some_marks, further, marks_within, never_gone, never_unmarked, the_view}
+use Rattle.shared_tree.proofs.Common.{◌≡◌, ℕ, ◌-◌, ◌<◌, ◌++◌, ◌∷◌, [], All, List, Option, Some, None, min, is_some, option_copied, slice_get, slice_set, ap, sym, subst, ◌∙◌, ReservedVecValue, EntryValue, More, heap_of, left_in, Addr, HasObjectAt, IsAllMarked, IsMarking, IsOf, MarkingValue, ParkedTask, ChunkValue, Fork, IsSince, kept, TaskSlotsValue, kept_of, refused, EachPartStillFits, SharedValue, accounts, marks_at, rest_at, value_of, IsSharedValue, journal_by, Further, kept_noted, put_back, some_count, some_enters, further, marks_within, never_gone, never_unmarked, the_view, AsksMarked, some_asks}
 use Rattle.heap_marking.proofs.MarkedHeap.{rest}
+use Rattle.shared_tree.proofs.Asked.{free_inside}
 use Rattle.shared_tree.proofs.shared.Shared.enter_marking.Goals as goal
 use Rattle.shared_tree.proofs.shared.Shared.enter_marking.Goals.{After-get_mut, After-push_reserved}
 
--- what is asked: the run hasn't ended, and the task is marking
-asked : {w old : SharedValue} (k t n : ℕ) → w ≡ old → IsSharedValue w → refused old (record { worker = k; kind = More t n }) ≡ None
-    → (refused w (record { worker = k; kind = More t n }) ≡ None) × (((accounts w).end ≡ None) × (marking_cause w t ≡ None))
-asked {w} {old} k t n is I free =
-    let e : EntryValue = record { worker = k; kind = More t n } in
-    let f : refused w e ≡ None = subst (λ (z : SharedValue). refused z e ≡ None) (sym is) free in
-    (f, (entry_on w e f, some_marks w I k t n f))
+-- what is asked: the task waits, and its heap is being marked
+asked : {w old : SharedValue} (k t n : ℕ) → w ≡ old → IsSharedValue w → refused old (record { worker = k; kind = More t n }) ≡ None → AsksMarked w t
+asked k t n same I free = some_asks _ I k t n (free_inside (record { worker = k; kind = More t n }) same free)
 
 pub take_marking-requires : goal.take_marking-requires
-take_marking-requires c =
-    let a = asked c.args.worker c.args.t c.args.n c.self.view_is c.self.invariant c.requires.free in
-    record { there = ap is_some (rest _ c.self.invariant a.1.0 c.args.t a.1.1).1 }
+take_marking-requires c = record { there = ap is_some (rest (asked c.args.worker c.args.t c.args.n c.self.view_is c.self.invariant c.requires.free)).1 }
 
 pub unreachable-requires : goal.unreachable-requires
-unreachable-requires c =
-    let a = asked c.args.worker c.args.t c.args.n c.self.view_is c.self.invariant c.requires.free in
-    never_unmarked _ c.self.invariant a.1.0 c.args.t a.1.1 (sym c.take_marking.ensures.marking ∙ c.in_default.is)
+unreachable-requires c = never_unmarked (asked c.args.worker c.args.t c.args.n c.self.view_is c.self.invariant c.requires.free) (sym c.take_marking.ensures.marking ∙ c.in_default.is)
 
 pub unreachable-requires-in_default-rest : goal.unreachable-requires-in_default-rest
 unreachable-requires-in_default-rest c =
-    let a = asked c.args.worker c.args.t c.args.n c.self.view_is c.self.invariant c.requires.free in
-    never_gone _ c.self.invariant a.1.0 c.args.t a.1.1 (ap (λ (h : TaskSlotsValue). rest_at h.rests c.args.t) (sym c.take_marking.ensures.task_slots) ∙ (sym c.rest.ensures ∙ ap option_copied c.in_default-rest.is))
+    never_gone (asked c.args.worker c.args.t c.args.n c.self.view_is c.self.invariant c.requires.free) (ap (λ (h : TaskSlotsValue). rest_at h.rests c.args.t) (sym c.take_marking.ensures.task_slots) ∙ (sym c.rest.ensures ∙ ap option_copied c.in_default-rest.is))
 
 pub put_marking-requires : goal.put_marking-requires
 put_marking-requires c = record { there = ap is_some (sym c.rest.ensures ∙ ap option_copied c.in-Some-rest.is) }
@@ -53,7 +45,7 @@ module _ (c : After-get_mut) where
   same = c.kept-kept.ensures ∙ (ap (λ (h : TaskSlotsValue). kept_of (slice_get h.sets t)) c.take_marking.ensures.task_slots ∙ kept_noted (slice_get w.sets t))
 
   F : Further w t heap marking
-  F = let a = asked c.args.worker c.args.t c.args.n c.self.view_is c.self.invariant c.requires.free in further w c.self.invariant a.1.0 t a.1.1 heap marking there at
+  F = further (asked c.args.worker c.args.t c.args.n c.self.view_is c.self.invariant c.requires.free) heap marking there at
 
 pub mark_objects-count-requires-clause-closed : goal.mark_objects-count-requires-clause-closed
 mark_objects-count-requires-clause-closed c = (F c).closed
@@ -96,8 +88,8 @@ module _ (c : After-push_reserved) where
   abbrev e : EntryValue
   e = record { worker = k; kind = More task n }
 
-  ask : (refused old e ≡ None) × (((accounts old).end ≡ None) × (marking_cause old task ≡ None))
-  ask = asked c.args.worker c.args.t c.args.n c.self.view_is c.self.invariant c.requires.free
+  free : refused old e ≡ None
+  free = free_inside e c.self.view_is c.requires.free
 
   own : IsOf held roots last
   own = subst (λ (xs : List Addr). IsOf held xs last) (same b) c.mark_objects-count.ensures.own
@@ -109,7 +101,7 @@ module _ (c : After-push_reserved) where
   left = subst (λ (xs : List Addr). (f : Fork) → IsSince f xs held → IsMarking f xs first → c.mark_objects-count.result < n → IsAllMarked f xs last) (same b) c.mark_objects-count.ensures.left
 
   count : c.mark_objects-count.result ≡ min n (left_in (heap_of (accounts old) task))
-  count = some_count old c.self.invariant k task n ask.0 c.in-Some-rest.rest.now first last c.mark_objects-count.result (there b) (at b) own c.mark_objects-count.ensures.count c.mark_objects-count.ensures.most goes left
+  count = some_count old c.self.invariant k task n free c.in-Some-rest.rest.now first last c.mark_objects-count.result (there b) (at b) own c.mark_objects-count.ensures.count c.mark_objects-count.ensures.most goes left
 
   abbrev with : TaskSlotsValue → ReservedVecValue EntryValue → SharedValue
   with h j = record old { rests = h.rests; sets = h.sets; marks = h.marks; journal = j }
@@ -117,11 +109,11 @@ module _ (c : After-push_reserved) where
   both : IsSharedValue (with c.put_marking.new.self c.push_reserved.new.self) × EachPartStillFits old (with c.put_marking.new.self c.push_reserved.new.self)
   both =
       let journal : c.push_reserved.new.self ≡ record { items = old.journal.items ++ e ∷ []; room = old.journal.room - 1 } = journal_by old.journal _ _ e c.new.ensures c.push_reserved.ensures in
-      let put = put_back old.marks task None last (marks_within old c.self.invariant ask.1.0 task ask.1.1) in
+      let put = put_back old.marks task None last (marks_within (some_asks old c.self.invariant k task n free)) in
       let ms : List (Option MarkingValue) = slice_set (slice_set old.marks task None) task (Some last) in
       let whole : c.put_marking.new.self ≡ record c.self.inside.heaps.task_slots { marks = ms } =
       c.put_marking.ensures.task_slots ∙ ap (λ (h : TaskSlotsValue). let z : TaskSlotsValue = record h { marks = slice_set h.marks task (Some last) } in z) c.take_marking.ensures.task_slots in
-      let all = some_enters old c.self.invariant k task n ask.0 c.in-Some-rest.rest.now first last c.mark_objects-count.result (there b) (at b) own c.mark_objects-count.ensures.count c.mark_objects-count.ensures.most goes left ms (old.journal.room - 1) put.0 put.1 in
+      let all = some_enters old c.self.invariant k task n free c.in-Some-rest.rest.now first last c.mark_objects-count.result (there b) (at b) own c.mark_objects-count.ensures.count c.mark_objects-count.ensures.most goes left ms (old.journal.room - 1) put.0 put.1 in
       subst (λ (j : ReservedVecValue EntryValue). IsSharedValue (with c.put_marking.new.self j) × EachPartStillFits old (with c.put_marking.new.self j)) (sym journal)
       (subst (λ (h : TaskSlotsValue). IsSharedValue (with h (record { items = old.journal.items ++ e ∷ []; room = old.journal.room - 1 })) × EachPartStillFits old (with h (record { items = old.journal.items ++ e ∷ []; room = old.journal.room - 1 }))) (sym whole) all)
 

@@ -1,19 +1,16 @@
-use Rattle.shared_tree.proofs.Common.{◌≡◌, false, ℕ, None, length, option_map, slice_get, slice_set, ap, sym, subst, ◌∙◌, EntryValue, Sweep, content_at, TaskSlotsValue, keeping, SharedValue, IsSharedValue, EachPartStillFits, refused, journal_by, SweepsSlot, can_all, has_marking, m, marked, r, rest_is_there, the_view}
+use Rattle.shared_tree.proofs.Common.{◌≡◌, false, ℕ, None, length, option_map, slice_get, slice_set, ap, sym, subst, ◌∙◌, Sweep, content_at, TaskSlotsValue, keeping, SharedValue, IsSharedValue, EachPartStillFits, refused, journal_by, SweepsSlot, can_all, has_marking, m, marked, r, rest_is_there, the_view}
 use Rattle.heap_marking.proofs.SweepEntered.{fits_so, has_slot, world_so}
+use Rattle.shared_tree.proofs.Asked.{free_inside}
 use Rattle.shared_tree.proofs.shared.Shared.enter_sweep.Goals as goal
 
--- the entry is free to be made, as the value inside has it
-free_in : {w old : SharedValue} (k t n : ℕ) → w ≡ old → refused old (record { worker = k; kind = Sweep t n }) ≡ None → refused w (record { worker = k; kind = Sweep t n }) ≡ None
-free_in {w} {old} k t n is free = subst (λ (z : SharedValue). refused z (record { worker = k; kind = Sweep t n }) ≡ None) (sym is) free
-
 pub drop_unmarked-requires-clause-slot : goal.drop_unmarked-requires-clause-slot
-drop_unmarked-requires-clause-slot c = has_slot _ c.args.worker c.args.t c.args.given c.self.invariant (free_in c.args.worker c.args.t c.args.given c.self.view_is c.requires.free)
+drop_unmarked-requires-clause-slot c = has_slot _ c.args.worker c.args.t c.args.given c.self.invariant (free_inside (record { worker = c.args.worker; kind = Sweep c.args.t c.args.given }) c.self.view_is c.requires.free)
 
 pub drop_unmarked-requires-clause-marking : goal.drop_unmarked-requires-clause-marking
-drop_unmarked-requires-clause-marking c = has_marking _ c.args.worker c.args.t c.args.given c.self.invariant (free_in c.args.worker c.args.t c.args.given c.self.view_is c.requires.free)
+drop_unmarked-requires-clause-marking c = has_marking _ c.args.worker c.args.t c.args.given c.self.invariant (free_inside (record { worker = c.args.worker; kind = Sweep c.args.t c.args.given }) c.self.view_is c.requires.free)
 
 pub drop_unmarked-requires-clause-can : goal.drop_unmarked-requires-clause-can
-drop_unmarked-requires-clause-can c = can_all _ c.args.worker c.args.t c.args.given c.self.invariant (free_in c.args.worker c.args.t c.args.given c.self.view_is c.requires.free)
+drop_unmarked-requires-clause-can c = can_all _ c.args.worker c.args.t c.args.given c.self.invariant (free_inside (record { worker = c.args.worker; kind = Sweep c.args.t c.args.given }) c.self.view_is c.requires.free)
 
 pub forget_kept-requires : goal.forget_kept-requires
 forget_kept-requires c = record { block = c.drop_unmarked.ensures.block }
@@ -39,7 +36,7 @@ module _ (c : goal.After-push_reserved) where
   new = c.forget_kept.new.task_slots
 
   free : refused w (record { worker = k; kind = Sweep t n }) ≡ None
-  free = free_in c.args.worker c.args.t c.args.given c.self.view_is c.requires.free
+  free = free_inside (record { worker = c.args.worker; kind = Sweep c.args.t c.args.given }) c.self.view_is c.requires.free
 
   marks : new.marks ≡ slice_set w.marks t None
   marks = ap (λ (h : TaskSlotsValue). h.marks) c.forget_kept.ensures.task_slots ∙ ap (λ (h : TaskSlotsValue). h.marks) c.drop_unmarked.ensures.task_slots

@@ -1,38 +1,37 @@
-use Rattle.shared_tree.proofs.Common.{◌≡◌, ◌==◌, ◌↔◌, ◌≤◌, ℕ, All, IsTrue, List, Some, None, ap, length, option_copied, slice_get, sym, subst, ◌∙◌, heap_of, left_in, Addr, ChunkValue, HasObjectAt, IsAllMarked, IsMarking, IsOf, Fork, IsSince, kept, SharedValue, accounts, marks_at, value_of, marking_cause, Further, kept_noted, further, never_unmarked, the_view}
+use Rattle.shared_tree.proofs.Common.{◌≡◌, ◌==◌, ◌↔◌, ◌≤◌, All, IsTrue, List, Some, ap, length, option_copied, slice_get, sym, subst, ◌∙◌, heap_of, left_in, Addr, ChunkValue, HasObjectAt, IsAllMarked, IsMarking, IsOf, Fork, IsSince, kept, SharedValue, accounts, marks_at, value_of, Further, kept_noted, further, never_unmarked, the_view, AsksMarked, asks_marked}
 use Rattle.heap_marking.proofs.MarkedHeap.{left_by, rest}
 use Rattle.shared_tree.proofs.shared.Shared.is_marked.Goals as goal
+use Rattle.shared_tree.proofs.shared.Shared.is_marked.Goals.{In-Some}
 
 pub unreachable-requires : goal.unreachable-requires
 unreachable-requires c =
-    let w : SharedValue = the_view c.self.inside in
-    let t : ℕ = c.args.t in
-    let on : (accounts w).end ≡ None = ap (λ (z : SharedValue). (accounts z).end) c.self.view_is ∙ c.requires.goes in
-    let free : marking_cause w t ≡ None = ap (λ (z : SharedValue). marking_cause z t) c.self.view_is ∙ c.requires.marking in
-    never_unmarked w c.self.invariant on t free (sym c.marking.ensures ∙ ap option_copied c.in-None.is)
+    never_unmarked (asks_marked c.args.t c.self.view_is c.self.invariant c.requires.goes c.requires.marking) (sym c.marking.ensures ∙ ap option_copied c.in-None.is)
+
+-- What is known of the heap and its marking.
+module _ (c : In-Some) where
+  abbrev w : SharedValue
+  w = the_view c.self.inside
+
+  asks : AsksMarked w c.args.t
+  asks = asks_marked c.args.t c.self.view_is c.self.invariant c.requires.goes c.requires.marking
+
+  at : marks_at w.marks c.args.t ≡ Some c.in-Some.marking.now
+  at = sym c.marking.ensures ∙ ap option_copied c.in-Some.is
+
+  same : c.kept-kept.result.now ≡ kept (value_of w) c.args.t
+  same = c.kept-kept.ensures ∙ kept_noted (slice_get w.sets c.args.t)
+
+  F : Further w c.args.t (rest asks).0 c.in-Some.marking.now
+  F = further asks (rest asks).0 c.in-Some.marking.now (rest asks).1 at
 
 pub ready-requires : goal.ready-requires
-ready-requires c =
-    let w : SharedValue = the_view c.self.inside in
-    let t : ℕ = c.args.t in
-    let on : (accounts w).end ≡ None = ap (λ (z : SharedValue). (accounts z).end) c.self.view_is ∙ c.requires.goes in
-    let free : marking_cause w t ≡ None = ap (λ (z : SharedValue). marking_cause z t) c.self.view_is ∙ c.requires.marking in
-    let slot = rest w c.self.invariant on t free in
-    let at : marks_at w.marks t ≡ Some c.in-Some.marking.now = sym c.marking.ensures ∙ ap option_copied c.in-Some.is in
-    let same : c.kept-kept.result.now ≡ kept (value_of w) t = c.kept-kept.ensures ∙ kept_noted (slice_get w.sets t) in
-    let F : Further w t slot.0 c.in-Some.marking.now = further w c.self.invariant on t free slot.0 c.in-Some.marking.now slot.1 at in
-    subst (λ (xs : List Addr). c.in-Some.marking.now.followed ≤ length xs) (sym same) F.own.followed
+ready-requires c = subst (λ (xs : List Addr). c.in-Some.marking.now.followed ≤ length xs) (sym (same c)) (F c).own.followed
 
 pub returns : goal.returns
 returns c =
-    let w : SharedValue = the_view c.self.inside in
-    let t : ℕ = c.args.t in
-    let on : (accounts w).end ≡ None = ap (λ (z : SharedValue). (accounts z).end) c.self.view_is ∙ c.requires.goes in
-    let free : marking_cause w t ≡ None = ap (λ (z : SharedValue). marking_cause z t) c.self.view_is ∙ c.requires.marking in
-    let slot = rest w c.self.invariant on t free in
-    let at : marks_at w.marks t ≡ Some c.in-Some.marking.now = sym c.marking.ensures ∙ ap option_copied c.in-Some.is in
-    let same : c.kept-kept.result.now ≡ kept (value_of w) t = c.kept-kept.ensures ∙ kept_noted (slice_get w.sets t) in
-    let F : Further w t slot.0 c.in-Some.marking.now = further w c.self.invariant on t free slot.0 c.in-Some.marking.now slot.1 at in
-    left_by w c.self.invariant on t free slot.0 c.in-Some.marking.now slot.1 at c.ready.result
-    (λ f. subst (λ (xs : List Addr). (g : Fork) (h : List ChunkValue) → All (HasObjectAt h) xs → IsOf h xs c.in-Some.marking.now → IsSince g xs h → IsMarking g xs c.in-Some.marking.now → IsTrue c.ready.result ↔ IsAllMarked g xs c.in-Some.marking.now) same c.ready.ensures.ready
-    f slot.0.heap.chunks F.kept F.own)
-    ∙ ap (λ (z : SharedValue). left_in (heap_of (accounts z) t) == 0) c.self.view_is
+    let b = (goal.at.returns c).In-Some in
+    let slot = rest (asks b) in
+    left_by (asks b) slot.0 c.in-Some.marking.now slot.1 (at b) c.ready.result
+    (λ f. subst (λ (xs : List Addr). (g : Fork) (h : List ChunkValue) → All (HasObjectAt h) xs → IsOf h xs c.in-Some.marking.now → IsSince g xs h → IsMarking g xs c.in-Some.marking.now → IsTrue c.ready.result ↔ IsAllMarked g xs c.in-Some.marking.now) (same b) c.ready.ensures.ready
+    f slot.0.heap.chunks (F b).kept (F b).own)
+    ∙ ap (λ (z : SharedValue). left_in (heap_of (accounts z) c.args.t) == 0) c.self.view_is

@@ -1,5 +1,7 @@
-use Rattle.shared_tree.proofs.Common.{◌≡◌, ℕ, true, false, Option, Some, None, is_some, option_copied, refl, ap, sym, subst, ◌∙◌, Bor, Mark, heap_of, words_in, saturating_words, first_cause, refused, SharedValue, accounts, marks_at, IsSharedValue, first_answer, waiting_cause, words_cause, mark_as_marking, mark_as_waiting, mark_as_words, the_view}
+use Rattle.shared_tree.proofs.Common.{mark_answer, waiting_cause, words_cause, SharedValue, accounts, refused, or_else, marks_at, saturating_words, Marking, refused_if, heap_of, words_in, EntryValue, Mark, the_view, ◌≡◌, sym, ℕ, Option, ◌∙◌, Some, is_some, refl, ap, option_copied, Bor, true, None, false}
+use Rattle.shared_tree.proofs.Asked.{by_first, by_first_cause, by_next}
 use Rattle.shared_tree.proofs.shared.Shared.mark_refused.Goals as goal
+use Rattle.shared_tree.proofs.shared.Shared.mark_refused.Goals.{After-waiting_cause-waiting}
 
 -- a reference exists if what it leads to does
 some_copied : {A : Type 0} (o : Option (Bor A)) → is_some (option_copied o) ≡ is_some o
@@ -8,53 +10,39 @@ some_copied (Some r) = refl
 
 pub returns-then-is_some : goal.returns-then-is_some
 returns-then-is_some c =
-    let k : ℕ = c.args.worker in
-    let t : ℕ = c.args.t in
-    let w : SharedValue = the_view c.self.inside in
-    let some : is_some (first_cause w.end w.steps w.settings k false) ≡ true = ap is_some (sym c.first_cause-first.ensures) ∙ (sym c.is_some.ensures ∙ c.if-is_some.true) in
-    c.first_cause-first.ensures
-    ∙ subst (λ (y : SharedValue). first_cause w.end w.steps w.settings k false ≡ refused y (record { worker = k; kind = Mark t })) c.self.view_is (sym (first_answer w c.self.invariant (record { worker = k; kind = Mark t }) some))
+    by_first_cause c.self.view_is c.self.invariant (record { worker = c.args.worker; kind = Mark c.args.t }) c.first_cause-first.result c.first_cause-first.ensures (sym c.is_some.ensures ∙ c.if-is_some.true)
+
+-- What the answer is if no cause precedes those of its kind.
+module _ (c : After-waiting_cause-waiting) where
+  abbrev w : SharedValue
+  w = the_view c.self.inside
+
+  abbrev t : ℕ
+  t = c.args.t
+
+  abbrev e : EntryValue
+  e = record { worker = c.args.worker; kind = Mark t }
+
+  abbrev words : SharedValue → ℕ
+  words z = saturating_words (words_in (accounts z).machine (heap_of (accounts z) t))
+
+  answer : refused c.args.self.now e ≡ or_else (waiting_cause w t) (refused_if (is_some (marks_at w.marks t)) Marking (words_cause w.settings (words w)))
+  answer = ap (λ (z : SharedValue). refused z e) (sym c.self.view_is) ∙ mark_answer w c.self.invariant c.args.worker t (ap is_some (sym c.first_cause-first.ensures) ∙ (sym c.is_some.ensures ∙ c.if-is_some.false))
 
 pub returns-then-is_some-2 : goal.returns-then-is_some-2
 returns-then-is_some-2 c =
-    let z : SharedValue = c.args.self.now in
-    let k : ℕ = c.args.worker in
-    let t : ℕ = c.args.t in
-    let I : IsSharedValue z = subst IsSharedValue c.self.view_is c.self.invariant in
-    let first : is_some (first_cause z.end z.steps z.settings k false) ≡ false =
-    ap (λ (y : SharedValue). is_some (first_cause y.end y.steps y.settings k false)) (sym c.self.view_is) ∙ (ap is_some (sym c.first_cause-first.ensures) ∙ (sym c.is_some.ensures ∙ c.if-is_some.false)) in
-    let waiting : c.waiting_cause-waiting.result ≡ waiting_cause z t =
-    c.waiting_cause-waiting.ensures ∙ ap (λ (y : SharedValue). waiting_cause y t) c.self.view_is in
-    mark_as_waiting z I k t c.waiting_cause-waiting.result first waiting (sym c.is_some-2.ensures ∙ c.if-is_some-2.true)
+    let b = (goal.at.returns-then-is_some-2 c).After-waiting_cause-waiting in by_first _ (answer b) c.waiting_cause-waiting.result c.waiting_cause-waiting.ensures (sym c.is_some-2.ensures ∙ c.if-is_some-2.true)
 
 pub returns-then-is_some-3 : goal.returns-then-is_some-3
 returns-then-is_some-3 c =
-    let z : SharedValue = c.args.self.now in
-    let k : ℕ = c.args.worker in
-    let t : ℕ = c.args.t in
-    let I : IsSharedValue z = subst IsSharedValue c.self.view_is c.self.invariant in
-    let first : is_some (first_cause z.end z.steps z.settings k false) ≡ false =
-    ap (λ (y : SharedValue). is_some (first_cause y.end y.steps y.settings k false)) (sym c.self.view_is) ∙ (ap is_some (sym c.first_cause-first.ensures) ∙ (sym c.is_some.ensures ∙ c.if-is_some.false)) in
-    let waiting : c.waiting_cause-waiting.result ≡ waiting_cause z t =
-    c.waiting_cause-waiting.ensures ∙ ap (λ (y : SharedValue). waiting_cause y t) c.self.view_is in
-    let marks : is_some (marks_at z.marks t) ≡ c.is_some-3.result =
-    ap (λ (y : SharedValue). is_some (marks_at y.marks t)) (sym c.self.view_is) ∙ (ap is_some (sym c.marking.ensures) ∙ (some_copied c.marking.result ∙ sym c.is_some-3.ensures)) in
-    mark_as_marking z I k t c.waiting_cause-waiting.result first waiting (sym c.is_some-2.ensures ∙ c.if-is_some-2.false) (marks ∙ c.if-is_some-3.true)
+    let b = (goal.at.returns-then-is_some-3 c).After-waiting_cause-waiting in
+    let marked : is_some (marks_at (w b).marks (t b)) ≡ true = ap is_some (sym c.marking.ensures) ∙ (some_copied c.marking.result ∙ (sym c.is_some-3.ensures ∙ c.if-is_some-3.true)) in
+    ap (λ x. refused_if x Marking (words_cause (w b).settings (words b (w b)))) (sym marked) ∙ by_next (answer b) c.waiting_cause-waiting.result c.waiting_cause-waiting.ensures (sym c.is_some-2.ensures ∙ c.if-is_some-2.false)
 
 pub returns : goal.returns
 returns c =
-    let z : SharedValue = c.args.self.now in
-    let k : ℕ = c.args.worker in
-    let t : ℕ = c.args.t in
-    let I : IsSharedValue z = subst IsSharedValue c.self.view_is c.self.invariant in
-    let first : is_some (first_cause z.end z.steps z.settings k false) ≡ false =
-    ap (λ (y : SharedValue). is_some (first_cause y.end y.steps y.settings k false)) (sym c.self.view_is) ∙ (ap is_some (sym c.first_cause-first.ensures) ∙ (sym c.is_some.ensures ∙ c.if-is_some.false)) in
-    let waiting : c.waiting_cause-waiting.result ≡ waiting_cause z t =
-    c.waiting_cause-waiting.ensures ∙ ap (λ (y : SharedValue). waiting_cause y t) c.self.view_is in
-    let marks : is_some (marks_at z.marks t) ≡ c.is_some-3.result =
-    ap (λ (y : SharedValue). is_some (marks_at y.marks t)) (sym c.self.view_is) ∙ (ap is_some (sym c.marking.ensures) ∙ (some_copied c.marking.result ∙ sym c.is_some-3.ensures)) in
-    let words : ℕ = saturating_words (words_in (accounts z).machine (heap_of (accounts z) t)) in
+    let b = (goal.at.returns c).After-waiting_cause-waiting in
+    let unmarked : is_some (marks_at (w b).marks (t b)) ≡ false = ap is_some (sym c.marking.ensures) ∙ (some_copied c.marking.result ∙ (sym c.is_some-3.ensures ∙ c.if-is_some-3.false)) in
     c.words_cause.ensures
-    ∙ (ap (words_cause c.self.inside.settings) c.words_at.ensures
-    ∙ (ap (λ (y : SharedValue). words_cause y.settings words) c.self.view_is
-    ∙ mark_as_words z I k t c.waiting_cause-waiting.result first waiting (sym c.is_some-2.ensures ∙ c.if-is_some-2.false) (marks ∙ c.if-is_some-3.false)))
+    ∙ (ap (words_cause (w b).settings) (c.words_at.ensures ∙ ap (words b) (sym c.self.view_is))
+    ∙ (ap (λ x. refused_if x Marking (words_cause (w b).settings (words b (w b)))) (sym unmarked) ∙ by_next (answer b) c.waiting_cause-waiting.result c.waiting_cause-waiting.ensures (sym c.is_some-2.ensures ∙ c.if-is_some-2.false)))

@@ -1,47 +1,39 @@
-use Rattle.shared_tree.proofs.Common.{◌≡◌, ℕ, true, false, is_some, ap, sym, subst, ◌∙◌, More, first_cause, refused, SharedValue, IsSharedValue, first_answer, marking_cause, some_as_left, some_as_marking, the_view}
+use Rattle.shared_tree.proofs.Common.{some_answer, marking_cause, SharedValue, accounts, refused, or_else, Marked, refused_if, heap_of, left_in, More, the_view, ◌≡◌, sym, ℕ, ◌∙◌, None, is_some, ap, ◌==◌}
+use Rattle.std.proofs.Common.{Bool}
+use Rattle.shared_tree.proofs.Asked.{by_first, by_first_cause, by_next}
 use Rattle.shared_tree.proofs.shared.Shared.marking_refused.Goals as goal
+use Rattle.shared_tree.proofs.shared.Shared.marking_refused.Goals.{After-marking_cause-marking}
 
 pub returns-then-is_some : goal.returns-then-is_some
 returns-then-is_some c n =
-    let k : ℕ = c.args.worker in
-    let t : ℕ = c.args.t in
-    let w : SharedValue = the_view c.self.inside in
-    let some : is_some (first_cause w.end w.steps w.settings k false) ≡ true = ap is_some (sym c.first_cause-first.ensures) ∙ (sym c.is_some.ensures ∙ c.if-is_some.true) in
-    c.first_cause-first.ensures
-    ∙ subst (λ (y : SharedValue). first_cause w.end w.steps w.settings k false ≡ refused y (record { worker = k; kind = More t n })) c.self.view_is (sym (first_answer w c.self.invariant (record { worker = k; kind = More t n }) some))
+    by_first_cause c.self.view_is c.self.invariant (record { worker = c.args.worker; kind = More c.args.t n }) c.first_cause-first.result c.first_cause-first.ensures (sym c.is_some.ensures ∙ c.if-is_some.true)
+
+-- What the answer is if no cause precedes those of its kind.
+module _ (c : After-marking_cause-marking) where
+  abbrev w : SharedValue
+  w = the_view c.self.inside
+
+  abbrev t : ℕ
+  t = c.args.t
+
+  answer : (n : ℕ) → refused c.args.self.now (record { worker = c.args.worker; kind = More t n }) ≡ or_else (marking_cause w t) (refused_if (left_in (heap_of (accounts w) t) == 0) Marked None)
+  answer n =
+      ap (λ (z : SharedValue). refused z (record { worker = c.args.worker; kind = More t n })) (sym c.self.view_is)
+      ∙ some_answer w c.self.invariant c.args.worker t n (ap is_some (sym c.first_cause-first.ensures) ∙ (sym c.is_some.ensures ∙ c.if-is_some.false))
+
+  left : {b : Bool} → b ≡ (left_in (heap_of (accounts c.args.self.now) t) == 0) → refused_if b Marked None ≡ refused_if (left_in (heap_of (accounts w) t) == 0) Marked None
+  left is = ap (λ x. refused_if x Marked None) (is ∙ ap (λ (z : SharedValue). left_in (heap_of (accounts z) t) == 0) (sym c.self.view_is))
 
 pub returns-then-is_some-2 : goal.returns-then-is_some-2
 returns-then-is_some-2 c n =
-    let z : SharedValue = c.args.self.now in
-    let k : ℕ = c.args.worker in
-    let t : ℕ = c.args.t in
-    let I : IsSharedValue z = subst IsSharedValue c.self.view_is c.self.invariant in
-    let first : is_some (first_cause z.end z.steps z.settings k false) ≡ false =
-    ap (λ (y : SharedValue). is_some (first_cause y.end y.steps y.settings k false)) (sym c.self.view_is) ∙ (ap is_some (sym c.first_cause-first.ensures) ∙ (sym c.is_some.ensures ∙ c.if-is_some.false)) in
-    let marking : c.marking_cause-marking.result ≡ marking_cause z t =
-    c.marking_cause-marking.ensures ∙ ap (λ (y : SharedValue). marking_cause y t) c.self.view_is in
-    some_as_marking z I k t n c.marking_cause-marking.result first marking (sym c.is_some-2.ensures ∙ c.if-is_some-2.true)
+    let b = (goal.at.returns-then-is_some-2 c).After-marking_cause-marking in by_first _ (answer b n) c.marking_cause-marking.result c.marking_cause-marking.ensures (sym c.is_some-2.ensures ∙ c.if-is_some-2.true)
 
 pub returns-then-is_marked : goal.returns-then-is_marked
 returns-then-is_marked c n =
-    let z : SharedValue = c.args.self.now in
-    let k : ℕ = c.args.worker in
-    let t : ℕ = c.args.t in
-    let I : IsSharedValue z = subst IsSharedValue c.self.view_is c.self.invariant in
-    let first : is_some (first_cause z.end z.steps z.settings k false) ≡ false =
-    ap (λ (y : SharedValue). is_some (first_cause y.end y.steps y.settings k false)) (sym c.self.view_is) ∙ (ap is_some (sym c.first_cause-first.ensures) ∙ (sym c.is_some.ensures ∙ c.if-is_some.false)) in
-    let marking : c.marking_cause-marking.result ≡ marking_cause z t =
-    c.marking_cause-marking.ensures ∙ ap (λ (y : SharedValue). marking_cause y t) c.self.view_is in
-    some_as_left z I k t n c.marking_cause-marking.result first marking (sym c.is_some-2.ensures ∙ c.if-is_some-2.false) true (sym c.if-is_marked.true ∙ c.is_marked.ensures)
+    let b = (goal.at.returns-then-is_marked c).After-marking_cause-marking in
+    left b (sym c.if-is_marked.true ∙ c.is_marked.ensures) ∙ by_next (answer b n) c.marking_cause-marking.result c.marking_cause-marking.ensures (sym c.is_some-2.ensures ∙ c.if-is_some-2.false)
 
 pub returns-else-is_marked : goal.returns-else-is_marked
 returns-else-is_marked c n =
-    let z : SharedValue = c.args.self.now in
-    let k : ℕ = c.args.worker in
-    let t : ℕ = c.args.t in
-    let I : IsSharedValue z = subst IsSharedValue c.self.view_is c.self.invariant in
-    let first : is_some (first_cause z.end z.steps z.settings k false) ≡ false =
-    ap (λ (y : SharedValue). is_some (first_cause y.end y.steps y.settings k false)) (sym c.self.view_is) ∙ (ap is_some (sym c.first_cause-first.ensures) ∙ (sym c.is_some.ensures ∙ c.if-is_some.false)) in
-    let marking : c.marking_cause-marking.result ≡ marking_cause z t =
-    c.marking_cause-marking.ensures ∙ ap (λ (y : SharedValue). marking_cause y t) c.self.view_is in
-    some_as_left z I k t n c.marking_cause-marking.result first marking (sym c.is_some-2.ensures ∙ c.if-is_some-2.false) false (sym c.if-is_marked.false ∙ c.is_marked.ensures)
+    let b = (goal.at.returns-else-is_marked c).After-marking_cause-marking in
+    left b (sym c.if-is_marked.false ∙ c.is_marked.ensures) ∙ by_next (answer b n) c.marking_cause-marking.result c.marking_cause-marking.ensures (sym c.is_some-2.ensures ∙ c.if-is_some-2.false)
