@@ -1,6 +1,5 @@
 -- A leaf collection begins, as the call makes it.
-use Rattle.leaf_collections.proofs.Common.{◌≡◌, ℕ, ◌+◌, ◌^◌, ◌<◌, ◌≤◌, ◌++◌, arith, Some, List, [], ◌∷◌, length, map, All, ap, sym, subst, ◌∙◌, vec_len, ReservedVecValue, all_from, map_in, Begin, EntryValue, Addr, IsBorn, cell_of, small_words, ChunkValue, number_of, IsSoundReference, PoolValue, TakesAll, units_in_use, HaveDistinctNumbers, IsFresh, saturating_words, with_places, ToChunks, AreNew, as_reference, born_live, In, Private, Begun, SharedValue, take_by, CopyingHasBegun, roots_of, seen_object, root_here, ap₂}
-use Rattle.core_invariant.specs.below.copying_gc.{HasReservedLists}
+use Rattle.leaf_collections.proofs.Common.{◌≡◌, ℕ, ◌+◌, ◌^◌, ◌<◌, ◌≤◌, ◌++◌, arith, Some, List, [], ◌∷◌, length, map, All, ap, sym, subst, ◌∙◌, vec_len, ReservedVecValue, all_from, map_in, Begin, EntryValue, Addr, IsBorn, cell_of, small_words, ChunkValue, number_of, IsSoundReference, PoolValue, TakesAll, units_in_use, HaveDistinctNumbers, IsFresh, saturating_words, with_places, ToChunks, AreNew, as_reference, born_live, In, Private, Begun, SharedValue, take_by, CopyingHasBegun, roots_of, seen_object, root_here, ap₂, HasReservedLists}
 use Rattle.leaf_collections.proofs.LeafEntry as leaf
 use Rattle.leaf_collections.proofs.LeafEntry.{AsksLeaf, LeafEntered}
 use Rattle.leaf_collections.proofs.WhyNoCollection.{begin_within}

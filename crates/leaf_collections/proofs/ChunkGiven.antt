@@ -341,7 +341,7 @@ module _ {w : SharedValue} {k : ℕ} {p : Private} (asks : AsksLeaf ChunkOf w k 
         (subst (λ (z : Ledger). SameObjects before after_ (rested l t) (rested z t)) (sym then) part_same)
         (subst (λ (z : Ledger). BegunBy after_ (rested z t) t p.begun) (sym then) (subst (λ o. BegunBy after_ (rested L t) t o) (sym idle_part) none_then))
 
-    -- so is made what the call says, whose heap had other spare capacities before
+    -- as the call makes it: the heap had other spare capacities before
     pub chunk_entered : (c : ChunkValue) → c ≡ K → (a b : ℕ) → LeafEntered w w' e (record p { heap = with_places (added (with_places p.heap a b) c) slots spare })
     chunk_entered c is a b =
         subst (λ (h : LeafHeapValue). LeafEntered w w' e (record p { heap = h })) (sym (ap (λ (z : ChunkValue). with_places (added (with_places p.heap a b) z) slots spare) is ∙ places_added p.heap K a b slots spare))

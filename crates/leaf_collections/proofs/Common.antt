@@ -33,7 +33,6 @@ pub use Rattle.core_invariant.proofs.below.task_machine.{chunks_added, shape_add
 pub use Rattle.core_invariant.specs.Causes.{need_cause, first_cause, or_else, chunk_cause}
 pub use Rattle.core_invariant.specs.Due.{take_by, due_cause}
 pub use Rattle.core_invariant.specs.Entered.{refused, Enters}
-pub use Rattle.core_invariant.specs.WorkerPartFits.{WorkerPartFits, belongings_of_part, OthersFit, part_of}
 pub use Rattle.core_invariant.specs.LeafBegin.{CopyingHasBegun}
 pub use Rattle.core_invariant.specs.Measured.{AreMeasured, IsMeasured, KeepsUnits, RestsAreMeasured}
 pub use Rattle.core_invariant.specs.Next.{part_asks, next_line}
@@ -41,8 +40,9 @@ pub use Rattle.core_invariant.specs.Objects.{chunk_of, chunks_of, OffsetsAreSmal
 pub use Rattle.core_invariant.specs.Roots.{roots_of, heaps_of, sources_of}
 pub use Rattle.core_invariant.specs.SharedValue.{SharedValue, accounts, value_by, value_of, with_marks, tree_counts_of, belongings_in, rest_at}
 pub use Rattle.core_invariant.specs.Stands.{IsSharedValue, HeapForm}
+pub use Rattle.core_invariant.specs.WorkerPartFits.{WorkerPartFits, belongings_of_part, OthersFit, part_of}
 pub use Rattle.core_invariant.specs.below.chunk_pool.{PoolValue, owner_of, TakesAll, units_in_use, Slot, Reserves, slot_in, slot_at, IsBlank, NumbersBehind, one_unit, units_in}
-pub use Rattle.core_invariant.specs.below.copying_gc.{ToChunks, AreNew, as_reference, Moved, new_address}
+pub use Rattle.core_invariant.specs.below.copying_gc.{ToChunks, AreNew, as_reference, Moved, new_address, HasReservedLists}
 pub use Rattle.core_invariant.specs.below.hh_model.{MachineState, row_of, is_joined, is_waiting, asked, Object, object_at, is_running, Name, Task}
 pub use Rattle.core_invariant.specs.below.leaf_heap.{HaveDistinctNumbers, IsFresh, saturating_words, with_places, LeafHeapValue, added, AreTidy, CellsFitInChunks, IsTidy, IsCurrent, IsReserved, room_at, place_for, room_of}
 pub use Rattle.core_invariant.specs.below.ledger_step_laws.{Rests, rested, own, IdleRest}

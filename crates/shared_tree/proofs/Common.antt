@@ -50,7 +50,7 @@ pub use Rattle.leaf_collections.specs.below.hh_lang.{Instr, Par, Ret, Line, line
 pub use Rattle.leaf_collections.specs.below.hh_model.{MachineState, Task, fetched, ended_by, step, Trapped, Done, Depth}
 pub use Rattle.leaf_collections.specs.below.leaf_heap.{saturating_words, with_places, LeafHeapValue, IsFresh, added}
 pub use Rattle.leaf_collections.specs.below.mark_sweep_gc.{MarkingValue, AreGiven, IsAllMarked, IsMarking, IsOf, Fork, IsSince}
-pub use Rattle.leaf_collections.specs.below.object_layout.{small_words, ChunkValue, number_of, Addr, HasObjectAt, with_ref, cell_of, object_of}
+pub use Rattle.leaf_collections.specs.below.object_layout.{small_words, ChunkValue, number_of, Addr, HasObjectAt, with_ref, cell_of, object_of, cell_with_int}
 pub use Rattle.leaf_collections.specs.below.plain_vec.{ReservedVecValue}
 pub use Rattle.leaf_collections.specs.below.refinement.{CanGoOnMarking, kept}
 pub use Rattle.leaf_collections.specs.below.remembered_set.{RememberedValue, redirected, AreAscending, ArePlaces, StandOnce}
@@ -67,7 +67,7 @@ pub use Rattle.remote_access.specs.declared.other.OtherStep.{OtherStep}
 pub use Rattle.remote_access.specs.declared.other.OtherStep.TheVariants.{SetsNumber, Stops, StoresNumber, Traps, SetsReference}
 pub use Rattle.shared_tree.specs.StepEnd.{IsJoint, MayBeEntered, ComesTo, AloneTo}
 pub use Rattle.shared_tree.specs.contracts.shared.Shared.{the_view}
-pub use Rattle.std.proofs.Common.{◌≡◌, Result, Ok, Err, sym, subst, ℕ, Option, List, ap₂, ◌∙◌, ◌||◌, not, true, Some, None, length, slice_get, slice_set, option_map, is_some, refl, ap, ◌+◌, ◌-◌, ◌++◌, [], ◌∷◌, false, map, arith, ◌<◌, length-set, All, fold, w64, ℤ, SFits, rules, min, option_copied, ◌≤◌, inl, inr, ◌^◌, ◌==◌, ◌↔◌, IsTrue, IfOk, replicate, nat_le}
+pub use Rattle.std.proofs.Common.{◌≡◌, Result, Ok, Err, sym, subst, ℕ, Option, List, ap₂, ◌∙◌, ◌||◌, not, true, Some, None, length, slice_get, slice_set, option_map, is_some, refl, ap, ◌+◌, ◌-◌, ◌++◌, [], ◌∷◌, false, map, arith, ◌<◌, length-set, All, fold, w64, ℤ, SFits, rules, min, option_copied, ◌≤◌, inl, inr, ◌^◌, ◌==◌, ◌↔◌, IsTrue, IfOk, replicate, nat_le, Bool}
 pub use Rattle.std.proofs.lemmas.Bool.{cases_lt}
 pub use Rattle.std.proofs.lemmas.Int.{to_z-of_z}
 pub use Rattle.std.specs.Borrow.{Bor}

@@ -1,4 +1,4 @@
-use Rattle.shared_tree.proofs.Common.{◌≡◌, ℕ, ◌+◌, ◌-◌, arith, Some, None, List, [], length, option_map, slice_set, refl, sym, subst, Result, Ok, Err, OnErr, slice_index_or, ReservedVecValue, EntryValue, with_ref, cell_of, object_of, FramesValue, SetOf, content_after, content_at, Private, Heaps, IsSharedValue, SharedValue, GoesAlone, AsksAlone, asks_alone, alone_small, next_small, OtherStep, SameButRoom, TellsOther, put_rest, store_frames, store_of, roomier_same, roomier_world, the_view}
+use Rattle.shared_tree.proofs.Common.{◌≡◌, ℕ, ◌+◌, ◌-◌, arith, List, [], refl, sym, subst, Result, Ok, Err, OnErr, ReservedVecValue, EntryValue, FramesValue, SetOf, content_at, Private, Heaps, IsSharedValue, SharedValue, GoesAlone, AsksAlone, asks_alone, alone_small, next_small, SameButRoom, TellsOther, store_frames, store_of, roomier_same, roomier_world, the_view}
 use Rattle.remote_access.proofs.StoreEntries as entries
 use Rattle.shared_tree.proofs.HeapsWritten.{with_heaps, written_by}
 use Rattle.shared_tree.proofs.StepsEntered.{along, entered}

@@ -1,5 +1,4 @@
-use Rattle.shared_tree.proofs.Common.{◌≡◌, ℕ, ℤ, ◌+◌, ◌-◌, arith, Option, Some, None, List, [], slice_set, ap, sym, subst, ◌∙◌, w64, to_z-of_z, ReservedVecValue, EntryValue, cell_of, FramesValue, Private, Heaps, ParkedTask, TaskSlotsValue, IsSharedValue, SharedValue, GoesAlone, AsksAlone, asks_alone, alone_small, next_small, StoresNumber, TellsOther, put_rest, store_frames, the_view}
-use Rattle.leaf_collections.specs.below.object_layout.{cell_with_int}
+use Rattle.shared_tree.proofs.Common.{◌≡◌, ℕ, ℤ, ◌+◌, ◌-◌, arith, Option, Some, None, List, [], slice_set, ap, sym, subst, ◌∙◌, w64, to_z-of_z, ReservedVecValue, EntryValue, cell_of, FramesValue, Private, Heaps, ParkedTask, TaskSlotsValue, IsSharedValue, SharedValue, GoesAlone, AsksAlone, asks_alone, alone_small, next_small, StoresNumber, TellsOther, put_rest, store_frames, the_view, cell_with_int}
 use Rattle.remote_access.proofs.StoreEntries as entries
 use Rattle.shared_tree.proofs.HeapsWritten.{with_heaps, written_by}
 use Rattle.shared_tree.proofs.StepsEntered.{along, entered}

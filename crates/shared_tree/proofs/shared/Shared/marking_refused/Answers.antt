@@ -1,5 +1,4 @@
-use Rattle.shared_tree.proofs.Common.{some_answer, marking_cause, SharedValue, accounts, refused, or_else, Marked, refused_if, heap_of, left_in, More, the_view, ◌≡◌, sym, ℕ, ◌∙◌, None, is_some, ap, ◌==◌}
-use Rattle.std.proofs.Common.{Bool}
+use Rattle.shared_tree.proofs.Common.{some_answer, marking_cause, SharedValue, accounts, refused, or_else, Marked, refused_if, heap_of, left_in, More, the_view, ◌≡◌, sym, ℕ, ◌∙◌, None, is_some, ap, ◌==◌, Bool}
 use Rattle.shared_tree.proofs.Asked.{by_first, by_first_cause, by_next}
 use Rattle.shared_tree.proofs.shared.Shared.marking_refused.Goals as goal
 use Rattle.shared_tree.proofs.shared.Shared.marking_refused.Goals.{After-marking_cause-marking}
