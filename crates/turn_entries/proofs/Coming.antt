@@ -3,10 +3,10 @@ use Rattle.turn_entries.proofs.Common.{◌≡◌, ℕ, ◌<◌, ◌==◌, ◌||�
 use Rattle.turn_entries.specs.declared.between_turns.Ready.TheVariants.{Paused as HasPaused}
 use Rattle.turn_entries.proofs.Free.{spent_is}
 
-module _ {P : Type 0} (value : P → SharedValue) (w : SharedValue) (k : ℕ) (ready : Ready) (acted : TurnOutcome P) where
+module _ (w after : SharedValue) (k : ℕ) (ready : Ready) (acted : TurnOutcome) where
   -- another kind that is the same
-  pub acts_same : (a b : Option Kind) → a ≡ b → ActsFor value w k ready b acted → ActsFor value w k ready a acted
-  acts_same a b e A = subst (λ (o : Option Kind). ActsFor value w k ready o acted) (sym e) A
+  pub acts_same : (a b : Option Kind) → a ≡ b → ActsFor w after k ready b acted → ActsFor w after k ready a acted
+  acts_same a b e A = subst (λ (o : Option Kind). ActsFor w after k ready o acted) (sym e) A
 
   module _ (I : IsSharedValue w) (goes : (accounts w).end ≡ None) (below : k < w.settings.workers) where
     first : Option Refused
@@ -18,30 +18,30 @@ module _ {P : Type 0} (value : P → SharedValue) (w : SharedValue) (k : ℕ) (r
     going : (b : Bool) → nat_le w.settings.fuel (accounts w).steps ≡ b → going_kind w k ready ≡ (if b then Some Fuel else owing_kind w (owed_by w k) ready)
     going b e = ap (λ (c : Bool). if c then Some Fuel else owing_kind w (owed_by w k) ready) e
 
-    pub acts_spent : (o : Option Refused) → o ≡ first_cause w.end w.steps w.settings k false → is_some o ≡ true → ActsFor value w k ready (Some Fuel) acted → ActsFor value w k ready (going_kind w k ready) acted
+    pub acts_spent : (o : Option Refused) → o ≡ first_cause w.end w.steps w.settings k false → is_some o ≡ true → ActsFor w after k ready (Some Fuel) acted → ActsFor w after k ready (going_kind w k ready) acted
     acts_spent o is some A = acts_same (going_kind w k ready) (Some Fuel) (going true (spent o is ∙ some)) A
 
-  pub acts_brought : (other : Ready) → ready ≡ other → ActsFor value w k other (brought_kind w other) acted → ActsFor value w k ready (brought_kind w ready) acted
-  acts_brought other is A = subst (λ (x : Ready). ActsFor value w k x (brought_kind w x) acted) (sym is) A
+  pub acts_brought : (other : Ready) → ready ≡ other → ActsFor w after k other (brought_kind w other) acted → ActsFor w after k ready (brought_kind w ready) acted
+  acts_brought other is A = subst (λ (x : Ready). ActsFor w after k x (brought_kind w x) acted) (sym is) A
 
   next_by : (a b : Bool) (o : Option Kind) → a ≡ false → b ≡ false → (if (a || b) then None else o) ≡ o
   next_by a b o x y = ap (λ (c : Bool). if (c || b) then None else o) x ∙ ap (λ (c : Bool). if c then None else o) y
 
-  pub acts_on : is_over w ≡ false → is_out_of_memory ready ≡ false → ActsFor value w k ready (going_kind w k ready) acted → Acts value w k ready acted
+  pub acts_on : is_over w ≡ false → is_out_of_memory ready ≡ false → ActsFor w after k ready (going_kind w k ready) acted → Acts w after k ready acted
   acts_on on met A = acts_same (next_kind w k ready) (going_kind w k ready) (next_by (is_over w) (is_out_of_memory ready) (going_kind w k ready) on met) A
 
-module _ {P : Type 0} (value : P → SharedValue) (w : SharedValue) (k : ℕ) (part : Private) (acted : TurnOutcome P) where
-  pub acts_paused : (why other : Paused) → why ≡ other → ActsFor value w k (HasPaused part other) (Some (paused_kind w part other)) acted → ActsFor value w k (HasPaused part why) (Some (paused_kind w part why)) acted
-  acts_paused why other is A = subst (λ (y : Paused). ActsFor value w k (HasPaused part y) (Some (paused_kind w part y)) acted) (sym is) A
+module _ (w after : SharedValue) (k : ℕ) (part : Private) (acted : TurnOutcome) where
+  pub acts_paused : (why other : Paused) → why ≡ other → ActsFor w after k (HasPaused part other) (Some (paused_kind w part other)) acted → ActsFor w after k (HasPaused part why) (Some (paused_kind w part why)) acted
+  acts_paused why other is A = subst (λ (y : Paused). ActsFor w after k (HasPaused part y) (Some (paused_kind w part y)) acted) (sym is) A
 
   after_by : (kind : Kind) (b : Bool) → (part.fresh == 0) ≡ b → after_steps part kind ≡ (if b then kind else Ran part.task part.fresh)
   after_by kind b e = ap (λ (c : Bool). if c then kind else Ran part.task part.fresh) e
 
-  pub acts_fresh : (ready : Ready) (kind : Kind) → 0 < part.fresh → ActsFor value w k ready (Some (Ran part.task part.fresh)) acted → ActsFor value w k ready (Some (after_steps part kind)) acted
-  acts_fresh ready kind some A = acts_same value w k ready acted _ _ (ap Some (after_by kind false (ne_eqb part.fresh 0 (λ e. absurd (omega (arith, e, some)))))) A
+  pub acts_fresh : (ready : Ready) (kind : Kind) → 0 < part.fresh → ActsFor w after k ready (Some (Ran part.task part.fresh)) acted → ActsFor w after k ready (Some (after_steps part kind)) acted
+  acts_fresh ready kind some A = acts_same w after k ready acted _ _ (ap Some (after_by kind false (ne_eqb part.fresh 0 (λ e. absurd (omega (arith, e, some)))))) A
 
-  pub acts_at_once : (ready : Ready) (kind : Kind) → part.fresh ≡ 0 → ActsFor value w k ready (Some kind) acted → ActsFor value w k ready (Some (after_steps part kind)) acted
-  acts_at_once ready kind none A = acts_same value w k ready acted _ _ (ap Some (after_by kind true (eq-eqb part.fresh 0 none))) A
+  pub acts_at_once : (ready : Ready) (kind : Kind) → part.fresh ≡ 0 → ActsFor w after k ready (Some kind) acted → ActsFor w after k ready (Some (after_steps part kind)) acted
+  acts_at_once ready kind none A = acts_same w after k ready acted _ _ (ap Some (after_by kind true (eq-eqb part.fresh 0 none))) A
 
 -- whether enough chunks are free, by the lent part
 pub enough_is : (w : SharedValue) (part seen : Private) (enough b : Bool) → seen ≡ part → enough ≡ is_pool_enough w.settings (accounts w) seen.task → enough ≡ b → is_pool_enough w.settings (accounts w) part.task ≡ b

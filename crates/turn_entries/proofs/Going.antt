@@ -1,5 +1,5 @@
 -- Parts that may take steps.
-use Rattle.turn_entries.proofs.Common.{◌≡◌, ℕ, ◌<◌, None, ap, ◌∙◌, arith, LeafHeapValue, Moved, Private, Shared, WorkerPartFits, SharedValue, IsShared, FitsCopied, without_collection, IsPaused, MayRun}
+use Rattle.turn_entries.proofs.Common.{◌≡◌, ℕ, None, ap, ◌∙◌, arith, LeafHeapValue, Moved, Private, Shared, WorkerPartFits, SharedValue, IsShared, FitsCopied, without_collection, IsPaused, MayRun}
 
 module _ (w : SharedValue) (k : ℕ) (part : Private) where
   -- without fresh steps

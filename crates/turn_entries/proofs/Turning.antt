@@ -1,5 +1,5 @@
 -- Values before and after a turn.
-use Rattle.turn_entries.proofs.Common.{◌≡◌, ℕ, ◌+◌, ◌++◌, ◌∷◌, [], ◌||◌, Bool, true, false, List, Option, Some, None, is_some, length, refl, ap, sym, subst, ◌∙◌, inl, inr, false≢true, or_right, EntryValue, Kind, Ran, Took, RunEnd, Shared, Private, Enters, refused, EachPartStillFits, WorkerPartFits, OthersFit, NotEntered, NoMemory, Refuses, IsSharedValue, SharedValue, accounts, running_parent, HoldsNone, IsUnchanged, SameButPlaces, none_of, TurnOutcome, Entered, Same, Next, Running, Forked, Resumed, Idle, Waits, Stop, Ready, Run, Copied as IsCopied, Found, OutOfMemory, ActsFor, after_end, EndsHalted, ComesNext, Goes, WhyNone, going_kind, is_out_of_memory, BringsTo, next_after, EntersOne, NoEntryMade, is_over}
+use Rattle.turn_entries.proofs.Common.{◌≡◌, ℕ, ◌+◌, ◌++◌, ◌∷◌, [], ◌||◌, Bool, true, false, List, Option, Some, None, is_some, length, refl, ap, sym, subst, ◌∙◌, inl, inr, false≢true, or_right, EntryValue, Kind, Ran, Took, RunEnd, Shared, Private, Enters, refused, EachPartStillFits, WorkerPartFits, OthersFit, NotEntered, NoMemory, Refuses, IsSharedValue, SharedValue, accounts, running_parent, HoldsNone, IsUnchanged, SameButPlaces, none_of, TurnOutcome, Entered, Same, Next, Running, Forked, Resumed, Idle, Waits, Stop, Ready, Copied as IsCopied, Found, OutOfMemory, ActsFor, after_end, EndsHalted, ComesNext, Goes, WhyNone, going_kind, is_out_of_memory, BringsTo, next_after, EntersOne, NoEntryMade, is_over}
 use Rattle.turn_entries.specs.declared.between_turns.Next.TheVariants.{Collecting as Collects, Copied as HasCopied, Found as GoesFor}
 use Rattle.turn_entries.specs.declared.between_turns.Ready.TheVariants.{Paused as HasPaused}
 
@@ -71,34 +71,40 @@ none_over false (Some e) a b = absurd cc
 pub not_over : (w : SharedValue) → w.halted ≡ false → (accounts w).end ≡ None → is_over w ≡ false
 not_over w on goes = none_over w.halted (accounts w).end on goes
 
+both_none : (halted : Bool) (end : Option RunEnd) → (halted || is_some end) ≡ false → (halted ≡ false) × (end ≡ None)
+both_none true end h = absurd (false≢true (sym h))
+both_none false None h = (refl, refl)
+both_none false (Some e) h = absurd (false≢true (sym h))
+
+pub going_on : (w : SharedValue) → is_over w ≡ false → (w.halted ≡ false) × ((accounts w).end ≡ None)
+going_on w on = both_none w.halted (accounts w).end on
+
 pub ended_over : (w : SharedValue) → is_some (accounts w).end ≡ true → is_over w ≡ true
 ended_over w h = or_right w.halted (is_some (accounts w).end) h
 
--- whoever keeps the value
-module _ {P : Type 0} (value : P → SharedValue) where
-  -- after an entry that didn't end the run
-  pub entered_goes : (w : SharedValue) (run : Run P) (k : ℕ) (ready : Ready) (kind : Kind) (next : Next) (end : Option RunEnd) (ends : Bool) → IsSharedValue (value run.paced) → end ≡ (accounts (value run.paced)).end → ends ≡ is_some end → ends ≡ false
-      → EntersOne w (value run.paced) k kind → w.halted ≡ false → (Goes (value run.paced) → ComesNext w (value run.paced) k ready next) → ActsFor value w k ready (Some kind) (Entered run next)
-  entered_goes w run k ready kind next end ends I told is going E on follows = record {
-    made = kind;
-    is_next = refl;
-    enters = E;
-    shared = I;
-    on = E.enters.halted ∙ on;
-    follows = follows (sym told ∙ none_of end (sym is ∙ going));
-  }
+-- after an entry that didn't end the run
+pub entered_goes : (w after : SharedValue) (k : ℕ) (ready : Ready) (kind : Kind) (next : Next) (end : Option RunEnd) (ends : Bool) → IsSharedValue after → end ≡ (accounts after).end → ends ≡ is_some end → ends ≡ false
+    → EntersOne w after k kind → w.halted ≡ false → (Goes after → ComesNext w after k ready next) → ActsFor w after k ready (Some kind) (Entered next)
+entered_goes w after k ready kind next end ends I told is going E on follows = record {
+  made = kind;
+  is_next = refl;
+  enters = E;
+  shared = I;
+  on = E.enters.halted ∙ on;
+  follows = follows (sym told ∙ none_of end (sym is ∙ going));
+}
 
-  pub halts_with : (after : SharedValue) (run : Run P) → value run.paced ≡ record after { halted = true } → EachPartStillFits after (value run.paced) → EndsHalted value after (Same run Stop)
-  halts_with after run is all = λ w k ready kind same on.
-      let halts : NoEntryMade after (value run.paced) = record { journal = ap (λ (z : SharedValue). z.journal.items) is; program = ap (λ (z : SharedValue). z.program) is; settings = ap (λ (z : SharedValue). z.settings) is; all = all } in
-      (then_same w after same (value run.paced) halts, (ap is_over is, λ over. absurd (false≢true (sym on ∙ over))))
+pub halts_with : (same after : SharedValue) → after ≡ record same { halted = true } → EachPartStillFits same after → EndsHalted same after (Same Stop)
+halts_with same after is all = λ w k ready kind none on.
+    let halts : NoEntryMade same after = record { journal = ap (λ (z : SharedValue). z.journal.items) is; program = ap (λ (z : SharedValue). z.program) is; settings = ap (λ (z : SharedValue). z.settings) is; all = all } in
+    (then_same w same none after halts, (ap is_over is, λ over. absurd (false≢true (sym on ∙ over))))
 
-  -- ---- THE SAME IF A CALL BEFORE IT CHANGED NOTHING
+-- ---- THE SAME IF A CALL BEFORE IT CHANGED NOTHING
 
-  pub acts_same : (w after : SharedValue) (k : ℕ) (p q : Private) → after ≡ w → q ≡ p → (acted : TurnOutcome P) → ActsFor value after k (HasPaused q Shared) (Some (Ran q.task (q.fresh + 1))) acted → ActsFor value w k (HasPaused p Shared) (Some (Ran p.task (p.fresh + 1))) acted
-  acts_same w after k p q same part acted A =
-      subst (λ (z : Private). ActsFor value w k (HasPaused z Shared) (Some (Ran z.task (z.fresh + 1))) acted) part
-      (subst (λ (z : SharedValue). ActsFor value z k (HasPaused q Shared) (Some (Ran q.task (q.fresh + 1))) acted) same A)
+pub acts_same : (w same after : SharedValue) (k : ℕ) (p q : Private) → same ≡ w → q ≡ p → (acted : TurnOutcome) → ActsFor same after k (HasPaused q Shared) (Some (Ran q.task (q.fresh + 1))) acted → ActsFor w after k (HasPaused p Shared) (Some (Ran p.task (p.fresh + 1))) acted
+acts_same w same after k p q e part acted A =
+    subst (λ (z : Private). ActsFor w after k (HasPaused z Shared) (Some (Ran z.task (z.fresh + 1))) acted) part
+    (subst (λ (z : SharedValue). ActsFor z after k (HasPaused q Shared) (Some (Ran q.task (q.fresh + 1))) acted) e A)
 
 -- ---- THE SAME FROM THE VALUE BEFORE CAPACITY WAS RESERVED FOR AN ENTRY
 
@@ -128,13 +134,13 @@ module _ (w : SharedValue) (after : SharedValue) (e : after ≡ record w { journ
   none_then last Waits f = (f.0, on, f.2, same_kind ∙ f.3)
   none_then last Stop f = (f.0, λ over. absurd (false≢true (sym on ∙ over)))
 
-  pub acts_then : {P : Type 0} (value : P → SharedValue) (acted : TurnOutcome P) → ActsFor value after k ready (going_kind after k ready) acted → ActsFor value w k ready (going_kind w k ready) acted
-  acts_then value (Entered run next) A = record {
+  pub acts_then : (last : SharedValue) (acted : TurnOutcome) → ActsFor after last k ready (going_kind after k ready) acted → ActsFor w last k ready (going_kind w k ready) acted
+  acts_then last (Entered next) A = record {
     made = A.made;
     is_next = same_kind ∙ A.is_next;
-    enters = then_one w after (roomier w after e all) (ap (λ (z : SharedValue). z.halted) e) (value run.paced) k A.made A.enters;
+    enters = then_one w after (roomier w after e all) (ap (λ (z : SharedValue). z.halted) e) last k A.made A.enters;
     shared = A.shared;
     on = A.on;
-    follows = follows_then (value run.paced) next A.follows;
+    follows = follows_then last next A.follows;
   }
-  acts_then value (Same run next) A = (then_same w after (roomier w after e all) (value run.paced) A.0, none_then (value run.paced) next A.1)
+  acts_then last (Same next) A = (then_same w after (roomier w after e all) last A.0, none_then last next A.1)

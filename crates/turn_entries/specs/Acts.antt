@@ -60,32 +60,31 @@ WhyNone w after k ready kind Idle = (is_over after ≡ false) × (t : ℕ) × (k
 WhyNone w after k ready kind Waits = (is_over after ≡ false) × (is_over w ≡ false) × (ready ≡ Found None) × (kind ≡ None)
 WhyNone w after k ready kind _ = ⊥
 
--- whoever keeps the shared value
-module _ {P : Type 0} (value : P → SharedValue) where
-  abbrev pub ActsFor : SharedValue → ℕ → Ready → Option Kind → TurnOutcome P → Type 0
-  ActsFor w k ready kind (Entered run next) = MakesEntry w (value run.paced) k ready kind next
-  ActsFor w k ready kind (Same run next) = NoEntryMade w (value run.paced) × WhyNone w (value run.paced) k ready kind next
+-- what the worker did for this entry, if any came next
+abbrev pub ActsFor : SharedValue → SharedValue → ℕ → Ready → Option Kind → TurnOutcome → Type 0
+ActsFor w after k ready kind (Entered next) = MakesEntry w after k ready kind next
+ActsFor w after k ready kind (Same next) = NoEntryMade w after × WhyNone w after k ready kind next
 
-  -- WHAT THE WORKER DOES IN ITS TURN: it makes the entry that comes next, or none for one of these reasons
-  abbrev pub Acts : SharedValue → ℕ → Ready → TurnOutcome P → Type 0
-  Acts w k ready acted = ActsFor w k ready (next_kind w k ready) acted
+-- WHAT THE WORKER DOES IN ITS TURN: it makes the entry that comes next, or none for one of these reasons
+abbrev pub Acts : SharedValue → SharedValue → ℕ → Ready → TurnOutcome → Type 0
+Acts w after k ready acted = ActsFor w after k ready (next_kind w k ready) acted
 
-  -- ---- HOW A TURN ENDS, in terms of the value afterwards
+-- ---- HOW A TURN ENDS, in terms of the value afterwards
 
-  -- an entry was made, and the worker may go on in this way as long as the run does
-  abbrev pub EndsEntered : SharedValue → Next → TurnOutcome P → Type 0
-  EndsEntered after next acted = (w : SharedValue) (k : ℕ) (ready : Ready) (kind : Kind) → EntersOne w after k kind → w.halted ≡ false → (Goes after → ComesNext w after k ready next)
-      → ActsFor w k ready (Some kind) acted
+-- an entry was made, and the worker may go on in this way as long as the run does
+abbrev pub EndsEntered : SharedValue → Next → TurnOutcome → Type 0
+EndsEntered after next acted = (w : SharedValue) (k : ℕ) (ready : Ready) (kind : Kind) → EntersOne w after k kind → w.halted ≡ false → (Goes after → ComesNext w after k ready next)
+    → ActsFor w after k ready (Some kind) acted
 
-  -- none was made, since an allocation failed
-  abbrev pub EndsHalted : SharedValue → TurnOutcome P → Type 0
-  EndsHalted after acted = (w : SharedValue) (k : ℕ) (ready : Ready) (kind : Option Kind) → NoEntryMade w after → is_over w ≡ false → ActsFor w k ready kind acted
+-- none was made up to this value, and then an allocation failed
+abbrev pub EndsHalted : SharedValue → SharedValue → TurnOutcome → Type 0
+EndsHalted same after acted = (w : SharedValue) (k : ℕ) (ready : Ready) (kind : Option Kind) → NoEntryMade w same → is_over w ≡ false → ActsFor w after k ready kind acted
 
-  -- an entry was made by which each part still fits, and the worker goes on with what it brought
-  abbrev pub EndsPaid : SharedValue → Ready → TurnOutcome P → Type 0
-  EndsPaid after ready acted = (w : SharedValue) (k : ℕ) (kind : Kind) → IsSharedValue w → Goes w → is_out_of_memory ready ≡ false → BringsTo w k ready → EntersOne w after k kind → EachPartStillFits w after → w.halted ≡ false
-      → ActsFor w k ready (Some kind) acted
+-- an entry was made by which each part still fits, and the worker goes on with what it brought
+abbrev pub EndsPaid : SharedValue → Ready → TurnOutcome → Type 0
+EndsPaid after ready acted = (w : SharedValue) (k : ℕ) (kind : Kind) → IsSharedValue w → Goes w → is_out_of_memory ready ≡ false → BringsTo w k ready → EntersOne w after k kind → EachPartStillFits w after → w.halted ≡ false
+    → ActsFor w after k ready (Some kind) acted
 
-  -- the worker makes this entry, whatever it brought
-  abbrev pub ActsAnyhow : SharedValue → ℕ → Kind → TurnOutcome P → Type 0
-  ActsAnyhow w k kind acted = (ready : Ready) → ActsFor w k ready (Some kind) acted
+-- the worker makes this entry, whatever it brought
+abbrev pub ActsAnyhow : SharedValue → SharedValue → ℕ → Kind → TurnOutcome → Type 0
+ActsAnyhow w after k kind acted = (ready : Ready) → ActsFor w after k ready (Some kind) acted

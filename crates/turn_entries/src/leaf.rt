@@ -74,31 +74,35 @@ impl CollectionBlocks {
 
 impl<P: EntryCalls + Drop> Run<P> {
     // The collection of the part begins. There are blocks for what it takes along.
-    fn begin_in(self, worker: u32, part: PartInBlock, blocks: CollectionBlocks) -> TurnOutcome<P>
-        requires enter { MayEnter (P.value self.paced) worker OwedOf.Nothing }
-        requires paused { IsPaused (P.value self.paced) worker part Paused.Due }
-        requires enough { is_pool_enough (P.value self.paced).settings (accounts (P.value self.paced)) part.task ≡ true }
+    fn begin_in(&mut self, worker: u32, part: PartInBlock, blocks: CollectionBlocks) -> TurnOutcome
+        requires enter { MayEnter (P.value self.old.paced) worker OwedOf.Nothing }
+        requires paused { IsPaused (P.value self.old.paced) worker part Paused.Due }
+        requires enough { is_pool_enough (P.value self.old.paced).settings (accounts (P.value self.old.paced)) part.task ≡ true }
         requires fresh { part.fresh ≡ 0 }
-        ensures { ActsAnyhow P.value (P.value self.paced) worker (KindOf.Begin part.task) result }
+        ensures { ActsAnyhow (P.value self.old.paced) (P.value self.new.paced) worker (KindOf.Begin part.task) result }
     {
         self.paced.stands();
-        let mut run = self;
         let mut part = part;
-        match run.paced.leaf_begin(worker, part.get_mut()) {
+        match self.paced.leaf_begin(worker, part.get_mut()) {
             Ok((roots, to_chunks)) => {
-                run.entered(Next::Collecting(blocks.fill(part, roots, to_chunks)))
+                self.entered(Next::Collecting(blocks.fill(part, roots, to_chunks)))
             }
-            Err(cause) => run.out_of_memory(cause),
+            Err(cause) => self.out_of_memory(cause),
         }
     }
 
     // The collection of the part begins, given memory for what it takes along.
-    fn begin_leaf(self, blocks: &mut BlockSource, worker: u32, part: PartInBlock) -> TurnOutcome<P>
-        requires enter { MayEnter (P.value self.paced) worker OwedOf.Nothing }
-        requires paused { IsPaused (P.value self.paced) worker part Paused.Due }
-        requires enough { is_pool_enough (P.value self.paced).settings (accounts (P.value self.paced)) part.task ≡ true }
+    fn begin_leaf(
+        &mut self,
+        blocks: &mut BlockSource,
+        worker: u32,
+        part: PartInBlock,
+    ) -> TurnOutcome
+        requires enter { MayEnter (P.value self.old.paced) worker OwedOf.Nothing }
+        requires paused { IsPaused (P.value self.old.paced) worker part Paused.Due }
+        requires enough { is_pool_enough (P.value self.old.paced).settings (accounts (P.value self.old.paced)) part.task ≡ true }
         requires fresh { part.fresh ≡ 0 }
-        ensures { ActsAnyhow P.value (P.value self.paced) worker (KindOf.Begin part.task) result }
+        ensures { ActsAnyhow (P.value self.old.paced) (P.value self.new.paced) worker (KindOf.Begin part.task) result }
     {
         match CollectionBlocks::new(blocks.alloc()) {
             Ok(blocks) => self.begin_in(worker, part, blocks),
@@ -107,33 +111,32 @@ impl<P: EntryCalls + Drop> Run<P> {
     }
 
     // The collection of the part is put off.
-    fn put_off_leaf(self, worker: u32, part: PartInBlock) -> TurnOutcome<P>
-        requires enter { MayEnter (P.value self.paced) worker OwedOf.Nothing }
-        requires paused { IsPaused (P.value self.paced) worker part Paused.Due }
-        requires short { is_pool_enough (P.value self.paced).settings (accounts (P.value self.paced)) part.task ≡ false }
+    fn put_off_leaf(&mut self, worker: u32, part: PartInBlock) -> TurnOutcome
+        requires enter { MayEnter (P.value self.old.paced) worker OwedOf.Nothing }
+        requires paused { IsPaused (P.value self.old.paced) worker part Paused.Due }
+        requires short { is_pool_enough (P.value self.old.paced).settings (accounts (P.value self.old.paced)) part.task ≡ false }
         requires fresh { part.fresh ≡ 0 }
-        ensures { ActsAnyhow P.value (P.value self.paced) worker (KindOf.PutOff part.task) result }
+        ensures { ActsAnyhow (P.value self.old.paced) (P.value self.new.paced) worker (KindOf.PutOff part.task) result }
     {
         self.paced.stands();
-        let mut run = self;
         let mut part = part;
-        match run.paced.put_off(worker, part.get_mut()) {
-            Ok(()) => run.entered(Next::Running(part)),
+        match self.paced.put_off(worker, part.get_mut()) {
+            Ok(()) => self.entered(Next::Running(part)),
             Err(_) => unreachable!(),
         }
     }
 
     /// The due collection of the part begins, or is put off if too few chunks are free.
     pub(crate) fn collect(
-        self,
+        &mut self,
         blocks: &mut BlockSource,
         worker: u32,
         part: PartInBlock,
-    ) -> TurnOutcome<P>
-        requires enter { MayEnter (P.value self.paced) worker OwedOf.Nothing }
-        requires paused { IsPaused (P.value self.paced) worker part Paused.Due }
+    ) -> TurnOutcome
+        requires enter { MayEnter (P.value self.old.paced) worker OwedOf.Nothing }
+        requires paused { IsPaused (P.value self.old.paced) worker part Paused.Due }
         requires fresh { part.fresh ≡ 0 }
-        ensures { ActsAnyhow P.value (P.value self.paced) worker (due_kind (P.value self.paced) part.task) result }
+        ensures { ActsAnyhow (P.value self.old.paced) (P.value self.new.paced) worker (due_kind (P.value self.old.paced) part.task) result }
     {
         if self.paced.pool_enough(part.get()) {
             self.begin_leaf(blocks, worker, part)
@@ -143,23 +146,22 @@ impl<P: EntryCalls + Drop> Run<P> {
     }
 
     /// The collection of the part ends, whose heap was copied.
-    pub(crate) fn end_leaf(self, worker: u32, copied: Copied) -> TurnOutcome<P>
-        requires enter { MayEnter (P.value self.paced) worker OwedOf.Nothing }
-        requires fits { FitsCopied (P.value self.paced) worker copied.part copied.moved }
-        ensures { ActsAnyhow P.value (P.value self.paced) worker (KindOf.End copied.part.task copied.moved.taken copied.moved.given copied.moved.left) result }
+    pub(crate) fn end_leaf(&mut self, worker: u32, copied: Copied) -> TurnOutcome
+        requires enter { MayEnter (P.value self.old.paced) worker OwedOf.Nothing }
+        requires fits { FitsCopied (P.value self.old.paced) worker copied.part copied.moved }
+        ensures { ActsAnyhow (P.value self.old.paced) (P.value self.new.paced) worker (KindOf.End copied.part.task copied.moved.taken copied.moved.given copied.moved.left) result }
     {
         self.paced.stands();
-        let mut run = self;
         let Copied {
             mut part,
             moved,
             ..
         } = copied;
-        match run
+        match self
             .paced
             .leaf_end(worker, part.get_mut(), moved.into_inner())
         {
-            Ok(()) => run.entered(Next::Running(part)),
+            Ok(()) => self.entered(Next::Running(part)),
             Err(_) => unreachable!(),
         }
     }

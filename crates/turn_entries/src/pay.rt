@@ -28,72 +28,68 @@ fn next_after(ready: Ready) -> Next
 
 impl<P: EntryCalls + Drop> Run<P> {
     // What was owed is paid: the worker goes on with what it brought.
-    fn paid(self, ready: Ready) -> TurnOutcome<P>
-        ensures { EndsPaid P.value (P.value self.paced) ready result }
+    fn paid(&self, ready: Ready) -> TurnOutcome
+        ensures { EndsPaid (P.value self.now.paced) ready result }
     {
         let next = next_after(ready);
         self.entered(next)
     }
 
     /// A marking begins.
-    pub(crate) fn pay_mark(self, worker: u32, ready: Ready, task: u32) -> TurnOutcome<P>
-        requires enter { MayEnter (P.value self.paced) worker (OwedOf.Mark task) }
+    pub(crate) fn pay_mark(&mut self, worker: u32, ready: Ready, task: u32) -> TurnOutcome
+        requires enter { MayEnter (P.value self.old.paced) worker (OwedOf.Mark task) }
         requires met { is_out_of_memory ready ≡ false }
-        requires brings { BringsTo (P.value self.paced) worker ready }
-        ensures { ActsFor P.value (P.value self.paced) worker ready (Some (KindOf.Mark task)) result }
+        requires brings { BringsTo (P.value self.old.paced) worker ready }
+        ensures { ActsFor (P.value self.old.paced) (P.value self.new.paced) worker ready (Some (KindOf.Mark task)) result }
     {
         self.paced.stands();
-        let mut run = self;
-        match run.paced.mark(worker, task) {
-            Ok(()) => run.paid(ready),
-            Err(cause) => run.out_of_memory(cause),
+        match self.paced.mark(worker, task) {
+            Ok(()) => self.paid(ready),
+            Err(cause) => self.out_of_memory(cause),
         }
     }
 
     /// More objects are marked.
-    pub(crate) fn pay_more(self, worker: u32, ready: Ready, task: u32) -> TurnOutcome<P>
-        requires enter { MayEnter (P.value self.paced) worker (OwedOf.More task) }
+    pub(crate) fn pay_more(&mut self, worker: u32, ready: Ready, task: u32) -> TurnOutcome
+        requires enter { MayEnter (P.value self.old.paced) worker (OwedOf.More task) }
         requires met { is_out_of_memory ready ≡ false }
-        requires brings { BringsTo (P.value self.paced) worker ready }
-        ensures { ActsFor P.value (P.value self.paced) worker ready (Some (KindOf.More task marked_at_once)) result }
+        requires brings { BringsTo (P.value self.old.paced) worker ready }
+        ensures { ActsFor (P.value self.old.paced) (P.value self.new.paced) worker ready (Some (KindOf.More task marked_at_once)) result }
     {
         self.paced.stands();
-        let mut run = self;
-        match run.paced.mark_objects(worker, task, MARKED_AT_ONCE) {
-            Ok(_) => run.paid(ready),
+        match self.paced.mark_objects(worker, task, MARKED_AT_ONCE) {
+            Ok(_) => self.paid(ready),
             Err(_) => unreachable!(),
         }
     }
 
     /// A heap is swept.
-    pub(crate) fn pay_sweep(self, worker: u32, ready: Ready, task: u32) -> TurnOutcome<P>
-        requires enter { MayEnter (P.value self.paced) worker (OwedOf.Sweep task) }
+    pub(crate) fn pay_sweep(&mut self, worker: u32, ready: Ready, task: u32) -> TurnOutcome
+        requires enter { MayEnter (P.value self.old.paced) worker (OwedOf.Sweep task) }
         requires met { is_out_of_memory ready ≡ false }
-        requires brings { BringsTo (P.value self.paced) worker ready }
-        ensures { ActsFor P.value (P.value self.paced) worker ready (Some (KindOf.Sweep task (sweep_number (accounts (P.value self.paced)).machine (heap_of (accounts (P.value self.paced)) task)))) result }
+        requires brings { BringsTo (P.value self.old.paced) worker ready }
+        ensures { ActsFor (P.value self.old.paced) (P.value self.new.paced) worker ready (Some (KindOf.Sweep task (sweep_number (accounts (P.value self.old.paced)).machine (heap_of (accounts (P.value self.old.paced)) task)))) result }
     {
         self.paced.stands();
         let given = self.paced.would_give(task);
-        let mut run = self;
-        match run.paced.sweep(worker, task, given) {
-            Ok(()) => run.paid(ready),
+        match self.paced.sweep(worker, task, given) {
+            Ok(()) => self.paid(ready),
             Err(_) => unreachable!(),
         }
     }
 
     /// The run ends without fuel.
-    pub(crate) fn end_for_fuel(self, worker: u32) -> TurnOutcome<P>
-        requires room { 0 < (P.value self.paced).journal.room }
-        requires worker { worker < (P.value self.paced).settings.workers }
-        requires goes { (accounts (P.value self.paced)).end ≡ None }
-        requires on { (P.value self.paced).halted ≡ false }
-        requires spent { is_some (first_cause (P.value self.paced).end (P.value self.paced).steps (P.value self.paced).settings worker false) ≡ true }
-        ensures { ActsAnyhow P.value (P.value self.paced) worker KindOf.Fuel result }
+    pub(crate) fn end_for_fuel(&mut self, worker: u32) -> TurnOutcome
+        requires room { 0 < (P.value self.old.paced).journal.room }
+        requires worker { worker < (P.value self.old.paced).settings.workers }
+        requires goes { (accounts (P.value self.old.paced)).end ≡ None }
+        requires on { (P.value self.old.paced).halted ≡ false }
+        requires spent { is_some (first_cause (P.value self.old.paced).end (P.value self.old.paced).steps (P.value self.old.paced).settings worker false) ≡ true }
+        ensures { ActsAnyhow (P.value self.old.paced) (P.value self.new.paced) worker KindOf.Fuel result }
     {
         self.paced.stands();
-        let mut run = self;
-        match run.paced.fuel(worker) {
-            Ok(()) => run.entered(Next::Stop),
+        match self.paced.fuel(worker) {
+            Ok(()) => self.entered(Next::Stop),
             Err(_) => unreachable!(),
         }
     }

@@ -1,5 +1,5 @@
 -- A worker's state before and after a turn.
-use Rattle.worker_run.proofs.Common.{◌≡◌, ℕ, suc, ◌^◌, ◌<◌, ◌≤◌, ◌==◌, Bool, true, false, cond, List, [], ◌∷◌, length, refl, sym, ap, ap₂, ◌∙◌, subst, arith, Option, Some, Snapshot, same_Some, TableId, ProgramText, EntryValue, SettingsValue, Kind, Private, WorkerPartFits, IsSharedValue, SharedValue, entries_by, view, Extends, HasTurn, IsAlike, Knows, own_entries, with_taken, own_of_taken, Collecting, Next, Running, Forked, Resumed, Idle, Waits, Stop, Ready, Paused as HasPaused, Copied as IsCopied, Found, OutOfMemory, Run, Setup, ComesNext, BringsTo, ComesWith, GoesWith, KeepsPart, Sight, TakesFrom, WasCopied, EntersOne, FitsSnapshot, NoEntryMade, journal_of, setup_of, worker_of, WorkerState, HasEntry, IsWorkerState}
+use Rattle.worker_run.proofs.Common.{◌≡◌, ℕ, suc, ◌^◌, ◌<◌, ◌≤◌, ◌==◌, Bool, true, false, cond, List, [], ◌∷◌, length, sym, ap, ap₂, ◌∙◌, subst, arith, Option, Some, Snapshot, same_Some, TableId, ProgramText, EntryValue, SettingsValue, Kind, Private, WorkerPartFits, IsSharedValue, SharedValue, entries_by, view, Extends, HasTurn, IsAlike, Knows, own_entries, with_taken, own_of_taken, Collecting, Next, Running, Forked, Resumed, Idle, Waits, Stop, Ready, Paused as HasPaused, Copied as IsCopied, Found, OutOfMemory, Run, Setup, ComesNext, BringsTo, ComesWith, GoesWith, KeepsPart, Sight, TakesFrom, WasCopied, EntersOne, FitsSnapshot, NoEntryMade, journal_of, setup_of, worker_of, WorkerState, HasEntry, IsWorkerState}
 use Rattle.turn_entries.specs.declared.between_turns.Copied.{Copied}
 use Rattle.turn_entries.specs.declared.between_turns.Next.TheVariants.{Collecting as Collects, Copied as HasCopied, Found as GoesFor}
 

@@ -81,7 +81,7 @@ module _ {P : Type 0} (value : P → SharedValue) where
   -- the worker did as its turn requires for the value that it took: it gave back one entry or none
   abbrev pub DoesOnce : WorkerState P → WorkerState P → Run P → Run P → Ready → Next → Type 0
   DoesOnce old new taken given ready next =
-      (Acts value (value taken.paced) old.worker ready (Entered given next) × GivesOne old new) ⊎ (Acts value (value taken.paced) old.worker ready (Same given next) × (entries_of new ≡ entries_of old))
+      (Acts (value taken.paced) (value given.paced) old.worker ready (Entered next) × GivesOne old new) ⊎ (Acts (value taken.paced) (value given.paced) old.worker ready (Same next) × (entries_of new ≡ entries_of old))
 
   -- ONE TURN of a worker that brings this and goes on in this way
   pub record TakesTurn (old new : WorkerState P) (ready : Ready) (next : Next) : Type 0 where

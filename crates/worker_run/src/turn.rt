@@ -86,10 +86,10 @@ pub fn take_turn<R: Wait, P: EntryCalls + Drop, G>(
     ensures next { GoesWith shop.now.program.now worker_state.old.worker (view worker_state.new.seat).part result }
     ensures turn { TakesTurn P.value worker_state.old worker_state.new ready result }
 {
-    let run = shop.turn.take(rt, &mut worker_state.seat);
+    let mut run = shop.turn.take(rt, &mut worker_state.seat);
     match run.act(blocks, worker_state.worker, ready) {
-        TurnOutcome::Entered(run, next) => give(shop.turn, worker_state, run, next),
-        TurnOutcome::Same(run, next) => {
+        TurnOutcome::Entered(next) => give(shop.turn, worker_state, run, next),
+        TurnOutcome::Same(next) => {
             shop.turn.release_unchanged(&mut worker_state.seat, run);
             next
         }

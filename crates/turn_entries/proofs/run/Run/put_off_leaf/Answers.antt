@@ -6,18 +6,18 @@ use Rattle.turn_entries.proofs.Turning.{one}
 use Rattle.turn_entries.proofs.run.Run.put_off_leaf.Goals as goal
 
 pub put_off-requires-clause-fits : goal.put_off-requires-clause-fits
-put_off-requires-clause-fits g c = subst (WorkerPartFits (g.P.EntryCalls.value c.args.self.paced) c.args.worker) (sym c.get_mut.ensures.value) c.requires.paused.may.fits
+put_off-requires-clause-fits g c = subst (WorkerPartFits (g.P.EntryCalls.value c.args.self.now.paced) c.args.worker) (sym c.get_mut.ensures.value) c.requires.paused.may.fits
 
 pub unreachable-requires : goal.unreachable-requires
 unreachable-requires g c =
-    not_refused _ c.in-Err.field-0 (put_off_free (g.P.EntryCalls.value c.args.self.paced) c.args.worker c.args.part c.stands.ensures.stands c.requires.enter.free c.requires.paused.may.fits c.requires.paused.may.idle c.requires.fresh c.requires.enter.goes c.requires.paused c.requires.short)
-    (ap (λ (q : Private). refused (g.P.EntryCalls.value c.args.self.paced) (record { worker = c.args.worker; kind = PutOff q.task })) (sym c.get_mut.ensures.value) ∙ (sym c.put_off.ensures.refused ∙ ap refusal_of_result c.in-Err.is))
+    not_refused _ c.in-Err.field-0 (put_off_free (g.P.EntryCalls.value c.args.self.now.paced) c.args.worker c.args.part c.stands.ensures.stands c.requires.enter.free c.requires.paused.may.fits c.requires.paused.may.idle c.requires.fresh c.requires.enter.goes c.requires.paused c.requires.short)
+    (ap (λ (q : Private). refused (g.P.EntryCalls.value c.args.self.now.paced) (record { worker = c.args.worker; kind = PutOff q.task })) (sym c.get_mut.ensures.value) ∙ (sym c.put_off.ensures.refused ∙ ap refusal_of_result c.in-Err.is))
 
 pub returns : goal.returns
 returns g c = λ ready.
-    c.entered.ensures (g.P.EntryCalls.value c.args.self.paced) c.args.worker ready (PutOff c.args.part.task)
-    (one (g.P.EntryCalls.value c.args.self.paced) (g.P.EntryCalls.value c.put_off.new.self) c.args.worker (PutOff c.args.part.task)
-    (subst (λ (q : Private). Enters (g.P.EntryCalls.value c.args.self.paced) (g.P.EntryCalls.value c.put_off.new.self) (record { worker = c.args.worker; kind = PutOff q.task })) c.get_mut.ensures.value c.in-Ok.ensures.enters) c.in-Ok.ensures.others)
+    c.entered.ensures (g.P.EntryCalls.value c.args.self.now.paced) c.args.worker ready (PutOff c.args.part.task)
+    (one (g.P.EntryCalls.value c.args.self.now.paced) (g.P.EntryCalls.value c.put_off.new.self) c.args.worker (PutOff c.args.part.task)
+    (subst (λ (q : Private). Enters (g.P.EntryCalls.value c.args.self.now.paced) (g.P.EntryCalls.value c.put_off.new.self) (record { worker = c.args.worker; kind = PutOff q.task })) c.get_mut.ensures.value c.in-Ok.ensures.enters) c.in-Ok.ensures.others)
     c.requires.enter.on
     (λ on. (
       on,
@@ -29,4 +29,4 @@ pub put_off-requires-clause-room : goal.put_off-requires-clause-room
 put_off-requires-clause-room g c = c.requires.enter.room
 
 pub put_off-requires-clause-pays : goal.put_off-requires-clause-pays
-put_off-requires-clause-pays g c = pays_nothing (g.P.EntryCalls.value c.args.self.paced) c.args.worker (PutOff c.get_mut.result.now.task) c.requires.enter.owed
+put_off-requires-clause-pays g c = pays_nothing (g.P.EntryCalls.value c.args.self.now.paced) c.args.worker (PutOff c.get_mut.result.now.task) c.requires.enter.owed
