@@ -10,10 +10,9 @@ ghost use Rattle.act_lines.specs.Search.{HasFound, IsSearch};
 
 use crate::line::ActLine;
 use log_form::LogPosition;
-use log_lines::{LogLine, read_line};
+use log_lines::{LogLine, next_line, read_line};
 use plain_vec::Listed;
 use std::alloc::{AllocError, Global};
-use text_lines::next_line;
 
 /// How far a search for the lines of acts has come.
 #[derive(Drop)]

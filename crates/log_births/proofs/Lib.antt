@@ -8,5 +8,6 @@ pub mod Whole
 pub mod Going
 pub mod Making
 mod Telling
+mod Unborn
 mod Common
 pub mod below

@@ -1,5 +1,5 @@
 -- What acts do to blocks.
-use Rattle.std.specs.Prelude.{ℕ, ◌==◌, Option, Some, None, if◌then◌else◌}
+use Rattle.std.specs.Prelude.{ℕ, ◌==◌, Bool, true, false, Option, Some, None, if◌then◌else◌}
 use Rattle.log_strands.specs.below.log_lines.{Act, Access, Yield, Store, Birth, Release}
 
 -- the block that is born
@@ -11,6 +11,12 @@ born _ = None
 abbrev pub released : Act → Option ℕ
 released (Release block) = Some block
 released _ = None
+
+-- a block is born or released
+abbrev pub is_lifetime : Act → Bool
+is_lifetime (Birth block length) = true
+is_lifetime (Release block) = true
+is_lifetime _ = false
 
 -- 0 stands for no block
 abbrev pub if_some : ℕ → Option ℕ

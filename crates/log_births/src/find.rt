@@ -15,8 +15,9 @@ ghost use Rattle.log_births.specs.Found.{IsScene, AreFoundBelow, IsTooLong};
 
 use crate::findings::Findings;
 use crate::lines::{Lifetimes, lifetimes_of};
+use crate::some_lifetime::have_lifetimes;
 use log_pieces::LogPiece;
-use log_strands::{count_acts, next_act, piece_places};
+use log_strands::{has_few_acts, next_act, piece_places};
 use log_tasks::{LogTasks, piece_text};
 use log_walk::SerialWalk;
 use plain_vec::Listed;
@@ -105,6 +106,31 @@ impl Findings {
     }
 }
 
+// What is found where blocks are born or released.
+fn uses_of(
+    alloc: Global,
+    texts: &[Listed<u8>],
+    pieces: &[LogPiece],
+    tasks: &LogTasks,
+    walk: &SerialWalk,
+) -> Result<Findings, FindError>
+    requires pieces { events_of_pieces texts.now pieces.now ≡ events_of texts.now }
+    requires whole { log_fault texts.now ≡ None }
+    requires tasks { (extent : Extent) × IsLog (events_of texts.now) extent tasks.now }
+    requires walk { walk.now.tasks ≡ tasks.now.turns }
+    ensures found { IfOk result (AreFindings (events_of texts.now) tasks.now) }
+    ensures too_long { IfErr result (IsTooLong (events_of texts.now)) }
+{
+    if !has_few_acts(texts, pieces) {
+        return Err(FindError::TooLong);
+    }
+    let places = piece_places(alloc, tasks, walk.order(), pieces)?;
+    let lines = lifetimes_of(alloc, texts, pieces, places.as_slice())?;
+    let mut found = Findings::new(alloc);
+    found.take_pieces(walk, &lines, texts, pieces, places.as_slice())?;
+    Ok(found)
+}
+
 /// Finds all reads of a log that yield a block, and all accesses of one, whose birth doesn't happen before them, and all
 /// accesses whose block's release happens before them on another strand.
 pub fn find_uses(
@@ -121,12 +147,8 @@ pub fn find_uses(
     ensures found { IfOk result (AreFindings (events_of texts.now) tasks.now) }
     ensures too_long { IfErr result (IsTooLong (events_of texts.now)) }
 {
-    let Some(_count) = count_acts(texts, pieces) else {
-        return Err(FindError::TooLong);
-    };
-    let places = piece_places(alloc, tasks, walk.order(), pieces)?;
-    let lines = lifetimes_of(alloc, texts, pieces, places.as_slice())?;
-    let mut found = Findings::new(alloc);
-    found.take_pieces(walk, &lines, texts, pieces, places.as_slice())?;
-    Ok(found)
+    if !have_lifetimes(texts, pieces) {
+        return Ok(Findings::new(alloc));
+    }
+    uses_of(alloc, texts, pieces, tasks, walk)
 }

@@ -7,6 +7,7 @@ mod find;
 mod findings;
 mod laws;
 mod lines;
+mod some_lifetime;
 
 pub use acts::{born, released, used};
 pub use find::{FindError, find_uses};

@@ -13,16 +13,16 @@ pub bind_ok : {A B : Type 0} (P : A → Type 0) (Q : B → Type 0) (r : Result A
 bind_ok P Q (Ok x) f h g = g x h
 bind_ok P Q (Err e) f h g = tt
 
-any_ok : {A : Type 0} (r : Result A LogCause) → IfOk r (λ x. Unit {0})
+pub any_ok : {A : Type 0} (r : Result A LogCause) → IfOk r (λ x. Unit {0})
 any_ok (Ok x) = tt
 any_ok (Err e) = tt
 
-if_ok : {A : Type 0} (P : A → Type 0) (b : Bool) (r s : Result A LogCause) → IfOk r P → IfOk s P → IfOk (cond b r s) P
+pub if_ok : {A : Type 0} (P : A → Type 0) (b : Bool) (r s : Result A LogCause) → IfOk r P → IfOk s P → IfOk (cond b r s) P
 if_ok P true r s h g = h
 if_ok P false r s h g = g
 
 -- where a test passed
-guard_ok : {A : Type 0} (P : A → Type 0) (b : Bool) (x : A) (e : LogCause) → (b ≡ true → P x) → IfOk (cond b (Ok x) (Err e)) P
+pub guard_ok : {A : Type 0} (P : A → Type 0) (b : Bool) (x : A) (e : LogCause) → (b ≡ true → P x) → IfOk (cond b (Ok x) (Err e)) P
 guard_ok P true x e h = h refl
 guard_ok P false x e h = tt
 

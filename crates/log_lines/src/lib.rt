@@ -2,7 +2,9 @@
 #![tactic(auto)]
 
 mod cause;
+mod ends;
 mod laws;
+mod letter;
 mod line;
 mod number;
 mod place;
@@ -11,6 +13,8 @@ mod verb;
 mod words;
 
 pub use cause::LogCause;
+pub use ends::{line_end, next_line};
 pub use laws::{lines_are_read_again, lines_are_within_limits};
+pub use letter::begins_with;
 pub use line::{Access, AccessKind, Act, LogLine, LogPlace, Reference};
 pub use read::read_line;

@@ -78,7 +78,7 @@ pub(crate) fn nothing_left(rest: &[u8]) -> Result<(), LogCause>
     }
 }
 
-// Whether a word is a site.
+// Whether a word is a site, or a text's first word is one.
 fn is_site(word: &[u8]) -> bool
     ensures { result ≡ is_site word.now }
 {
@@ -105,8 +105,8 @@ pub(crate) fn site_at(rest: &[u8]) -> Result<Option<u64>, LogCause>
 pub(crate) fn goes_on(rest: &[u8]) -> bool
     ensures { result ≡ goes_on (operands rest.now) }
 {
-    match next_word(rest) {
-        None => false,
-        Some((word, _)) => !is_site(word),
+    if rest.is_empty() {
+        return false;
     }
+    !is_site(&rest[1..])
 }

@@ -6,7 +6,9 @@ pub use Rattle.log_form.specs.Faults.{line_fault, fault_from, found_at, spawns, 
 pub use Rattle.log_form.specs.Text.{lines_in, all_but_last}
 pub use Rattle.log_form.specs.declared.fault.LocatedFault.{LocatedFault}
 pub use Rattle.log_form.specs.declared.fault.LogFault.{LogFault}
+pub use Rattle.log_lines.proofs.Letters.{letters_tell}
 pub use Rattle.log_lines.specs.Grammar.{line_of}
+pub use Rattle.log_lines.specs.Letters.{is_among, begins_with, letter_of, HasOneOf}
 pub use Rattle.log_lines.specs.declared.cause.LogCause.{LogCause}
 pub use Rattle.log_lines.specs.declared.line.Act.{Act}
 pub use Rattle.log_lines.specs.declared.line.LogLine.{LogLine}

@@ -11,10 +11,9 @@ ghost use Rattle.log_pieces.specs.Pieces.{text_at, events_of_pieces, IsLineAt, C
 
 use crate::walk::LineWalk;
 use log_form::{LocatedFault, LogFault, LogPosition};
-use log_lines::{LogCause, LogLine, read_line};
+use log_lines::{LogCause, LogLine, line_end, read_line};
 use plain_vec::Listed;
 use std::alloc::AllocError;
-use text_lines::line_end;
 
 // The first line feed from a place on.
 fn next_feed(text: &[u8], at: usize) -> Option<usize>

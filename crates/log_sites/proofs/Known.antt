@@ -1,5 +1,6 @@
 -- The names that are known, line by line.
-use Rattle.log_sites.proofs.Common.{◌≡◌, ◌∙◌, ◌<◌, ◌+◌, ◌==◌, ℕ, suc, Bool, true, false, cond, List, [], ◌∷◌, ◌++◌, length, drop, drop-cons, add-one, get_or, refl, ap, sym, subst, Option, Some, None, arith, nat_eq, MatchOption, is_some, flat_map, nat_tests, drop_all, is_last, lines_of, some_line, all_but_last, lines_in, or_name, name_in, first_name, given}
+use Rattle.log_sites.proofs.Common.{◌≡◌, ◌∙◌, ◌<◌, ◌+◌, ◌==◌, ℕ, suc, Bool, true, false, cond, List, [], ◌∷◌, ◌++◌, length, drop, drop-cons, add-one, get_or, refl, ap, sym, subst, Option, Some, None, arith, nat_eq, MatchOption, is_some, flat_map, nat_tests, drop_all, is_last, lines_of, some_line, all_but_last, lines_in, or_name, name_in, first_name, given, Result, Ok, Err, IfOk, codes, LogCause, LogLine, line_of, begins_with, HasOneOf, letters_tell, site_of_said, site_in}
+use Rattle.log_lines.specs.declared.line.LogLine.TheVariants as lines
 
 or_assoc : (a b c : Option (List ℕ)) → or_name (or_name a b) c ≡ or_name a (or_name b c)
 or_assoc None b c = refl
@@ -86,3 +87,18 @@ module _ (F : ℕ → Option (List ℕ)) (site : ℕ) (name : List ℕ) where
       name_put_by_cases : (b : Bool) → (site == s) ≡ b → cond b (Some name) (F s) ≡ or_name (F s) (cond b (Some name) None)
       name_put_by_cases true e = put (F s) (ap (λ t. is_some (F t)) (sym (same_number site s e)) ∙ none)
       name_put_by_cases false e = or_none (F s)
+
+-- NO NAME
+
+no_site : (said : Result LogLine LogCause) → IfOk said (HasOneOf (codes "@") false) → None ≡ site_of_said said
+no_site (Err cause) h = refl
+no_site (Ok lines.Version) h = refl
+no_site (Ok (lines.Strand t i)) h = refl
+no_site (Ok (lines.Act act)) h = refl
+no_site (Ok (lines.Name site)) h = absurd (let z : true ≡ false = h in cc)
+no_site (Ok lines.Comment) h = refl
+no_site (Ok lines.End) h = refl
+
+-- a line that begins otherwise names no site
+pub other_line : (line : List ℕ) → begins_with (codes "@") line ≡ false → None ≡ site_in line
+other_line line e = no_site (line_of line) (subst (λ (b : Bool). IfOk (line_of line) (HasOneOf (codes "@") b)) e (letters_tell (codes "@") line))

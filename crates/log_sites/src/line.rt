@@ -4,7 +4,7 @@ ghost use Rattle.std.specs.Prelude.{◌≡◌, Some, option_map};
 ghost use Rattle.log_lines.specs.Grammar.{line_of};
 ghost use Rattle.log_sites.specs.Names.{behind_space, name_text, site_of_said, site_in};
 
-use log_lines::{LogCause, LogLine, read_line};
+use log_lines::{LogCause, LogLine, begins_with, read_line};
 
 // What stands behind the first space of a text.
 fn behind_space(text: &[u8]) -> &[u8]
@@ -43,5 +43,8 @@ fn site_of_said(said: Result<LogLine, LogCause>) -> Option<u64>
 pub(crate) fn site_in(line: &[u8]) -> Option<u64>
     ensures { result ≡ site_in line.now }
 {
+    if !begins_with(line, b"@") {
+        return None;
+    }
     site_of_said(read_line(line))
 }

@@ -6,10 +6,10 @@ ghost use Rattle.log_form.specs.Text.{lines_in};
 ghost use Rattle.log_sites.specs.Names.{or_name, name_in, first_name, site_name, name_of, given};
 
 use crate::line::{name_text, site_in};
+use log_lines::next_line;
 use plain_vec::Listed;
 use std::alloc::{AllocError, Global};
 use std::collections::HashMap;
-use text_lines::next_line;
 
 /// The names of sites, by their numbers.
 #[derive(Drop)]

@@ -1,3 +1,5 @@
 pub mod Noted
 pub mod Counted
+pub mod Sieved
+pub mod Few
 mod Common

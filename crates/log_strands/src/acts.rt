@@ -3,11 +3,10 @@
 ghost use Rattle.std.specs.Prelude.{◌≡◌, ◌<◌, ◌≤◌, ◌+◌, ◌^◌, ◌∷◌, [], length, IfSome, MatchOption};
 ghost use Rattle.log_pieces.specs.Pieces.{acts_in, events_of_pieces};
 
-use log_lines::Act;
+use log_lines::{Act, next_line};
 use log_pieces::LogPiece;
 use log_tasks::{act_in, piece_text};
 use plain_vec::Listed;
-use text_lines::next_line;
 
 /// The first act that a text says, and what follows its line.
 pub fn next_act(text: &[u8]) -> Option<(Act, &[u8])>
@@ -27,8 +26,8 @@ pub fn next_act(text: &[u8]) -> Option<(Act, &[u8])>
     }
 }
 
-// The rest of a text, if it goes on.
-fn after(rest: Option<&[u8]>) -> &[u8]
+/// The rest of a text, if it goes on.
+pub(crate) fn after(rest: Option<&[u8]>) -> &[u8]
     ensures { MatchOption rest.entry (result.now ≡ []) (λ r. result.now ≡ r.now) }
 {
     match rest {

@@ -2,8 +2,12 @@
 #![tactic(auto)]
 
 mod acts;
+mod acts_by;
+mod few;
 mod places;
 
 pub use acts::{count_acts, next_act};
+pub use acts_by::next_act_by;
+pub use few::has_few_acts;
 pub use log_lines::Act;
 pub use places::{is_known, piece_places, strand_in_log};

@@ -18,11 +18,12 @@ pub use Rattle.log_form.specs.Text.{lines_in}
 pub use Rattle.log_form.specs.declared.fault.LocatedFault.{LocatedFault}
 pub use Rattle.log_form.specs.declared.fault.LogFault.{LogFault}
 pub use Rattle.log_lines.specs.Grammar.{line_of}
+pub use Rattle.log_lines.specs.Letters.{is_among, begins_with, letter_of}
 pub use Rattle.log_lines.specs.Limits.{strand_limit}
 pub use Rattle.log_lines.specs.declared.cause.LogCause.{LogCause}
 pub use Rattle.log_lines.specs.declared.line.Act.{Act}
 pub use Rattle.log_lines.specs.declared.line.LogLine.{LogLine}
-pub use Rattle.log_pieces.proofs.Lines.{line_more, line_last, at_some}
+pub use Rattle.log_pieces.proofs.Lines.{line_more, line_last, at_some, said_of}
 pub use Rattle.log_pieces.specs.Claims.{is_that}
 pub use Rattle.log_pieces.specs.Pieces.{on_strand, act_said, acts_in, events_in, events_of_pieces}
 pub use Rattle.log_pieces.specs.declared.piece.LogPiece.{LogPiece}
@@ -70,6 +71,6 @@ pub use Rattle.std.specs.BTreeSet.{keys}
 pub use Rattle.std.specs.HashSet.{contains}
 pub use Rattle.std.specs.List.{list_any, position_or_len, AllByRecursion, flat_map}
 pub use Rattle.std.specs.List.Sorted.{IsStrictlyIncreasing, IsBinarySearchResult}
-pub use Rattle.std.specs.Prelude.{◌||◌, ◌&&◌, max, filter, if◌then◌else◌, IsTrue, MatchOption, option_map, nat_le, OnOk, ◌↔◌, is_some}
+pub use Rattle.std.specs.Prelude.{◌||◌, ◌&&◌, max, filter, if◌then◌else◌, IsTrue, MatchOption, option_map, nat_le, OnOk, ◌↔◌, is_some, codes}
 pub use Rattle.std.specs.declared.alloc.AllocError.{AllocError}
 pub use Rattle.text_lines.specs.Lines.{lines_of}

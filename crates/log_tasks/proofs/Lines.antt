@@ -1,5 +1,6 @@
 -- What is known after a line more of a piece.
-use Rattle.log_tasks.proofs.Common.{◌≡◌, ◌++◌, ◌∷◌, ◌∙◌, ℕ, Bool, true, false, List, [], refl, sym, ap, subst, Option, Some, None, append-nil, take, length, get_or, ◌<◌, ◌+◌, ◌||◌, MatchOption, list_any, flat_map, flat_map-append, take_more, list_any-append, lines_of, Act, line_of, GraphStrand, Event, spawns, LogPiece, act_said, acts_in, events_in, events_of_pieces, line_more, line_last, StrandEnd, Told, end_by, first_end, is_told, end_told, task_told, end_after}
+use Rattle.log_tasks.proofs.Common.{◌≡◌, ◌++◌, ◌∷◌, ◌∙◌, ℕ, Bool, true, false, List, [], refl, sym, ap, subst, Option, Some, None, append-nil, take, length, get_or, ◌<◌, ◌+◌, ◌||◌, MatchOption, list_any, flat_map, flat_map-append, take_more, list_any-append, lines_of, Act, line_of, GraphStrand, Event, spawns, LogPiece, act_said, acts_in, events_in, events_of_pieces, line_more, line_last, StrandEnd, Told, end_by, first_end, is_told, end_told, task_told, end_after, codes, is_among, begins_with, letter_of, said_of}
+use Rattle.log_lines.specs.declared.line.Act.TheVariants as acts
 use Rattle.log_tasks.specs.Ends.{or_later}
 use Rattle.log_tasks.proofs.Acts.{first_end_append, or_assoc, later_none}
 use Rattle.log_tasks.proofs.Puts.{after_twice, after_none, or_false}
@@ -41,6 +42,40 @@ one_ends old new u act said e g t i = g t i ∙ ap (λ (o : Option StrandEnd). e
 
 pub one_tasks : (old new : Told) (act : Act) (said : List Act) → act ∷ [] ≡ said → ((t : ℕ) → task_told new t ≡ (task_told old t || spawns t act)) → (t : ℕ) → task_told new t ≡ (task_told old t || list_any (spawns t) said)
 one_tasks old new act said e g t = g t ∙ ap (λ (b : Bool). task_told old t || b) (or_false (spawns t act) ∙ ap (list_any (spawns t)) e)
+
+-- NO ACT THAT ENDS A STRAND
+
+-- none of the letters of such acts
+abbrev turns : List ℕ
+turns = codes "+-."
+
+ends_none : (act : Act) → is_among turns (letter_of act) ≡ false → first_end (act ∷ []) ≡ None
+ends_none (acts.Access a) e = refl
+ends_none (acts.Yield r) e = refl
+ends_none (acts.Store r) e = refl
+ends_none (acts.Birth block length) e = refl
+ends_none (acts.Release block) e = refl
+ends_none (acts.Work units) e = refl
+ends_none (acts.Spawn c) e = absurd (let z : true ≡ false = e in cc)
+ends_none (acts.Join c) e = absurd (let z : true ≡ false = e in cc)
+ends_none acts.Finish e = absurd (let z : true ≡ false = e in cc)
+
+spawns_none : (t : ℕ) (act : Act) → is_among turns (letter_of act) ≡ false → list_any (spawns t) (act ∷ []) ≡ false
+spawns_none t (acts.Access a) e = refl
+spawns_none t (acts.Yield r) e = refl
+spawns_none t (acts.Store r) e = refl
+spawns_none t (acts.Birth block length) e = refl
+spawns_none t (acts.Release block) e = refl
+spawns_none t (acts.Work units) e = refl
+spawns_none t (acts.Spawn c) e = absurd (let z : true ≡ false = e in cc)
+spawns_none t (acts.Join c) e = refl
+spawns_none t acts.Finish e = refl
+
+pub other_ends : (told : Told) (u : GraphStrand) (line : List ℕ) → begins_with turns line ≡ false → (t i : ℕ) → end_told told t i ≡ end_after told u (first_end (act_said (line_of line))) t i
+other_ends told u line e t i = after_none told u t i ∙ ap (λ (o : Option StrandEnd). end_after told u o t i) (sym (said_of (λ (all : List Act). first_end all ≡ None) turns line false e refl ends_none))
+
+pub other_tasks : (told : Told) (line : List ℕ) → begins_with turns line ≡ false → (t : ℕ) → task_told told t ≡ (task_told told t || list_any (spawns t) (act_said (line_of line)))
+other_tasks told line e t = or_false (task_told told t) ∙ ap (λ (b : Bool). task_told told t || b) (sym (said_of (λ (all : List Act). list_any (spawns t) all ≡ false) turns line false e refl (spawns_none t)))
 
 -- ENDS AND TASKS
 

@@ -11,12 +11,11 @@ ghost use Rattle.log_tasks.specs.Told.{KnowsEvents, is_told, greater, is_below, 
 
 use crate::ending::StrandEnd;
 use fork_graph::{GraphStrand, GraphTurn};
-use log_lines::{Act, LogLine, read_line};
+use log_lines::{Act, LogLine, begins_with, next_line, read_line};
 use log_pieces::{LogPiece, act_in, piece_text};
 use plain_vec::Listed;
 use std::alloc::{AllocError, Global};
 use std::collections::{BTreeSet, HashMap};
-use text_lines::next_line;
 
 /// What the pieces so far tell.
 #[derive(Drop)]
@@ -115,6 +114,9 @@ impl Told {
         ensures tasks { OnOk result ((t : ℕ) → task_told self.new t ≡ (task_told self.old t || list_any (spawns t) (act_said (line_of line.now)))) }
         ensures tops { self.new.tops ≡ self.old.tops }
     {
+        if !begins_with(line, b"+-.") {
+            return Ok(());
+        }
         match act_in(line) {
             Some(act) => self.take_act(strand, act),
             None => Ok(()),

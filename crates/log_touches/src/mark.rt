@@ -13,12 +13,11 @@ ghost use Rattle.log_touches.specs.Limits.{most_acts, AreTooMany};
 
 use crate::access::access_of;
 use crate::numbers::RacesError;
-use log_lines::Act;
+use log_lines::{Act, next_line};
 use log_pieces::{LogPiece, act_in, piece_text};
 use log_places::Places;
 use plain_vec::Listed;
 use std::alloc::{AllocError, Global};
-use text_lines::next_line;
 
 /// There are at most so many acts.
 const MOST_ACTS: u64 = 1 << 32;

@@ -17,12 +17,11 @@ ghost use Rattle.log_touches.specs.Limits.{most_acts};
 use crate::access::{access_of, touch_by};
 use crate::pieces::StrandPieces;
 use fork_graph::GraphStrand;
-use log_lines::Act;
+use log_lines::{Act, next_line};
 use log_pieces::act_in;
 use log_places::Numbers;
 use race_scan::{RaceScan, Strands};
 use std::alloc::{AllocError, Global};
-use text_lines::next_line;
 
 // The access of an act is scanned, by the serial number of its strand and the act's own number.
 fn touch_access<S: Strands>(

@@ -10,6 +10,7 @@ pub use Rattle.log_pieces.specs.Claims.{is_that, is_pair}
 pub use Rattle.log_pieces.specs.Pieces.{on_strand, text_at, acts_in, acts_of_piece, events_of_pieces}
 pub use Rattle.log_pieces.specs.declared.piece.LogPiece.{LogPiece}
 pub use Rattle.log_strands.proofs.Noted.{that_is}
+pub use Rattle.log_strands.specs.Acts.{is_by, acts_by}
 pub use Rattle.log_strands.specs.below.log_form.{Event, acts_on, events_of}
 pub use Rattle.log_strands.specs.below.log_lines.{Act}
 pub use Rattle.log_tasks.proofs.Acts.{acts_append, acts_there, acts_elsewhere}
@@ -22,10 +23,10 @@ pub use Rattle.log_weights.specs.Weights.{weight_of, weights_of, units_of, work_
 pub use Rattle.log_weights.specs.declared.units.StrandWork.{StrandWork}
 pub use Rattle.plain_vec.proofs.Places.{got_map}
 pub use Rattle.run_span.specs.Reaches.{AreWeights, IsSpanOf}
-pub use Rattle.std.proofs.Common.{◌≡◌, ◌<◌, ◌≤◌, ◌+◌, ◌^◌, ◌∙◌, ◌⊎◌, inl, inr, ℕ, Bool, true, false, sym, ap, Option, Some, None, nat_lt, arith, ◌++◌, ◌∷◌, List, [], length, get_or, take, subst, slice_get, refl, append-nil, slice_range}
+pub use Rattle.std.proofs.Common.{◌≡◌, ◌<◌, ◌≤◌, ◌+◌, ◌^◌, ◌∙◌, ◌⊎◌, inl, inr, ℕ, Bool, true, false, sym, ap, Option, Some, None, nat_lt, arith, ◌++◌, ◌∷◌, List, [], length, get_or, take, subst, slice_get, refl, append-nil, slice_range, cond}
 pub use Rattle.std.proofs.lemmas.Bool.{cases_lt}
 pub use Rattle.std.proofs.lemmas.Bool.Decides.{nat_tests}
 pub use Rattle.std.proofs.lemmas.List.{take_more, map-append}
 pub use Rattle.std.proofs.lemmas.List.Sums.{sum-map, get_or-le-sum_by, sum_by-append}
 pub use Rattle.std.specs.HashMap.{get}
-pub use Rattle.std.specs.Prelude.{if◌then◌else◌, sum}
+pub use Rattle.std.specs.Prelude.{if◌then◌else◌, sum, codes, filter}

@@ -1,4 +1,5 @@
 mod Fitting
+mod Lettered
 mod Works
 mod Weighing
 mod Common

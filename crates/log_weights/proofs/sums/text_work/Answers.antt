@@ -1,9 +1,6 @@
-use Rattle.log_weights.proofs.Common.{◌≡◌, ◌∙◌, ap, sym, arith, acts_in, work_of, fitting}
-use Rattle.log_weights.proofs.Fitting.{fits}
+use Rattle.log_weights.proofs.Common.{◌∙◌, ap, acts_in, fitting}
+use Rattle.log_weights.proofs.Lettered.{work_kept}
 use Rattle.log_weights.proofs.sums.text_work.Goals as goal
 
 pub returns : goal.returns
-returns c =
-    let none = ap work_of c.in_default.ensures.acts in
-    let same : c.loop-act.work ≡ work_of (acts_in c.args.text.now) = omega (arith, none, c.loop-act.invariant.all) in
-    sym (ap fitting (sym same) ∙ fits c.loop-act.work c.loop-act.invariant.fits)
+returns c = c.lettered_work.ensures ∙ ap fitting (work_kept (acts_in c.args.text.now))
