@@ -1,5 +1,5 @@
 -- Pieces say no more acts than they have bytes.
-use Rattle.log_strands.proofs.Common.{◌≡◌, ◌<◌, ◌≤◌, ◌+◌, ◌++◌, ◌∷◌, ◌∙◌, ℕ, Bool, true, false, List, [], cond, length, get_or, take, refl, sym, ap, slice_range, arith, nat_lt, nat_tests, sum_by, length-map, length-append, length-flat_map, sum_by_more_le, take_more, sum_by-append, flat_map, Result, Ok, Err, slice_split, onto_first, lines_of, LogCause, Act, LogLine, line_of, event, LogPiece, act_said, text_at, acts_in, acts_of_piece, events_in, events_of_pieces, piece_bytes, bytes_of}
+use Rattle.log_strands.proofs.Common.{◌≡◌, ◌<◌, ◌≤◌, ◌+◌, ◌++◌, ◌∷◌, ◌∙◌, ℕ, Bool, true, false, List, [], cond, length, get_or, take, refl, sym, ap, slice_range, arith, nat_lt, nat_tests, sum_by, length-map, length-append, length-flat_map, sum_by_more_le, take_more, take_all, sum_by-append, flat_map, Result, Ok, Err, slice_split, onto_first, lines_of, LogCause, Act, LogLine, line_of, event, LogPiece, act_said, text_at, acts_in, acts_of_piece, events_in, events_of_pieces, piece_bytes, bytes_of}
 use Rattle.log_lines.specs.declared.line.LogLine.TheVariants as lines
 
 one_act : (said : Result LogLine LogCause) → length (act_said said) ≤ 1
@@ -62,3 +62,22 @@ too_many texts pieces i d text limit lt is le =
     let own = ap (λ (t : List ℕ). length t) is in
     let all : limit ≤ bytes_of texts pieces = omega (arith, part, own, le) in
     grind (arith, nat_tests, all)
+
+pub not_too_many : (texts : List (List ℕ)) (pieces : List LogPiece) (i bytes limit : ℕ) → length pieces ≤ i → bytes ≡ bytes_of texts (take i pieces) → bytes < limit → true ≡ nat_lt (bytes_of texts pieces) limit
+not_too_many texts pieces i bytes limit le sum lt =
+    let all : bytes ≡ bytes_of texts pieces = sum ∙ ap (bytes_of texts) (take_all i pieces le) in
+    let below : bytes_of texts pieces < limit = omega (arith, all, lt) in
+    grind (arith, nat_tests, below)
+
+pub few_by_bytes : (texts : List (List ℕ)) (pieces : List LogPiece) (limit : ℕ) → nat_lt (bytes_of texts pieces) limit ≡ true → true ≡ nat_lt (length (events_of_pieces texts pieces)) limit
+few_by_bytes texts pieces limit e =
+    let few = pieces_few texts pieces in
+    let below : bytes_of texts pieces < limit = grind (arith, nat_tests, e) in
+    let fewer : length (events_of_pieces texts pieces) < limit = omega (arith, few, below) in
+    grind (arith, nat_tests, fewer)
+
+pub is_few : (n limit : ℕ) → n < limit → true ≡ nat_lt n limit
+is_few n limit lt = grind (arith, nat_tests, lt)
+
+pub is_many : (n limit : ℕ) → limit ≤ n → false ≡ nat_lt n limit
+is_many n limit le = grind (arith, nat_tests, le)

@@ -29,5 +29,11 @@ fn has_few_bytes(texts: &[Listed<u8>], pieces: &[LogPiece]) -> bool
 pub fn has_few_acts(texts: &[Listed<u8>], pieces: &[LogPiece]) -> bool
     ensures { result ≡ nat_lt (length (events_of_pieces texts.now pieces.now)) (2 ^ 32) }
 {
-    has_few_bytes(texts, pieces) || count_acts(texts, pieces).is_some()
+    if has_few_bytes(texts, pieces) {
+        return true;
+    }
+    match count_acts(texts, pieces) {
+        Some(_count) => true,
+        None => false,
+    }
 }

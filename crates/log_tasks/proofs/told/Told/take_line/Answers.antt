@@ -5,5 +5,5 @@ use Rattle.log_tasks.proofs.told.Told.take_line.Goals as goal
 pub returns-in-None : goal.returns-in-None
 returns-in-None c = record { ends = none_ends c.args.self.now c.args.strand _ c.in-None.ensures; tasks = none_tasks c.args.self.now _ c.in-None.ensures; tops = refl }
 
-pub returns-then-begins_with : goal.returns-then-begins_with
-returns-then-begins_with c = record { ends = other_ends c.args.self.now c.args.strand c.args.line.now (sym c.begins_with.ensures ∙ c.if-begins_with.false); tasks = other_tasks c.args.self.now c.args.line.now (sym c.begins_with.ensures ∙ c.if-begins_with.false); tops = refl }
+pub returns-then-not-begins_with : goal.returns-then-not-begins_with
+returns-then-not-begins_with c = record { ends = other_ends c.args.self.now c.args.strand c.args.line.now (sym c.begins_with.ensures ∙ c.if-not-begins_with.true); tasks = other_tasks c.args.self.now c.args.line.now (sym c.begins_with.ensures ∙ c.if-not-begins_with.true); tops = refl }
