@@ -25,7 +25,7 @@ pub use Rattle.std.proofs.lemmas.Bool.Decides.{nat_tests}
 pub use Rattle.std.proofs.lemmas.List.{length-map, length-append, take_more, take_all, length-take-le, length_push}
 pub use Rattle.std.proofs.lemmas.List.Concat.{length-flat_map}
 pub use Rattle.std.proofs.lemmas.List.Elements.{filter-append}
-pub use Rattle.std.proofs.lemmas.List.Sums.{sum_by_more_le, sum_by-append}
+pub use Rattle.std.proofs.lemmas.List.Sums.{sum_by_more_le, sum_by-append, sum_by-cons}
 pub use Rattle.std.proofs.lemmas.Option.{get_or_from_slice_get}
 pub use Rattle.std.specs.List.{sum_by, flat_map, slice_split, onto_first}
 pub use Rattle.std.specs.Option.{option_copied}

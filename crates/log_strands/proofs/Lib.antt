@@ -1,5 +1,5 @@
 pub mod Noted
 pub mod Counted
 pub mod Sieved
-pub mod Few
+pub mod Bytes
 mod Common

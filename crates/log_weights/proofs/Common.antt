@@ -27,6 +27,6 @@ pub use Rattle.std.proofs.Common.{◌≡◌, ◌<◌, ◌≤◌, ◌+◌, ◌^�
 pub use Rattle.std.proofs.lemmas.Bool.{cases_lt}
 pub use Rattle.std.proofs.lemmas.Bool.Decides.{nat_tests}
 pub use Rattle.std.proofs.lemmas.List.{take_more, map-append}
-pub use Rattle.std.proofs.lemmas.List.Sums.{sum-map, get_or-le-sum_by, sum_by-append}
+pub use Rattle.std.proofs.lemmas.List.Sums.{sum-map, get_or-le-sum_by, sum_by-append, sum_by-cons}
 pub use Rattle.std.specs.HashMap.{get}
 pub use Rattle.std.specs.Prelude.{if◌then◌else◌, sum, codes, filter}
