@@ -106,7 +106,7 @@ module _ (events : List Event) (tasks : LogTasks) (none : has_lifetime events �
       let z : true ≡ false = sym there ∙ none in cc
 
   none_are : (Is : Finding → Type 0) → ((f : Finding) → Is f → ⊥) → AreJust Is []
-  none_are Is no = record { ascending = λ k lt. absurd (omega (arith, lt)); are = λ f. (λ i. absurd i, λ is. absurd (no f is)) }
+  none_are Is never = record { ascending = λ k lt. absurd (omega (arith, lt)); are = λ f. (λ i. absurd i, λ is. absurd (never f is)) }
 
   none_found : AreFindings events tasks (record { reads = []; uses = []; stale = [] })
   none_found = record {
