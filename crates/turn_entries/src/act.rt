@@ -21,7 +21,9 @@ pub enum TurnOutcome {
 }
 
 impl<P: EntryCalls + Drop> Run<P> {
-    // An entry was made. If it ended the run, the worker stops.
+    // An entry was made. If it ended the run, the worker stops. It is inlined, since each caller knows what `next` is,
+    // and so what to drop.
+    #[inline(always)]
     pub(crate) fn entered(&self, next: Next) -> TurnOutcome
         ensures { EndsEntered (P.value self.now.paced) next result }
     {

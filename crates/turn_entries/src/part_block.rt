@@ -39,6 +39,7 @@ impl PartBlock {
     }
 
     /// Puts a part into it. It doesn't allocate.
+    #[inline(always)]
     pub fn fill(self, part: Private) -> PartInBlock
         ensures { result ≡ part }
     {
