@@ -1,4 +1,4 @@
 mod Lines
 mod Texts
-mod Logs
+pub mod Logs
 mod Common

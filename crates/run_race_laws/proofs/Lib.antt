@@ -1,4 +1,4 @@
-mod Deeds
+pub mod Deeds
 mod Told
-mod Races
+pub mod Races
 mod Common

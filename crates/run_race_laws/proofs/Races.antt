@@ -47,7 +47,7 @@ other_way (inr b) = inl b
 
 -- LOCATIONS
 
-same_names : (a b : Name) → a.count < 1000000000 → b.count < 1000000000 → block_of a ≡ block_of b → a ≡ b
+pub same_names : (a b : Name) → a.count < 1000000000 → b.count < 1000000000 → block_of a ≡ block_of b → a ≡ b
 same_names a b la lb e =
     let t : a.task ≡ b.task = omega (arith, la, lb, e) in
     let c : a.count ≡ b.count = omega (arith, t, e) in
