@@ -1,0 +1,4 @@
+mod Events
+mod Lines
+pub mod Texts
+mod Common
