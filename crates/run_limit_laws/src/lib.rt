@@ -4,8 +4,8 @@
 ghost use Rattle.run_limit_laws.specs.Limits.{LogsAreWithinLimits, LogsTellRuns};
 ghost use Rattle.run_limit_laws.specs.Births.{BlocksAreBornOnce};
 
-/// In the log of a legal journal of fewer than 500,000,000 steps each line is within the limits, and opens a strand or is
-/// an act of the open one.
+/// In the log of a legal journal of fewer than 500,000,000 steps, if the program's names and numbers fit in lines, each
+/// line is within the limits, and opens a strand or is an act of the open one.
 pub fn logs_are_within_limits()
     ensures { LogsAreWithinLimits }
 {}
