@@ -81,13 +81,13 @@ module _ (p : ProgramText) (s : SettingsValue) (journal : List EntryValue) (lega
   K : IsForkJoinState m
   K = run_is_fork_join_state p (start p (field_limit s.version)) (tasks_of journal) (start_is_fork_join_state p (field_limit s.version))
 
-  walks : (u v : Strand) → Begun m u → Begun m v → Precedes m.edges u v ↔ GraphPrecedes (turns_told events) (in_log u) (in_log v)
+  pub walks : (u v : Strand) → Begun m u → Begun m v → Precedes m.edges u v ↔ GraphPrecedes (turns_told events) (in_log u) (in_log v)
   walks u v bu bv = subst (λ tasks. Precedes m.edges u v ↔ GraphPrecedes tasks (in_log u) (in_log v)) (sym turns_are) (walks_agree p (field_limit s.version) (tasks_of journal) u v bu bv)
 
   itself : (u v : Strand) → u ≡ v → Precedes m.edges u v
   itself u v e = ([], e)
 
-  few_objects : (n : Name) (o : Object) → object_at m.store n ≡ Some o → n.count < 1000000000
+  pub few_objects : (n : Name) (o : Object) → object_at m.store n ≡ Some o → n.count < 1000000000
   few_objects n o is =
       let a = slice_get_within (row_of (slice_get m.store n.task)) n.count o is in
       let b = (runs_are_counted p (field_limit s.version) (tasks_of journal)).objects n.task in

@@ -1,0 +1,3 @@
+mod Touches
+pub mod ToldRaces
+mod Common

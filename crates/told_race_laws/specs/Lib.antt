@@ -1,0 +1,2 @@
+pub mod ToldRaces
+pub mod below

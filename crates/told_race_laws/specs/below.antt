@@ -1,0 +1,3 @@
+-- Re-exports from lower crates for the crates above.
+pub mod plain_vec
+pub mod told_graph_laws
