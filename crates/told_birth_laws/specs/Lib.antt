@@ -1,0 +1,2 @@
+pub mod ToldBirths
+pub mod below
