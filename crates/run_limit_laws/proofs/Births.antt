@@ -1,5 +1,5 @@
 -- Each block of a run's log is born once.
-use Rattle.run_limit_laws.proofs.Common.{◌≡◌, ◌<◌, ◌≤◌, ℕ, Bool, true, cond, Option, Some, None, List, [], ◌∷◌, ◌++◌, length, slice_get, ◌⊎◌, inl, inr, is_some, refl, ap, sym, subst, ◌∙◌, arith, append-nil, length-append, flat_map-append, slice_get_within, slice_get_past, ◌==◌, Counted, object_at, row_of, int_in, ref_in, place_in, counts_in, same_name, next_name, words_asked, words_for, step, run, start, fetched, can_step, is_running, owner_of, asked_line, IsStored, Frame, MachineState, Name, Object, Task, TaskStatus, Running, Waiting, Ended, Joined, asked_at, runs_are_counted, run_push, run_is_fork_join_state, start_is_fork_join_state, can_runs, objects_stay, next_stored, In, in_append_cases, GraphStrand, ProgramText, Line, Instr, Set, Mov, Movr, Nil as NilOf, Calc, Same, Jmp, Jz, Newm, Pack, Getr, Geti, Putr, Puti, Cntr, Cnti, Freeze, Cas, Call, Par, Ret, Out, same_names, spot_after, Event, event, Deed, act_of, deed, if_there, number_in, number_place, reference_in, field_limit, act_told, on_strand, strand_now, turn_events, step_act, told_along, legal_ready, spot, born_by, blocks_born, AreDistinct, BlocksAreBornOnce}
+use Rattle.run_limit_laws.proofs.Common.{◌≡◌, ◌<◌, ◌≤◌, ℕ, Bool, true, cond, Option, Some, None, List, [], ◌∷◌, ◌++◌, length, slice_get, ◌⊎◌, inl, inr, is_some, refl, ap, sym, subst, ◌∙◌, arith, append-nil, length-append, flat_map-append, slice_get_within, slice_get_past, ◌==◌, Counted, object_at, row_of, int_in, ref_in, place_in, counts_in, same_name, next_name, words_asked, words_for, step, run, start, fetched, can_step, is_running, owner_of, asked_line, IsStored, Frame, MachineState, Name, Object, Task, TaskStatus, Running, Waiting, Ended, Joined, asked_at, runs_are_counted, run_push, run_is_fork_join_state, start_is_fork_join_state, can_runs, objects_stay, next_stored, In, in_append_cases, GraphStrand, ProgramText, Line, Instr, Set, Mov, Movr, Nil as NilOf, Calc, Same, Jmp, Jz, Newm, Pack, Getr, Geti, Putr, Puti, Cntr, Cnti, Freeze, Cas, Call, Par, Ret, Out, same_names, spot_after, Event, event, Deed, act_of, deed, if_there, number_in, number_place, reference_in, field_limit, act_told, on_strand, strand_now, turn_events, step_act, told_along, legal_ready, spot, born_by, blocks_born, AreDifferent, BlocksAreBornOnce}
 use Rattle.run_turn_laws.specs.below.log_lines as acts
 use Rattle.run_turn_laws.specs.below.run_deltas as deeds
 use Rattle.run_turn_laws.specs.below.run_log.{block_of, moved_lines}
@@ -9,7 +9,7 @@ pub born_both : (xs ys : List Event) → blocks_born (xs ++ ys) ≡ blocks_born 
 born_both xs ys = flat_map-append (λ (e : Event). born_by e.act) xs ys
 
 -- one more number
-distinct_more : (ns : List ℕ) (n : ℕ) → AreDistinct ns → (In ns n → ⊥) → AreDistinct (ns ++ n ∷ [])
+distinct_more : (ns : List ℕ) (n : ℕ) → AreDifferent ns → (In ns n → ⊥) → AreDifferent (ns ++ n ∷ [])
 distinct_more [] n h new = ((λ i. i), tt)
 distinct_more (m ∷ ns) n h new = (
   λ i. elim (in_append_cases ns (n ∷ []) m i) [
@@ -117,7 +117,7 @@ module _ (m : MachineState) (t : ℕ) (f : Frame) where
 -- the blocks are those of objects in the store, each born once
 record AreBorn (m : MachineState) (blocks : List ℕ) : Type 0 where
   pub stored : (b : ℕ) → In blocks b → (n : Name) × IsStored m n × (block_of n ≡ b)
-  pub distinct : AreDistinct blocks
+  pub distinct : AreDifferent blocks
 
 module _ (p : ProgramText) (limit : ℕ) where
   abbrev M : List ℕ → MachineState

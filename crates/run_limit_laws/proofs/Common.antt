@@ -23,7 +23,7 @@ pub use Rattle.log_text_laws.proofs.Logs.{logs_cut, logs_told}
 pub use Rattle.log_text_laws.specs.Names.{HasName, AllFunctionsNamed}
 pub use Rattle.path_laws.proofs.Objects.{objects_stay}
 pub use Rattle.path_laws.proofs.Stored.{next_stored, names_are_stored}
-pub use Rattle.run_limit_laws.specs.Births.{born_by, blocks_born, AreDistinct, BlocksAreBornOnce}
+pub use Rattle.run_limit_laws.specs.Births.{born_by, blocks_born, BlocksAreBornOnce}
 pub use Rattle.run_limit_laws.specs.Limits.{FitInLog, IsSmallRun, LogsAreWithinLimits, LogsTellRuns}
 pub use Rattle.run_log.specs.Acts.{access, block_of, field_count, location, reference, swap_kind, target_of, act_of_deed}
 pub use Rattle.run_log.specs.Lines.{act_line, entry_lines, lines_from, lines_of_deed, moved_lines, step_lines, steps_lines, strand_lines, join_lines, left_of, turn_lines}
@@ -35,6 +35,7 @@ pub use Rattle.run_log_laws.specs.below.fork_graph.{GraphStrand, strand}
 pub use Rattle.run_log_laws.specs.below.hh_lang.{ProgramText, Line, Instr, Set, Mov, Movr, Nil, Calc, Same, Jmp, Jz, Newm, Pack, Getr, Geti, Putr, Puti, Cntr, Cnti, Freeze, Cas, Call, Par, Ret, Out, Fun, code_of, line_at}
 pub use Rattle.run_race_laws.proofs.Deeds.{place_within}
 pub use Rattle.run_race_laws.proofs.Races.{same_names}
+pub use Rattle.run_race_laws.specs.below.log_places.{AreDifferent}
 pub use Rattle.run_trace.specs.declared.settings.Version.{Version}
 pub use Rattle.run_trace.specs.declared.settings.Version.TheVariants.{One, Two}
 pub use Rattle.run_turn_laws.proofs.Along.{act_told, on_strand, strand_now, turn_events, step_act, told_along}

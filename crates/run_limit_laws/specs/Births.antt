@@ -2,7 +2,7 @@
 use Rattle.std.specs.Prelude.{◌≡◌, ◌≤◌, ℕ, true, List, [], ◌∷◌, length}
 use Rattle.std.specs.List.{flat_map}
 use Rattle.run_log_laws.specs.below.hh_lang.{ProgramText}
-use Rattle.run_log_laws.specs.below.plain_vec.{In}
+use Rattle.run_race_laws.specs.below.log_places.{AreDifferent}
 use Rattle.run_turn_laws.specs.Events.{events_told}
 use Rattle.run_turn_laws.specs.below.log_form.{Event}
 use Rattle.run_turn_laws.specs.below.log_lines.{Act}
@@ -20,12 +20,7 @@ born_by _ = []
 abbrev pub blocks_born : List Event → List ℕ
 blocks_born events = flat_map (λ e. born_by e.act) events
 
--- no number stands twice in the list
-abbrev pub AreDistinct : List ℕ → Type 0
-AreDistinct [] = Unit {0}
-AreDistinct (n ∷ ns) = (In ns n → ⊥) × AreDistinct ns
-
 abbrev pub BlocksAreBornOnce : Type 0
 BlocksAreBornOnce =
     (p : ProgramText) (s : SettingsValue) (journal : List EntryValue) → is_legal p s journal ≡ true → length (tasks_of journal) ≤ 1000000000
-    → AreDistinct (blocks_born (events_told (lines_of p s journal)))
+    → AreDifferent (blocks_born (events_told (lines_of p s journal)))

@@ -13,10 +13,11 @@ pub use Rattle.run_graph_laws.proofs.RunTold.{logs_are_cut_runs, logs_tell_tasks
 pub use Rattle.run_limit_laws.proofs.Births.{born_both, blocks_are_born_once}
 pub use Rattle.run_limit_laws.proofs.Lines.{lines_within, logs_are_within_limits}
 pub use Rattle.run_limit_laws.proofs.Turns.{few_turns}
-pub use Rattle.run_limit_laws.specs.Births.{AreDistinct, blocks_born, born_by}
+pub use Rattle.run_limit_laws.specs.Births.{blocks_born, born_by}
 pub use Rattle.run_limit_laws.specs.Limits.{FitInLog}
 pub use Rattle.run_limit_laws.specs.below.fork_graph.{GraphStrand, GraphTurn, Join, Spawn}
 pub use Rattle.run_limit_laws.specs.below.hh_lang.{Fun, Line}
+pub use Rattle.run_limit_laws.specs.below.log_places.{AreDifferent}
 pub use Rattle.run_limit_laws.specs.below.run_log.{accesses_field, end_lines, log_of}
 pub use Rattle.run_line_laws.specs.Faultless.{RunLinesHaveNoFault}
 pub use Rattle.run_turn_laws.proofs.Legal.{lines_unclosed}

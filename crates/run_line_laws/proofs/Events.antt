@@ -1,5 +1,5 @@
 -- Nothing that a run's log tells is at fault.
-use Rattle.run_line_laws.proofs.Common.{◌≡◌, ◌<◌, ◌≤◌, ◌+◌, ◌==◌, ℕ, true, false, cond, Some, None, List, [], ◌∷◌, ◌++◌, length, slice_get, nat_lt, inl, inr, refl, ap, sym, subst, ◌∙◌, arith, append-nil, append_assoc, length-append, eq-eqb, and_parts, cond-true, eqb-true, false_from_ne_true, lt-ltb, or_cases, slice_get_within, list_any, ◌&&◌, In, got_back, got_front, in_append_right, in_flat, in_from_any, strand_limit, Event, has_ended, is_last, is_on, act_fault, bears, claim_fault, is_born, is_spawned, spawns, turn_fault, where_true, AreDistinct, blocks_born, born_by, GraphStrand, GraphTurn, Spawn, born_both, FollowTurns, turn_by, turns_told, Act, told_both, AreToldInOrder, EndsAreLast, IsUnended, IsCutRun, act_spawn, event_turn}
+use Rattle.run_line_laws.proofs.Common.{◌≡◌, ◌<◌, ◌≤◌, ◌+◌, ◌==◌, ℕ, true, false, cond, Some, None, List, [], ◌∷◌, ◌++◌, length, slice_get, nat_lt, inl, inr, refl, ap, sym, subst, ◌∙◌, arith, append-nil, append_assoc, length-append, eq-eqb, and_parts, cond-true, eqb-true, false_from_ne_true, lt-ltb, or_cases, slice_get_within, list_any, ◌&&◌, In, got_back, got_front, in_append_right, in_flat, in_from_any, strand_limit, Event, has_ended, is_last, is_on, act_fault, bears, claim_fault, is_born, is_spawned, spawns, turn_fault, where_true, AreDifferent, blocks_born, born_by, GraphStrand, GraphTurn, Spawn, born_both, FollowTurns, turn_by, turns_told, Act, told_both, AreToldInOrder, EndsAreLast, IsUnended, IsCutRun, act_spawn, event_turn}
 use Rattle.log_lines.specs.declared.cause.LogCause.TheVariants as causes
 use Rattle.log_form.specs.declared.fault.LogFault.TheVariants as faults
 use Rattle.run_turn_laws.specs.below.log_lines as acts
@@ -36,7 +36,7 @@ turn_within b (x ∷ xs) e order (inr more) some =
     subst (λ events. e.strand.index < length (turns_told events e.strand.task)) (append_assoc b (x ∷ []) xs) (turn_within (b ++ x ∷ []) xs e order.1 more some)
 
 -- where a number stands among distinct ones, it doesn't stand before
-apart : (ns ms : List ℕ) (n : ℕ) → AreDistinct (ns ++ n ∷ ms) → In ns n → ⊥
+apart : (ns ms : List ℕ) (n : ℕ) → AreDifferent (ns ++ n ∷ ms) → In ns n → ⊥
 apart [] ms n h i = i
 apart (m ∷ ns) ms n h (inl same) = h.0 (in_append_right ns (n ∷ ms) m (inl (sym same)))
 apart (m ∷ ns) ms n h (inr more) = apart ns ms n h.1 more
@@ -58,7 +58,7 @@ pub record AreToldWell (n : ℕ) (events : List Event) : Type 0 where
   pub run : IsCutRun (turns_told events) n
   pub few : (t : ℕ) → length (turns_told events t) < 2000000002
   pub unreleased : (e : Event) → In events e → (block : ℕ) → e.act ≡ acts.Release block → ⊥
-  pub born : AreDistinct (blocks_born events)
+  pub born : AreDifferent (blocks_born events)
 
 module _ (n : ℕ) (before : List Event) (e : Event) (rest : List Event) (T : AreToldWell n (before ++ e ∷ rest)) where
   abbrev u : GraphStrand
@@ -141,7 +141,7 @@ module _ (n : ℕ) (before : List Event) (e : Event) (rest : List Event) (T : Ar
       false_from_ne_true (is_born before b) (λ h.
       let f = in_from_any (λ (d : Event). bears b d.act) before h in
       let all : blocks_born (before ++ e ∷ rest) ≡ blocks_born before ++ b ∷ blocks_born rest = born_both before (e ∷ rest) ∙ ap (λ a. blocks_born before ++ (born_by a ++ blocks_born rest)) s in
-      apart (blocks_born before) (blocks_born rest) b (subst AreDistinct all T.born) (in_flat (λ (d : Event). born_by d.act) before f.0 b f.1 (bears_born f.0.act b f.2)))
+      apart (blocks_born before) (blocks_born rest) b (subst AreDifferent all T.born) (in_flat (λ (d : Event). born_by d.act) before f.0 b f.1 (bears_born f.0.act b f.2)))
 
   -- ANY ACT
 
