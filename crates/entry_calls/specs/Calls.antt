@@ -8,15 +8,16 @@ use Rattle.leaf_collections.specs.below.run_ledger.{Refused, heap_of, left_in}
 use Rattle.leaf_collections.specs.below.object_layout.{Addr}
 use Rattle.leaf_collections.specs.below.copying_gc.{Moved, ToChunks}
 use Rattle.leaf_collections.specs.below.task_machine.{Private}
-use Rattle.leaf_collections.specs.below.core_invariant.{NotEntered, NotRan, SharedValue, accounts, rest_at, EachPartStillFits, WorkerPartFits, OthersFit, EntersOrRefuses, Enters, IsSamePart, RanAnswers, refusal_of_result, refused, CopyingHasBegun}
+use Rattle.leaf_collections.specs.below.core_invariant.{NotEntered, SharedValue, accounts, rest_at, EachPartStillFits, WorkerPartFits, OthersFit, EntersOrRefuses, Enters, IsSamePart, refusal_of_result, refused, CopyingHasBegun}
 use Rattle.leaf_collections.specs.below.task_slots.{ParkedTask}
 use Rattle.fork_join_commit.specs.below.step_commit.{alone_entry}
 use Rattle.fork_join_commit.specs.Joins.{IsUnchanged}
 use Rattle.leaf_collections.specs.LeafEnd.{end_entry, without_collection}
 use Rattle.entry_calls.specs.declared.answers.NotEnded.{NotEnded}
+use Rattle.entry_calls.specs.declared.answers.NotLeft.{NotLeft}
 use Rattle.entry_calls.specs.declared.answers.Ran.{Ran as RanOf}
 use Rattle.entry_calls.specs.declared.answers.Lent.{Lent}
-use Rattle.entry_calls.specs.Ends.{end_cause}
+use Rattle.entry_calls.specs.Ends.{LeavingAnswers, end_cause}
 use Rattle.entry_calls.specs.Ran.{LentTo, RanTo}
 
 -- ---- A TASK AND ITS STEPS
@@ -54,11 +55,11 @@ pub record EntersLent (w after : SharedValue) (k : ℕ) (p q : Private) (answer 
   pub answered : IfOk answer (LentTo w after k p q)
 
 -- they are committed with its next one, which gives the part up: only an allocation can fail
-pub record EntersLeaving (w after : SharedValue) (k : ℕ) (p : Private) (answer : Result RanOf NotRan) : Type 0 where
-  pub refused : RanAnswers answer None
-  pub same : IfErr answer (λ (e : NotRan). IsUnchanged e.cause w after)
+pub record EntersLeaving (w after : SharedValue) (k : ℕ) (p : Private) (answer : Result RanOf NotLeft) : Type 0 where
+  pub refused : LeavingAnswers answer None
+  pub same : IfErr answer (λ (e : NotLeft). IsUnchanged e.cause w after)
   pub still : OnErr answer (EachPartStillFits w after)
-  pub back : IfErr answer (λ (e : NotRan). e.part ≡ p)
+  pub back : IfErr answer (λ (e : NotLeft). e.part ≡ p)
   pub answered : IfOk answer (RanTo w after k p)
 
 -- the run ends because its fuel is used up

@@ -1,6 +1,7 @@
 //! The results of the calls.
 
-use core_invariant::{Moved, Private, Refused};
+use crate::part_block::PartInBlock;
+use core_invariant::{Moved, NotEntered, Refused};
 
 /// The result for a task of a step that gives its part up.
 #[derive(Drop)]
@@ -10,9 +11,16 @@ pub enum Ran {
     /// It has ended; if both children of its parent have, the parent goes on, and is ready.
     Ended { resumed: Option<u32> },
     /// Its step has ended the run: the task is before it, and the worker still holds the part.
-    Over(Private),
+    Over(PartInBlock),
     /// It is the root, and has returned: the run is done, and no worker holds a task.
     Done,
+}
+
+/// Why the steps of a part weren't committed with one that gives it up, and the part.
+#[derive(Drop)]
+pub struct NotLeft {
+    pub cause: NotEntered,
+    pub part: PartInBlock,
 }
 
 /// How a step gives a part up.

@@ -1,6 +1,6 @@
 //! The calls of a value that workers share.
 
-ghost use Rattle.std.specs.Prelude.{◌≡◌, ◌<◌, ◌≤◌, ◌^◌, [], ℕ, IfOk, OnOk, None, Some, false, true, length};
+ghost use Rattle.std.specs.Prelude.{◌≡◌, ◌<◌, ◌≤◌, ◌^◌, [], ℕ, IfOk, OnOk, None, Some, false, true, is_some, length};
 ghost use Rattle.core_invariant.specs.below.run_trace.{mark_limit};
 ghost use Rattle.core_invariant.specs.below.run_ledger.{heap_of, is_paced, is_pool_enough, left_in, sweep_number};
 ghost use Rattle.core_invariant.specs.below.task_machine.{Private as PrivateOf};
@@ -18,10 +18,10 @@ ghost use Rattle.entry_calls.specs.Calls.{BeginsLeaf, BeginsMarking, EndsForFuel
 ghost use Rattle.entry_calls.specs.Owed.{Pays, owed_by};
 ghost use Rattle.entry_calls.specs.Ran.{LeavesBy};
 
-use crate::answers::{Leaving, Lent, NotEnded, Ran};
+use crate::answers::{Leaving, Lent, NotEnded, NotLeft, Ran};
+use crate::part_block::{BlockSource, PartBlock, PartInBlock};
 use core_invariant::{
-    Addr, Kind, Moved, NotEntered, NotRan, Owed, Private, Program, Refused, RunEnd, Settings,
-    ToChunks,
+    Addr, Kind, Moved, NotEntered, Owed, Private, Program, Refused, RunEnd, Settings, ToChunks,
 };
 use std::alloc::{AllocError, Global};
 
@@ -52,8 +52,8 @@ pub trait EntryCalls {
         ensures same { value self.new ≡ record (value self.old) { halted = true } }
         ensures fits { EachPartStillFits (value self.old) (value self.new) };
 
-    /// The worker takes a ready task, and gets its part.
-    fn took(&mut self, worker: u32, t: u32) -> Result<Private, Refused>
+    /// The worker takes a ready task, and gets its part in this block.
+    fn took(&mut self, worker: u32, t: u32, block: PartBlock) -> Result<PartInBlock, Refused>
         requires room { 0 < (value self.old).journal.room }
         requires pays { Pays (value self.old) (record { worker = worker; kind = Kind.Took t }) }
         ensures { TakesTask (value self.old) (value self.new) worker t result };
@@ -75,9 +75,15 @@ pub trait EntryCalls {
         requires pays { Pays (value self.old) (alone_entry worker part.old) }
         ensures { EntersLent (value self.old) (value self.new) worker part.old part.new result };
 
-    /// Commits the fresh steps of a part together with its next one, which gives the part up in this way. If an
-    /// allocation fails nothing is committed, though heaps and sets may have spare capacity.
-    fn ran_leaving(&mut self, worker: u32, part: Private, leaving: Leaving) -> Result<Ran, NotRan>
+    /// Commits the fresh steps of a part together with its next one, which gives the part up in this way; its block is
+    /// kept. If an allocation fails nothing is committed, though heaps and sets may have spare capacity.
+    fn ran_leaving(
+        &mut self,
+        blocks: &mut BlockSource,
+        worker: u32,
+        part: PartInBlock,
+        leaving: Leaving,
+    ) -> Result<Ran, NotLeft>
         requires room { 0 < (value self.old).journal.room }
         requires fits { WorkerPartFits (value self.old) worker part }
         requires shared { IsShared (value self.old) part }
@@ -175,6 +181,10 @@ pub trait EntryCalls {
     /// How the run has ended, if it has.
     fn ended(&self) -> Option<RunEnd>
         ensures { result ≡ (accounts (value self.now)).end };
+
+    /// Whether the run has ended.
+    fn has_ended(&self) -> bool
+        ensures { result ≡ is_some (accounts (value self.now)).end };
 
     /// Whether an allocation of some worker has failed.
     fn halted(&self) -> bool

@@ -3,11 +3,12 @@
 
 mod answers;
 mod calls;
+mod part_block;
 
-pub use answers::{Leaving, Lent, NotEnded, Ran};
+pub use answers::{Leaving, Lent, NotEnded, NotLeft, Ran};
 pub use calls::EntryCalls;
 pub use core_invariant::{
-    Addr, BoxedSlot, Entry, Kind, MARKED_AT_ONCE, Moved, NotEntered, NotRan, Owed, PRIVATE_LIMIT,
-    Paused, Private, Program, Refused, RunEnd, Settings, ToChunks, copying_gc_copy as copy,
-    run_local,
+    Addr, BoxedSlot, Entry, Kind, MARKED_AT_ONCE, Moved, NotEntered, Owed, PRIVATE_LIMIT, Paused,
+    Private, Program, Refused, RunEnd, Settings, ToChunks, copying_gc_copy as copy, run_local,
 };
+pub use part_block::{BlockSource, PartBlock, PartInBlock};

@@ -6,10 +6,12 @@ ghost use Rattle.run_statistics.specs.below.core_invariant.{refused, IsCaused};
 use crate::noting::{idle_paces, note_mark, note_other, note_ran, reserve_mark};
 use crate::owing::owed;
 use crate::paced::{Paced, put_apart};
-use entry_calls::{EntryCalls, Leaving, Lent, NotEnded, Ran};
+use entry_calls::{
+    BlockSource, EntryCalls, Leaving, Lent, NotEnded, NotLeft, PartBlock, PartInBlock, Ran,
+};
 use run_statistics::{
-    Addr, Counted, Kind, LegalCalls, Moved, NotEntered, NotRan, Owed, Private, Program, Refused,
-    RunEnd, Settings, Shared, ToChunks,
+    Addr, Counted, Kind, LegalCalls, Moved, NotEntered, Owed, Private, Program, Refused, RunEnd,
+    Settings, Shared, ToChunks,
 };
 use std::alloc::{AllocError, Global};
 
@@ -52,10 +54,10 @@ impl EntryCalls for Paced {
         self.shared.get_mut().halt();
     }
 
-    fn took(&mut self, worker: u32, t: u32) -> Result<Private, Refused> {
+    fn took(&mut self, worker: u32, t: u32, block: PartBlock) -> Result<PartInBlock, Refused> {
         let shared = self.shared.get_mut();
         shared.stands();
-        let part = shared.took(worker, t)?;
+        let part = shared.took(worker, t, block)?;
         note_other(&mut self.paces, worker);
         Ok(part)
     }
@@ -83,11 +85,17 @@ impl EntryCalls for Paced {
         }
     }
 
-    fn ran_leaving(&mut self, worker: u32, part: Private, leaving: Leaving) -> Result<Ran, NotRan> {
+    fn ran_leaving(
+        &mut self,
+        blocks: &mut BlockSource,
+        worker: u32,
+        part: PartInBlock,
+        leaving: Leaving,
+    ) -> Result<Ran, NotLeft> {
         let shared = self.shared.get_mut();
         shared.stands();
-        let task = part.task;
-        let ran = shared.ran_leaving(worker, part, leaving)?;
+        let task = part.task();
+        let ran = shared.ran_leaving(blocks, worker, part, leaving)?;
         let left = left_in(&ran);
         note_ran(shared.shared(), &mut self.paces, worker, task, left);
         Ok(ran)
@@ -180,6 +188,10 @@ impl EntryCalls for Paced {
 
     fn ended(&self) -> Option<RunEnd> {
         self.shared().ended()
+    }
+
+    fn has_ended(&self) -> bool {
+        self.shared().has_ended()
     }
 
     fn halted(&self) -> bool {

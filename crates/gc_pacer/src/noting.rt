@@ -65,7 +65,7 @@ pub(crate) fn note_ran(
     ensures many { length paces.new ≡ length paces.old }
     ensures noted { (accounts shared.now).end ≡ None → (k : ℕ) → NotesAt paces.old paces.new worker (KeepsNoted (accounts shared.now) (Ran task k)) }
 {
-    if shared.ended().is_some() {
+    if shared.has_ended() {
         return;
     }
     if (worker as usize) < paces.len() {

@@ -14,14 +14,20 @@ use crate::apply_put_off::apply_put_off;
 use crate::apply_ran::apply_ran;
 use crate::apply_took::apply_took;
 use crate::out_part::{Made, OutPart};
-use entry_calls::{Entry, Kind, NotEntered};
+use entry_calls::{BlockSource, Entry, Kind, NotEntered};
 use heap_reading::Listed;
 use legal_calls::LegalCalls;
 use std::alloc::AllocError;
 use std::mem;
 
 // A worker that may make entries makes one for a task that it takes or holds.
-fn make_for<S: LegalCalls>(shared: &mut S, worker: u32, holding: OutPart, kind: Kind) -> Made
+fn make_for<S: LegalCalls>(
+    shared: &mut S,
+    blocks: &mut BlockSource,
+    worker: u32,
+    holding: OutPart,
+    kind: Kind,
+) -> Made
     requires room { 0 < (S.value shared.old).journal.room }
     requires first { first_cause (S.value shared.old).end (S.value shared.old).steps (S.value shared.old).settings worker false ≡ None }
     requires holds { WorkerHolds (S.value shared.old) false worker holding }
@@ -30,8 +36,8 @@ fn make_for<S: LegalCalls>(shared: &mut S, worker: u32, holding: OutPart, kind: 
     ensures { MakesFor (S.value shared.old) (S.value shared.new) worker (record { worker = worker; kind = kind }) result }
 {
     match kind {
-        Kind::Took(t) => apply_took(shared, worker, holding, t),
-        Kind::Ran(t, steps) => apply_ran(shared, worker, holding, t, steps),
+        Kind::Took(t) => apply_took(shared, blocks, worker, holding, t),
+        Kind::Ran(t, steps) => apply_ran(shared, blocks, worker, holding, t, steps),
         Kind::Chunk(t) => apply_chunk(shared, worker, holding, t),
         Kind::Begin(t) => apply_begin(shared, worker, holding, t),
         Kind::End(t, taken, given, left) => {
@@ -46,6 +52,7 @@ fn make_for<S: LegalCalls>(shared: &mut S, worker: u32, holding: OutPart, kind: 
 fn make_own<S: LegalCalls>(
     shared: &mut S,
     holdings: &mut Listed<OutPart>,
+    blocks: &mut BlockSource,
     worker: u32,
     kind: Kind,
 ) -> Result<(), NotEntered>
@@ -62,7 +69,7 @@ fn make_own<S: LegalCalls>(
         return Err(NotEntered::Refuses(cause));
     }
     let holding = mem::replace(holdings.at_mut(worker as usize), OutPart::Nothing);
-    let Made { holding, answer } = make_for(shared, worker, holding, kind);
+    let Made { holding, answer } = make_for(shared, blocks, worker, holding, kind);
     shared.stands();
     holdings.set(worker as usize, holding);
     answer
@@ -82,6 +89,7 @@ fn is_own(kind: Kind) -> bool
 fn make<S: LegalCalls>(
     shared: &mut S,
     holdings: &mut Listed<OutPart>,
+    blocks: &mut BlockSource,
     entry: Entry,
 ) -> Result<(), NotEntered>
     requires room { 0 < (S.value shared.old).journal.room }
@@ -94,7 +102,7 @@ fn make<S: LegalCalls>(
     let worker = entry.worker();
     let kind = entry.kind();
     if is_own(kind) {
-        make_own(shared, holdings, worker, kind)
+        make_own(shared, holdings, blocks, worker, kind)
     } else {
         apply_apart(shared, worker, kind)
     }
@@ -104,6 +112,7 @@ fn make<S: LegalCalls>(
 pub(crate) fn make_entry<S: LegalCalls>(
     shared: &mut S,
     holdings: &mut Listed<OutPart>,
+    blocks: &mut BlockSource,
     entry: Entry,
 ) -> Result<(), NotEntered>
     requires count { length holdings.old ≡ (S.value shared.old).settings.workers }
@@ -113,7 +122,7 @@ pub(crate) fn make_entry<S: LegalCalls>(
 {
     shared.stands();
     match shared.reserve() {
-        Ok(()) => make(shared, holdings, entry),
+        Ok(()) => make(shared, holdings, blocks, entry),
         Err(AllocError) => Err(NotEntered::NoMemory),
     }
 }

@@ -11,7 +11,8 @@ ghost use Rattle.journal_replay.specs.WorldValue.{WorkerHolds, HoldsPart};
 
 use crate::out_part::{Made, OutPart, idle_part};
 use entry_calls::{
-    Kind, Leaving, Lent, NotEntered, PRIVATE_LIMIT, Paused, Private, Ran, Refused, run_local,
+    BlockSource, Kind, Leaving, Lent, NotEntered, PRIVATE_LIMIT, Paused, Private, Ran, Refused,
+    run_local,
 };
 use io_traits::EmptyGate;
 use legal_calls::LegalCalls;
@@ -92,13 +93,13 @@ fn enter_private<S: LegalCalls>(shared: &mut S, worker: u32, part: Private) -> M
 }
 
 // What a worker holds after a step is committed that gives its part up.
-fn holding_of(ran: Ran) -> OutPart
+fn holding_of(blocks: &mut BlockSource, ran: Ran) -> OutPart
     ensures { result ≡ holding_of ran }
 {
     match ran {
         Ran::Forked { left, right } => OutPart::Nothing,
         Ran::Ended { resumed } => OutPart::Nothing,
-        Ran::Over(part) => OutPart::Part(part),
+        Ran::Over(part) => OutPart::Part(blocks.unpack(part)),
         Ran::Done => OutPart::Nothing,
     }
 }
@@ -106,6 +107,7 @@ fn holding_of(ran: Ran) -> OutPart
 // Commits the fresh steps of the part and the shared one that comes next, which gives the part up in this way.
 fn enter_leaving<S: LegalCalls>(
     shared: &mut S,
+    blocks: &mut BlockSource,
     worker: u32,
     part: Private,
     leaving: Leaving,
@@ -119,20 +121,31 @@ fn enter_leaving<S: LegalCalls>(
     ensures { MakesFor (S.value shared.old) (S.value shared.new) worker (alone_entry worker part) result }
 {
     shared.stands();
-    match shared.ran_leaving(worker, part, leaving) {
+    let Ok(block) = blocks.take() else {
+        return Made {
+            holding: OutPart::Part(part),
+            answer: Err(NotEntered::NoMemory),
+        };
+    };
+    match shared.ran_leaving(blocks, worker, block.fill(part), leaving) {
         Ok(ran) => Made {
-            holding: holding_of(ran),
+            holding: holding_of(blocks, ran),
             answer: Ok(()),
         },
         Err(failed) => Made {
-            holding: OutPart::Part(failed.part),
+            holding: OutPart::Part(blocks.unpack(failed.part)),
             answer: Err(failed.cause),
         },
     }
 }
 
 // Commits the fresh steps of the part and the shared one that comes next.
-fn enter_last<S: LegalCalls>(shared: &mut S, worker: u32, part: Private) -> Made
+fn enter_last<S: LegalCalls>(
+    shared: &mut S,
+    blocks: &mut BlockSource,
+    worker: u32,
+    part: Private,
+) -> Made
     requires room { 0 < (S.value shared.old).journal.room }
     requires first { first_cause (S.value shared.old).end (S.value shared.old).steps (S.value shared.old).settings worker false ≡ None }
     requires fits { WorkerPartFits (S.value shared.old) worker part }
@@ -151,7 +164,7 @@ fn enter_last<S: LegalCalls>(shared: &mut S, worker: u32, part: Private) -> Made
             holding: OutPart::Part(part),
             answer: Ok(()),
         },
-        Ok(Lent::Leaves(leaving)) => enter_leaving(shared, worker, part, leaving),
+        Ok(Lent::Leaves(leaving)) => enter_leaving(shared, blocks, worker, part, leaving),
         Err(cause) => Made {
             holding: OutPart::Part(part),
             answer: Err(cause),
@@ -173,6 +186,7 @@ fn standing(part: &Private, paused: Paused) -> u32
 // Commits `steps` steps of the part, if they fit in one entry.
 fn enter<S: LegalCalls>(
     shared: &mut S,
+    blocks: &mut BlockSource,
     worker: u32,
     part: Private,
     paused: Paused,
@@ -194,7 +208,7 @@ fn enter<S: LegalCalls>(
     }
     let most = standing(&part, paused);
     if most == steps {
-        return enter_last(shared, worker, part);
+        return enter_last(shared, blocks, worker, part);
     }
     shared.stands();
     Made {
@@ -204,7 +218,13 @@ fn enter<S: LegalCalls>(
 }
 
 // The part takes `steps` steps, which are committed.
-fn ran<S: LegalCalls>(shared: &mut S, worker: u32, part: Private, steps: u32) -> Made
+fn ran<S: LegalCalls>(
+    shared: &mut S,
+    blocks: &mut BlockSource,
+    worker: u32,
+    part: Private,
+    steps: u32,
+) -> Made
     requires room { 0 < (S.value shared.old).journal.room }
     requires first { first_cause (S.value shared.old).end (S.value shared.old).steps (S.value shared.old).settings worker false ≡ None }
     requires holds { HoldsPart (S.value shared.old) false worker part }
@@ -216,7 +236,7 @@ fn ran<S: LegalCalls>(shared: &mut S, worker: u32, part: Private, steps: u32) ->
     match run_part(shared, worker, &mut part, steps) {
         Ok(paused) => {
             part.settle_before_fork(shared.program());
-            enter(shared, worker, part, paused, steps)
+            enter(shared, blocks, worker, part, paused, steps)
         }
         Err(AllocError) => Made {
             holding: OutPart::Part(part),
@@ -228,6 +248,7 @@ fn ran<S: LegalCalls>(shared: &mut S, worker: u32, part: Private, steps: u32) ->
 /// A task takes `steps` steps: all except the last have to be private.
 pub(crate) fn apply_ran<S: LegalCalls>(
     shared: &mut S,
+    blocks: &mut BlockSource,
     worker: u32,
     holding: OutPart,
     t: u32,
@@ -242,7 +263,7 @@ pub(crate) fn apply_ran<S: LegalCalls>(
 {
     shared.stands();
     match idle_part(holding, t) {
-        Ok(part) => ran(shared, worker, part, steps),
+        Ok(part) => ran(shared, blocks, worker, part, steps),
         Err(apart) => apart.made(),
     }
 }

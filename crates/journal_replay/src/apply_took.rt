@@ -6,12 +6,13 @@ ghost use Rattle.journal_replay.specs.Applied.{MakesFor};
 ghost use Rattle.journal_replay.specs.WorldValue.{WorkerHolds};
 
 use crate::out_part::{Made, OutPart};
-use entry_calls::{Kind, NotEntered};
+use entry_calls::{BlockSource, Kind, NotEntered};
 use legal_calls::LegalCalls;
 
 /// A worker takes a task, and then holds its part.
 pub(crate) fn apply_took<S: LegalCalls>(
     shared: &mut S,
+    blocks: &mut BlockSource,
     worker: u32,
     holding: OutPart,
     t: u32,
@@ -22,9 +23,15 @@ pub(crate) fn apply_took<S: LegalCalls>(
     ensures { MakesFor (S.value shared.old) (S.value shared.new) worker (record { worker = worker; kind = Kind.Took t }) result }
 {
     shared.stands();
-    match shared.took(worker, t) {
+    let Ok(block) = blocks.take() else {
+        return Made {
+            holding,
+            answer: Err(NotEntered::NoMemory),
+        };
+    };
+    match shared.took(worker, t, block) {
         Ok(part) => Made {
-            holding: OutPart::Part(part),
+            holding: OutPart::Part(blocks.unpack(part)),
             answer: Ok(()),
         },
         Err(cause) => Made {

@@ -8,7 +8,7 @@ ghost use Rattle.journal_replay.specs.WorldValue.{IsWhole};
 
 use crate::apply::make_entry;
 use crate::out_part::OutPart;
-use entry_calls::{Entry, NotEntered, Program, Refused, Settings};
+use entry_calls::{BlockSource, Entry, NotEntered, Program, Refused, Settings};
 use heap_reading::Listed;
 use legal_calls::LegalCalls;
 use std::alloc::{AllocError, Global};
@@ -31,6 +31,8 @@ pub struct World<S: LegalCalls> {
     shared: S,
     holdings: Listed<OutPart>,
     stopped: bool,
+    // A block for a part that is taken or given up.
+    blocks: BlockSource,
 }
 
 impl<S: LegalCalls> Model for World<S> {
@@ -73,6 +75,7 @@ impl<S: LegalCalls + Drop> World<S> {
             shared,
             holdings,
             stopped: false,
+            blocks: BlockSource::new(alloc),
         })
     }
 
@@ -83,7 +86,12 @@ impl<S: LegalCalls + Drop> World<S> {
         if self.stopped {
             return Err(NotApplied::Stopped);
         }
-        match make_entry(&mut self.shared, &mut self.holdings, entry) {
+        match make_entry(
+            &mut self.shared,
+            &mut self.holdings,
+            &mut self.blocks,
+            entry,
+        ) {
             Ok(()) => Ok(()),
             Err(NotEntered::Refuses(cause)) => {
                 self.stopped = true;
@@ -114,6 +122,7 @@ impl<S: LegalCalls + Drop> World<S> {
             shared,
             holdings: _,
             stopped: _,
+            blocks: _,
         } = self;
         shared
     }

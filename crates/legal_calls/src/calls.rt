@@ -12,8 +12,8 @@ ghost use Rattle.core_invariant.specs.below.task_machine.{Private as PrivateOf};
 ghost use Rattle.core_invariant.specs.SharedValue.{rest_at};
 
 use entry_calls::{
-    Addr, Leaving, Lent, Moved, NotEnded, NotEntered, NotRan, Private, Program, Ran, Refused,
-    Settings, ToChunks,
+    Addr, BlockSource, Leaving, Lent, Moved, NotEnded, NotEntered, NotLeft, PartBlock, PartInBlock,
+    Private, Program, Ran, Refused, Settings, ToChunks,
 };
 use std::alloc::{AllocError, Global};
 
@@ -38,8 +38,8 @@ pub trait LegalCalls {
         ensures room { OnOk result (0 < (value self.new).journal.room) }
         ensures fit { (k : ℕ) (p : PrivateOf) → WorkerPartFits (value self.old) k p → WorkerPartFits (value self.new) k p };
 
-    /// The worker takes a ready task, and gets its part.
-    fn took(&mut self, worker: u32, t: u32) -> Result<Private, Refused>
+    /// The worker takes a ready task, and gets its part in this block.
+    fn took(&mut self, worker: u32, t: u32, block: PartBlock) -> Result<PartInBlock, Refused>
         requires room { 0 < (value self.old).journal.room }
         ensures { TakesTask (value self.old) (value self.new) worker t result };
 
@@ -58,9 +58,15 @@ pub trait LegalCalls {
         requires shared { IsShared (value self.old) part.old }
         ensures { EntersLent (value self.old) (value self.new) worker part.old part.new result };
 
-    /// Commits the fresh steps of a part together with its next one, which gives the part up in this way. If an
-    /// allocation fails nothing is committed, though heaps and sets may have spare capacity.
-    fn ran_leaving(&mut self, worker: u32, part: Private, leaving: Leaving) -> Result<Ran, NotRan>
+    /// Commits the fresh steps of a part together with its next one, which gives the part up in this way; its block is
+    /// kept. If an allocation fails nothing is committed, though heaps and sets may have spare capacity.
+    fn ran_leaving(
+        &mut self,
+        blocks: &mut BlockSource,
+        worker: u32,
+        part: PartInBlock,
+        leaving: Leaving,
+    ) -> Result<Ran, NotLeft>
         requires room { 0 < (value self.old).journal.room }
         requires fits { WorkerPartFits (value self.old) worker part }
         requires shared { IsShared (value self.old) part }

@@ -3,10 +3,10 @@
 use crate::counted::Counted;
 use crate::counting::JournalCounts;
 use crate::held_words::words_held;
-use entry_calls::{Leaving, Lent, NotEnded, Ran};
+use entry_calls::{BlockSource, Leaving, Lent, NotEnded, NotLeft, PartBlock, PartInBlock, Ran};
 use heap_reading::{Addr, Moved, Private, Program, Refused, Settings, ToChunks};
 use legal_calls::LegalCalls;
-use shared_tree::{NotEntered, NotRan, Shared};
+use shared_tree::{NotEntered, Shared};
 use std::alloc::{AllocError, Global};
 
 impl LegalCalls for Counted {
@@ -22,9 +22,9 @@ impl LegalCalls for Counted {
         self.shared.reserve()
     }
 
-    fn took(&mut self, worker: u32, t: u32) -> Result<Private, Refused> {
+    fn took(&mut self, worker: u32, t: u32, block: PartBlock) -> Result<PartInBlock, Refused> {
         self.shared.stands();
-        let part = self.shared.took(worker, t)?;
+        let part = self.shared.took(worker, t, block)?;
         self.counts.count(&self.shared, 0);
         Ok(part)
     }
@@ -48,9 +48,15 @@ impl LegalCalls for Counted {
         }
     }
 
-    fn ran_leaving(&mut self, worker: u32, part: Private, leaving: Leaving) -> Result<Ran, NotRan> {
+    fn ran_leaving(
+        &mut self,
+        blocks: &mut BlockSource,
+        worker: u32,
+        part: PartInBlock,
+        leaving: Leaving,
+    ) -> Result<Ran, NotLeft> {
         self.shared.stands();
-        let ran = self.shared.ran_leaving(worker, part, leaving)?;
+        let ran = self.shared.ran_leaving(blocks, worker, part, leaving)?;
         self.counts.count(&self.shared, 0);
         Ok(ran)
     }

@@ -2,6 +2,7 @@
 pub use Rattle.entry_calls.specs.Calls.{GetsChunk, BeginsLeaf, BeginsMarking, EntersLeaving, EntersLent}
 pub use Rattle.entry_calls.specs.Ran.{RanTo, IsAtRootEnd, LeavesBy}
 pub use Rattle.entry_calls.specs.declared.answers.Lent.{Lent}
+pub use Rattle.entry_calls.specs.declared.answers.NotLeft.{NotLeft}
 pub use Rattle.fork_join_commit.proofs.ChildEnded.{alone_ends}
 pub use Rattle.fork_join_commit.proofs.ChildReturns.{AsksEnd, asked_alone, asks_end, own_made, parent_low, end_shared, tree_parent, asked}
 pub use Rattle.fork_join_commit.proofs.ForkEntries.{alone_forks, alone_world, rests_fork_by}

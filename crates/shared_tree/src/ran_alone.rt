@@ -1,15 +1,14 @@
 // A part's steps are committed with one that isn't private and involves no other task.
 
-ghost use Rattle.std.specs.Prelude.{◌≡◌, ◌≢◌, ◌<◌, ℕ, OnErr, OnOk, IfOk, None};
+ghost use Rattle.std.specs.Prelude.{◌≡◌, ◌≢◌, ◌<◌, ℕ, OnErr, OnOk, IfErr, IfOk, None};
 ghost use Rattle.leaf_collections.specs.below.hh_model.{ended_by, step};
-ghost use Rattle.leaf_collections.specs.below.core_invariant.{refused, EntersOrRefuses, WorkerPartFits};
-ghost use Rattle.fork_join_commit.specs.below.step_commit.{alone_entry, then_accounts, GoesAlone, HaltsAlone, IsShared, EndingTells};
-ghost use Rattle.entry_calls.specs.Calls.{EntersLeaving};
+ghost use Rattle.leaf_collections.specs.below.core_invariant.{refused, EntersOrRefuses, RanAnswers, WorkerPartFits};
+ghost use Rattle.fork_join_commit.specs.below.step_commit.{alone_entry, then_accounts, FinishesAlone, GoesAlone, HaltsAlone, IsShared, EndingTells};
 ghost use Rattle.shared_tree.specs.StepEnd.{AloneTo, MayBeEntered};
 
 use crate::shared::Shared;
 use crate::steps_entered::enter_alone;
-use entry_calls::{Leaving, Lent, Ran};
+use entry_calls::{Leaving, Lent};
 use fork_join_commit::at_end;
 use leaf_collections::{
     End, Ending, NotEntered, NotRan, Private, Refused, RunEnd, TaskState, first_cause, last_step,
@@ -86,14 +85,17 @@ impl Shared {
     }
 
     /// Commits the last return of the root, given memory for its parked state.
-    pub(crate) fn ran_done(&mut self, worker: u32, part: Private) -> Result<Ran, NotRan>
+    pub(crate) fn ran_done(&mut self, worker: u32, part: Private) -> Result<(), NotRan>
         requires room { 0 < self.old.journal.room }
         requires fits { WorkerPartFits self.old worker part }
         requires shared { IsShared self.old part }
         requires free { refused self.old (alone_entry worker part) ≡ None }
         requires returns { (line : ℕ) × EndingTells self.old part Ending.Returns line }
         requires root { part.task ≡ 0 }
-        ensures { EntersLeaving self.old self.new worker part result }
+        ensures refused { RanAnswers result None }
+        ensures same { OnErr result (self.new ≡ self.old) }
+        ensures back { IfErr result (λ e. e.part ≡ part) }
+        ensures done { OnOk result (FinishesAlone self.old self.new worker part) }
     {
         let task = part.task;
         if self.heaps.task_slots.make_block(task).is_err() {
@@ -107,7 +109,7 @@ impl Shared {
         self.tasks_out.set(worker as usize, None);
         self.heaps.task_slots.put_rest(task, at_end(part));
         self.end = Some(RunEnd::Machine(End::Done));
-        Ok(Ran::Done)
+        Ok(())
     }
 
     /// Commits the fresh steps of a part and its next one, which isn't private, unless that one gives the part up. If

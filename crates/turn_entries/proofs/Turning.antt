@@ -83,15 +83,15 @@ pub ended_over : (w : SharedValue) → is_some (accounts w).end ≡ true → is_
 ended_over w h = or_right w.halted (is_some (accounts w).end) h
 
 -- after an entry that didn't end the run
-pub entered_goes : (w after : SharedValue) (k : ℕ) (ready : Ready) (kind : Kind) (next : Next) (end : Option RunEnd) (ends : Bool) → IsSharedValue after → end ≡ (accounts after).end → ends ≡ is_some end → ends ≡ false
+pub entered_goes : (w after : SharedValue) (k : ℕ) (ready : Ready) (kind : Kind) (next : Next) (ends : Bool) → IsSharedValue after → ends ≡ is_some (accounts after).end → ends ≡ false
     → EntersOne w after k kind → w.halted ≡ false → (Goes after → ComesNext w after k ready next) → ActsFor w after k ready (Some kind) (Entered next)
-entered_goes w after k ready kind next end ends I told is going E on follows = record {
+entered_goes w after k ready kind next ends I is going E on follows = record {
   made = kind;
   is_next = refl;
   enters = E;
   shared = I;
   on = E.enters.halted ∙ on;
-  follows = follows (sym told ∙ none_of end (sym is ∙ going));
+  follows = follows (none_of (accounts after).end (sym is ∙ going));
 }
 
 pub halts_with : (same after : SharedValue) → after ≡ record same { halted = true } → EachPartStillFits same after → EndsHalted same after (Same Stop)

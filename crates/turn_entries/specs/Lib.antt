@@ -1,5 +1,3 @@
-pub mod Blocks
-pub mod PartLends
 pub mod Values
 pub mod Parts
 pub mod Next

@@ -6,9 +6,8 @@ ghost use Rattle.turn_entries.specs.Next.{going_kind, is_out_of_memory};
 ghost use Rattle.turn_entries.specs.Parts.{BringsTo};
 
 use crate::between_turns::{Next, Ready};
-use crate::part_block::BlockSource;
 use crate::run::Run;
-use entry_calls::{EntryCalls, NotEntered, Owed};
+use entry_calls::{BlockSource, EntryCalls, NotEntered, Owed};
 
 /// The outcome of a turn, and how the worker goes on after it.
 #[derive(Drop)]
@@ -28,7 +27,7 @@ impl<P: EntryCalls + Drop> Run<P> {
         ensures { EndsEntered (P.value self.now.paced) next result }
     {
         self.paced.stands();
-        if self.paced.ended().is_some() {
+        if self.paced.has_ended() {
             TurnOutcome::Entered(Next::Stop)
         } else {
             TurnOutcome::Entered(next)

@@ -2,8 +2,7 @@
 ghost use Rattle.std.specs.Prelude.{◌≡◌};
 ghost use Rattle.turn_entries.specs.Next.{is_out_of_memory};
 
-use crate::part_block::PartInBlock;
-use entry_calls::{Addr, BoxedSlot, Moved, Paused, Private, ToChunks};
+use entry_calls::{Addr, BoxedSlot, Moved, PartInBlock, Paused, Private, ToChunks};
 use std::snapshot::Snapshot;
 
 /// A part whose leaf collection has begun, with its roots, and the new chunks with all that copying needs.

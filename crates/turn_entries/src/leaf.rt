@@ -11,9 +11,8 @@ ghost use Rattle.turn_entries.specs.Values.{MayEnter};
 
 use crate::act::TurnOutcome;
 use crate::between_turns::{Collecting, Copied, Next};
-use crate::part_block::{BlockSource, PartInBlock};
 use crate::run::Run;
-use entry_calls::{Addr, BoxedSlot, EntryCalls, Moved, Paused, ToChunks};
+use entry_calls::{Addr, BlockSource, BoxedSlot, EntryCalls, Moved, PartInBlock, Paused, ToChunks};
 use std::alloc::{AllocError, Global};
 
 // Blocks for what a collection takes along, and for its result.

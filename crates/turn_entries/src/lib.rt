@@ -5,7 +5,6 @@
 mod act;
 mod between_turns;
 mod leaf;
-mod part_block;
 mod pay;
 mod run;
 mod steps;
@@ -13,8 +12,8 @@ mod steps;
 pub use act::TurnOutcome;
 pub use between_turns::{Collecting, Copied, Next, Ready};
 pub use entry_calls::{
-    EntryCalls, PRIVATE_LIMIT, Paused, Private, Program, RunEnd, Settings, copy, run_local,
+    BlockSource, EntryCalls, PRIVATE_LIMIT, PartBlock, PartInBlock, Paused, Private, Program,
+    RunEnd, Settings, copy, run_local,
 };
-pub use part_block::{BlockSource, PartBlock, PartInBlock};
 pub use run::{Run, Setup};
 pub use turn_lock::{Seat, Turn};

@@ -60,6 +60,6 @@ impl<P: EntryCalls + Drop> Run<P> {
     pub fn goes_on(&self) -> bool
         ensures { result ≡ not (is_over (P.value self.now.paced)) }
     {
-        !self.paced.halted() && self.paced.ended().is_none()
+        !self.paced.halted() && !self.paced.has_ended()
     }
 }

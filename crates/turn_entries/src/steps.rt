@@ -10,9 +10,8 @@ ghost use Rattle.turn_entries.specs.Values.{MayEnter};
 
 use crate::act::TurnOutcome;
 use crate::between_turns::{Next, Ready};
-use crate::part_block::{BlockSource, PartInBlock};
 use crate::run::Run;
-use entry_calls::{EntryCalls, Leaving, Lent, Paused, Ran};
+use entry_calls::{BlockSource, EntryCalls, Leaving, Lent, PartInBlock, Paused, Ran};
 
 // How a worker goes on whose task has ended.
 fn after_end(resumed: Option<u32>) -> Next
@@ -33,8 +32,8 @@ impl<P: EntryCalls + Drop> Run<P> {
         let Ok(block) = blocks.take() else {
             return self.halted();
         };
-        match self.paced.took(worker, task) {
-            Ok(part) => self.entered(Next::Running(block.fill(part))),
+        match self.paced.took(worker, task, block) {
+            Ok(part) => self.entered(Next::Running(part)),
             Err(_) => TurnOutcome::Same(Next::Idle),
         }
     }
@@ -54,8 +53,8 @@ impl<P: EntryCalls + Drop> Run<P> {
         }
     }
 
-    // Commits the fresh steps of the part together with its next one, which gives the part up in this way: the part is
-    // taken out of its block, which is kept for the next one.
+    // Commits the fresh steps of the part together with its next one, which gives the part up in this way: its block is
+    // kept for the next one.
     fn enter_leaving(
         &mut self,
         blocks: &mut BlockSource,
@@ -69,9 +68,7 @@ impl<P: EntryCalls + Drop> Run<P> {
         ensures { ActsFor (P.value self.old.paced) (P.value self.new.paced) worker (Ready.Paused part Paused.Shared) (Some (KindOf.Ran part.task (part.fresh + 1))) result }
     {
         self.paced.stands();
-        let (part, block) = part.take_out();
-        blocks.keep(block);
-        match self.paced.ran_leaving(worker, part, leaving) {
+        match self.paced.ran_leaving(blocks, worker, part, leaving) {
             Ok(Ran::Forked { left, right }) => self.entered(Next::Forked { left, right }),
             Ok(Ran::Ended { resumed }) => self.entered(after_end(resumed)),
             Ok(Ran::Over(_)) => self.entered(Next::Stop),

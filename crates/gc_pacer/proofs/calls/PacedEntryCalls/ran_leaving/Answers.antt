@@ -31,7 +31,8 @@ invariant_of-self-2 c =
     paced_then w c.ran_leaving.new.self e c.self.inside.paces c.note_ran.new.paces c.stands.ensures (subst (λ (z : SharedValue). KeepsPaces z c.self.inside.paces) (sym c.get_mut-shared.ensures.value) c.self.invariant)
     (ran_enters w c.ran_leaving.new.self c.args.worker p c.in_ok-ran.ran c.in_ok-ran.ensures.answered) free
     (inr (subst (λ (z : SharedValue). Pays z e) (sym (c.get_mut-shared.ensures.value ∙ c.self.view_is)) c.requires.pays)) c.note_ran.ensures.many
-    (subst (λ (z : SharedValue). (accounts z).end ≡ None → NotesAt c.self.inside.paces c.note_ran.new.paces c.args.worker (KeepsNoted (accounts z) (Ran p.task (p.fresh + 1)))) c.shared.ensures (λ on. c.note_ran.ensures.noted on (p.fresh + 1)))
+    (subst (λ (z : SharedValue). (accounts z).end ≡ None → NotesAt c.self.inside.paces c.note_ran.new.paces c.args.worker (KeepsNoted (accounts z) (Ran p.task (p.fresh + 1)))) c.shared.ensures
+    (λ on. subst (λ t. NotesAt c.self.inside.paces c.note_ran.new.paces c.args.worker (KeepsNoted (accounts c.shared.result.now) (Ran t (p.fresh + 1)))) c.task-task.ensures (c.note_ran.ensures.noted on (p.fresh + 1))))
 
 pub returns : goal.returns
 returns c = subst (λ (z : SharedValue). EntersLeaving z c.ran_leaving.new.self c.args.worker c.args.part (Ok c.in_ok-ran.ran)) (c.get_mut-shared.ensures.value ∙ c.self.view_is) c.in_ok-ran.ensures

@@ -1,4 +1,4 @@
-use Rattle.shared_tree.proofs.Common.{refl, ◌≡◌, ℕ, ◌+◌, ◌-◌, Some, None, Err, [], slice_set, ap, sym, subst, ◌∙◌, Done, Machine, Ended, with_state, Private, Returns, NoMemory, IsSharedValue, SharedValue, ParkedTask, TaskSlotsValue, four_changed, FinishesAlone, EndingTells, ended_rest, AsksAlone, asks_alone, alone_small, finishes_alone, finished_world, slot_there, node_there, same_world, EntersLeaving, the_view}
+use Rattle.shared_tree.proofs.Common.{refl, ◌≡◌, ℕ, ◌+◌, ◌-◌, Some, None, [], slice_set, ap, sym, subst, ◌∙◌, Done, Machine, Ended, with_state, Private, Returns, IsSharedValue, SharedValue, ParkedTask, TaskSlotsValue, four_changed, FinishesAlone, EndingTells, ended_rest, AsksAlone, asks_alone, alone_small, finishes_alone, finished_world, slot_there, node_there, the_view}
 use Rattle.shared_tree.proofs.StepsEntered.{along, entered}
 use Rattle.shared_tree.proofs.shared.Shared.ran_done.Goals as goal
 
@@ -40,8 +40,8 @@ invariant_of-self-2 c =
     c.set_state.ensures refl c.set.ensures refl))
     (finished_world asks T.0 T.1 c.requires.root (record { items = []; room = w.journal.room - 1 }))))
 
-pub returns : goal.returns
-returns c =
+pub returns-clause-done : goal.returns-clause-done
+returns-clause-done c =
     let w : SharedValue = the_view c.self.inside in
     let p : Private = c.args.part in
     let k : ℕ = c.args.worker in
@@ -52,20 +52,10 @@ returns c =
     c.put_rest.ensures
     ∙ (ap (λ (h : TaskSlotsValue). record h { rests = slice_set h.rests p.task (Some c.at_end.result) }) c.make_block.ensures.task_slots
     ∙ ap (λ (r : ParkedTask). record hm { rests = slice_set w.rests p.task (Some r) }) c.at_end.ensures) in
-    let finishes : FinishesAlone c.args.self.now (record w { steps = c.enter_alone.new.steps; end = Some (Machine Done); tree = c.set_state.new.self; rests = c.put_rest.new.self.rests; sets = c.put_rest.new.self.sets; marks = c.put_rest.new.self.marks; tasks_out = c.set.new.self; journal = c.enter_alone.new.journal }) k p =
     subst (λ (z : SharedValue). FinishesAlone z (record w { steps = c.enter_alone.new.steps; end = Some (Machine Done); tree = c.set_state.new.self; rests = c.put_rest.new.self.rests; sets = c.put_rest.new.self.sets; marks = c.put_rest.new.self.marks; tasks_out = c.set.new.self; journal = c.enter_alone.new.journal }) k p) c.self.view_is
     (along w k p _ _ c.enter_alone.ensures.steps c.enter_alone.ensures.journal
     (λ n j. FinishesAlone w (record w { steps = n; end = Some (Machine Done); tree = c.set_state.new.self; rests = c.put_rest.new.self.rests; sets = c.put_rest.new.self.sets; marks = c.put_rest.new.self.marks; tasks_out = c.set.new.self; journal = j }) k p)
     (subst (λ (h : TaskSlotsValue). FinishesAlone w (record w { steps = w.steps + (p.fresh + 1); end = Some (Machine Done); tree = c.set_state.new.self; rests = h.rests; sets = h.sets; marks = h.marks; tasks_out = c.set.new.self; journal = entered w k p }) k p) (sym put)
     (subst (λ (z : SharedValue). FinishesAlone w z k p) (sym (four_changed (record w { steps = w.steps + (p.fresh + 1); end = Some (Machine Done) }) (with_state w.tree p.task Ended) _ (slice_set w.rests p.task (Some (ended_rest p))) _ (slice_set w.tasks_out k None) _ (entered w k p) _
     c.set_state.ensures refl c.set.ensures refl))
-    (finishes_alone asks T.0 T.1 c.requires.root (record { items = []; room = w.journal.room - 1 }))))) in
-    record { refused = refl; same = tt; still = tt; back = tt; answered = finishes }
-
-pub returns-then-is_err : goal.returns-then-is_err
-returns-then-is_err c =
-    let e : c.args.self.now ≡ record (the_view c.self.inside) { rests = c.make_block.new.self.rests; sets = c.make_block.new.self.sets; marks = c.make_block.new.self.marks } =
-    sym c.self.view_is
-    ∙ ap (λ (h : TaskSlotsValue). record (the_view c.self.inside) { rests = h.rests; sets = h.sets; marks = h.marks }) (sym c.make_block.ensures.task_slots) in
-    subst (λ (z : SharedValue). EntersLeaving c.args.self.now z c.args.worker c.args.part (Err (record { cause = NoMemory; part = c.args.part }))) e
-    (record { refused = refl; same = same_world c.args.self.now; still = λ k p F. F; back = refl; answered = tt })
+    (finishes_alone asks T.0 T.1 c.requires.root (record { items = []; room = w.journal.room - 1 })))))

@@ -1,9 +1,9 @@
-use Rattle.turn_entries.proofs.Common.{ℕ, ◌+◌, Option, Some, None, refl, ap, subst, sym, ◌∙◌, is_some, Kind, Ran, RunEnd, Private, Shared, WorkerPartFits, SharedValue, FinishesAlone, HaltsAlone, IsShared, alone_free, EndsChild, ForksOn, HoldsNone, LeavesBy, RanTo, ComesNext, IsPaused}
+use Rattle.turn_entries.proofs.Common.{ℕ, ◌+◌, Option, Some, None, refl, ap, subst, sym, ◌∙◌, is_some, Kind, Ran, RunEnd, Private, Shared, SharedValue, FinishesAlone, HaltsAlone, alone_free, EndsChild, ForksOn, HoldsNone, RanTo, ComesNext}
 use Rattle.turn_entries.specs.declared.between_turns.Ready.TheVariants.{Paused as HasPaused}
 use Rattle.turn_entries.proofs.Free.{only_memory}
 use Rattle.turn_entries.proofs.Going.{stands_shared}
 use Rattle.turn_entries.proofs.Paying.{pays_nothing}
-use Rattle.turn_entries.proofs.Turning.{acts_same, follows_end, not_over, one, unentered}
+use Rattle.turn_entries.proofs.Turning.{follows_end, not_over, one, unentered}
 use Rattle.turn_entries.proofs.run.Run.enter_leaving.Goals as goal
 
 pub out_of_memory-requires : goal.out_of_memory-requires
@@ -17,57 +17,52 @@ returns-in-Ok-Forked g c =
     let w : SharedValue = (g.P.EntryCalls.value c.args.self.now.paced) in
     let v : SharedValue = (g.P.EntryCalls.value c.ran_leaving.new.self) in
     let k : ℕ = c.args.worker in
-    let q : Private = c.take_out-part.result.0 in
-    let a : ForksOn w v k q c.in-Ok-Forked.left c.in-Ok-Forked.right × HoldsNone v k = subst (RanTo w v k q) c.in-Ok-Forked.field-0-is c.in-Ok-Forked.ensures.answered in
-    let kind : Kind = Ran q.task (q.fresh + 1) in
-    acts_same w w v k c.args.part q refl c.take_out-part.ensures c.entered.result
-    (c.entered.ensures w k (HasPaused q Shared) kind (one w v k kind a.0.enters a.0.others) c.requires.enter.on
-    (λ on. (on, record { part = q; brought = refl; none = a.1 }, a.0.left_is, a.0.right_is ∙ ap (λ n. n + 1) (sym a.0.left_is))))
+    let p : Private = c.args.part in
+    let a : ForksOn w v k p c.in-Ok-Forked.left c.in-Ok-Forked.right × HoldsNone v k = subst (RanTo w v k p) c.in-Ok-Forked.field-0-is c.in-Ok-Forked.ensures.answered in
+    let kind : Kind = Ran p.task (p.fresh + 1) in
+    c.entered.ensures w k (HasPaused p Shared) kind (one w v k kind a.0.enters a.0.others) c.requires.enter.on
+    (λ on. (on, record { part = p; brought = refl; none = a.1 }, a.0.left_is, a.0.right_is ∙ ap (λ n. n + 1) (sym a.0.left_is)))
 
 pub returns-in-Ok-Ended : goal.returns-in-Ok-Ended
 returns-in-Ok-Ended g c =
     let w : SharedValue = (g.P.EntryCalls.value c.args.self.now.paced) in
     let v : SharedValue = (g.P.EntryCalls.value c.ran_leaving.new.self) in
     let k : ℕ = c.args.worker in
-    let q : Private = c.take_out-part.result.0 in
-    let a : EndsChild w v k q c.in-Ok-Ended.resumed × HoldsNone v k = subst (RanTo w v k q) c.in-Ok-Ended.field-0-is c.in-Ok-Ended.ensures.answered in
-    let kind : Kind = Ran q.task (q.fresh + 1) in
-    acts_same w w v k c.args.part q refl c.take_out-part.ensures c.entered-in-Ok-Ended.result
-    (c.entered-in-Ok-Ended.ensures w k (HasPaused q Shared) kind (one w v k kind a.0.enters a.0.others) c.requires.enter.on
-    (λ on. subst (ComesNext w v k (HasPaused q Shared)) (sym c.after_end.ensures) (follows_end w v k q c.in-Ok-Ended.resumed on a.1 a.0.resumed)))
+    let p : Private = c.args.part in
+    let a : EndsChild w v k p c.in-Ok-Ended.resumed × HoldsNone v k = subst (RanTo w v k p) c.in-Ok-Ended.field-0-is c.in-Ok-Ended.ensures.answered in
+    let kind : Kind = Ran p.task (p.fresh + 1) in
+    c.entered-in-Ok-Ended.ensures w k (HasPaused p Shared) kind (one w v k kind a.0.enters a.0.others) c.requires.enter.on
+    (λ on. subst (ComesNext w v k (HasPaused p Shared)) (sym c.after_end.ensures) (follows_end w v k p c.in-Ok-Ended.resumed on a.1 a.0.resumed))
 
 pub returns-in-Ok-Over : goal.returns-in-Ok-Over
 returns-in-Ok-Over g c =
     let w : SharedValue = (g.P.EntryCalls.value c.args.self.now.paced) in
     let v : SharedValue = (g.P.EntryCalls.value c.ran_leaving.new.self) in
     let k : ℕ = c.args.worker in
-    let q : Private = c.take_out-part.result.0 in
-    let a : HaltsAlone w v k q c.in-Ok-Over.field-0-0 = subst (RanTo w v k q) c.in-Ok-Over.field-0-is c.in-Ok-Over.ensures.answered in
-    let kind : Kind = Ran q.task (q.fresh + 1) in
-    acts_same w w v k c.args.part q refl c.take_out-part.ensures c.entered-in-Ok-Over.result
-    (c.entered-in-Ok-Over.ensures w k (HasPaused q Shared) kind (one w v k kind a.enters a.others) c.requires.enter.on
-    (λ on. ap (λ (o : Option RunEnd). is_some o) a.halts.1))
+    let p : Private = c.args.part in
+    let a : HaltsAlone w v k p c.in-Ok-Over.field-0-0 = subst (RanTo w v k p) c.in-Ok-Over.field-0-is c.in-Ok-Over.ensures.answered in
+    let kind : Kind = Ran p.task (p.fresh + 1) in
+    c.entered-in-Ok-Over.ensures w k (HasPaused p Shared) kind (one w v k kind a.enters a.others) c.requires.enter.on
+    (λ on. ap (λ (o : Option RunEnd). is_some o) a.halts.1)
 
 pub returns-in-Ok-Done : goal.returns-in-Ok-Done
 returns-in-Ok-Done g c =
     let w : SharedValue = (g.P.EntryCalls.value c.args.self.now.paced) in
     let v : SharedValue = (g.P.EntryCalls.value c.ran_leaving.new.self) in
     let k : ℕ = c.args.worker in
-    let q : Private = c.take_out-part.result.0 in
-    let a : FinishesAlone w v k q = subst (RanTo w v k q) c.in-Ok-Done.field-0-is c.in-Ok-Done.ensures.answered in
-    let kind : Kind = Ran q.task (q.fresh + 1) in
-    acts_same w w v k c.args.part q refl c.take_out-part.ensures c.entered-in-Ok-Done.result
-    (c.entered-in-Ok-Done.ensures w k (HasPaused q Shared) kind (one w v k kind a.enters a.others) c.requires.enter.on
-    (λ on. ap (λ (o : Option RunEnd). is_some o) a.done))
+    let p : Private = c.args.part in
+    let a : FinishesAlone w v k p = subst (RanTo w v k p) c.in-Ok-Done.field-0-is c.in-Ok-Done.ensures.answered in
+    let kind : Kind = Ran p.task (p.fresh + 1) in
+    c.entered-in-Ok-Done.ensures w k (HasPaused p Shared) kind (one w v k kind a.enters a.others) c.requires.enter.on
+    (λ on. ap (λ (o : Option RunEnd). is_some o) a.done)
 
 pub returns : goal.returns
 returns g c =
     let w : SharedValue = (g.P.EntryCalls.value c.args.self.now.paced) in
     let v : SharedValue = (g.P.EntryCalls.value c.ran_leaving.new.self) in
     let k : ℕ = c.args.worker in
-    let q : Private = c.take_out-part.result.0 in
-    acts_same w w (g.P.EntryCalls.value c.out_of_memory.new.self.paced) k c.args.part q refl c.take_out-part.ensures c.out_of_memory.result
-    (c.out_of_memory.ensures w k (HasPaused q Shared) (Some (Ran q.task (q.fresh + 1))) (unentered w v c.in-Err.failed.cause c.in-Err.ensures.same c.in-Err.ensures.still) (not_over w c.requires.enter.on c.requires.enter.goes))
+    let p : Private = c.args.part in
+    c.out_of_memory.ensures w k (HasPaused p Shared) (Some (Ran p.task (p.fresh + 1))) (unentered w v c.in-Err.failed.cause c.in-Err.ensures.same c.in-Err.ensures.still) (not_over w c.requires.enter.on c.requires.enter.goes)
 
 pub ran_leaving-requires-clause-room : goal.ran_leaving-requires-clause-room
 ran_leaving-requires-clause-room g c =
@@ -75,35 +70,21 @@ ran_leaving-requires-clause-room g c =
 
 pub ran_leaving-requires-clause-fits : goal.ran_leaving-requires-clause-fits
 ran_leaving-requires-clause-fits g c =
-    let w : SharedValue = (g.P.EntryCalls.value c.args.self.now.paced) in
-    let k : ℕ = c.args.worker in
-    let q : Private = c.take_out-part.result.0 in
-    subst (WorkerPartFits w k) (sym c.take_out-part.ensures) c.requires.paused.may.fits
+    c.requires.paused.may.fits
 
 pub ran_leaving-requires-clause-shared : goal.ran_leaving-requires-clause-shared
 ran_leaving-requires-clause-shared g c =
     let w : SharedValue = (g.P.EntryCalls.value c.args.self.now.paced) in
-    let k : ℕ = c.args.worker in
-    let q : Private = c.take_out-part.result.0 in
-    subst (IsShared w) (sym c.take_out-part.ensures) (stands_shared w k c.args.part c.requires.paused)
+    stands_shared w c.args.worker c.args.part c.requires.paused
 
 pub ran_leaving-requires-clause-free : goal.ran_leaving-requires-clause-free
 ran_leaving-requires-clause-free g c =
     let w : SharedValue = (g.P.EntryCalls.value c.args.self.now.paced) in
     let k : ℕ = c.args.worker in
-    let q : Private = c.take_out-part.result.0 in
-    let paused : IsPaused w k q Shared = subst (λ (r : Private). IsPaused w k r Shared) (sym c.take_out-part.ensures) c.requires.paused in
-    alone_free w k q c.stands.ensures.stands paused.may.fits (stands_shared w k q paused) paused.may.idle c.requires.enter.free
-
-pub ran_leaving-requires-clause-leaves : goal.ran_leaving-requires-clause-leaves
-ran_leaving-requires-clause-leaves g c =
-    let w : SharedValue = (g.P.EntryCalls.value c.args.self.now.paced) in
-    let q : Private = c.take_out-part.result.0 in
-    subst (λ (r : Private). LeavesBy w r c.args.leaving) (sym c.take_out-part.ensures) c.requires.leaves
+    alone_free w k c.args.part c.stands.ensures.stands c.requires.paused.may.fits (stands_shared w k c.args.part c.requires.paused) c.requires.paused.may.idle c.requires.enter.free
 
 pub ran_leaving-requires-clause-pays : goal.ran_leaving-requires-clause-pays
 ran_leaving-requires-clause-pays g c =
     let w : SharedValue = (g.P.EntryCalls.value c.args.self.now.paced) in
     let k : ℕ = c.args.worker in
-    let q : Private = c.take_out-part.result.0 in
-    pays_nothing w k (Ran q.task (q.fresh + 1)) c.requires.enter.owed
+    pays_nothing w k (Ran c.args.part.task (c.args.part.fresh + 1)) c.requires.enter.owed

@@ -1,4 +1,4 @@
-use Rattle.turn_entries.proofs.Common.{refl, ap, sym, subst, ◌∙◌, is_some, Some, Took, refusal_of_result, MayRun, is_over}
+use Rattle.turn_entries.proofs.Common.{refl, ap, sym, ◌∙◌, is_some, Some, Took, refusal_of_result, is_over}
 use Rattle.turn_entries.proofs.Going.{may}
 use Rattle.turn_entries.proofs.Paying.{pays_nothing}
 use Rattle.turn_entries.proofs.Turning.{not_over, one, unchanged}
@@ -7,7 +7,7 @@ use Rattle.turn_entries.proofs.run.Run.take_task.Goals as goal
 pub returns-in-Ok-took : goal.returns-in-Ok-took
 returns-in-Ok-took g c = λ ready.
     c.entered.ensures (g.P.EntryCalls.value c.args.self.now.paced) c.args.worker ready (Took c.args.task) (one (g.P.EntryCalls.value c.args.self.now.paced) (g.P.EntryCalls.value c.took.new.self) c.args.worker (Took c.args.task) c.in-Ok-took.ensures.enters c.in-Ok-took.ensures.others) c.requires.enter.on
-    (λ on. (on, subst (MayRun (g.P.EntryCalls.value c.took.new.self) c.args.worker) (sym c.fill.ensures) (may (g.P.EntryCalls.value c.took.new.self) c.args.worker c.in-Ok-took.part c.in-Ok-took.ensures.fits c.in-Ok-took.ensures.fresh c.in-Ok-took.ensures.idle)))
+    (λ on. (on, may (g.P.EntryCalls.value c.took.new.self) c.args.worker c.in-Ok-took.part c.in-Ok-took.ensures.fits c.in-Ok-took.ensures.fresh c.in-Ok-took.ensures.idle))
 
 pub returns-in-Err : goal.returns-in-Err
 returns-in-Err g c = λ ready. (

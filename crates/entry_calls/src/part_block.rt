@@ -1,7 +1,7 @@
 //! A boxed part, so that passing it moves a pointer.
 ghost use Rattle.std.specs.Prelude.{◌≡◌};
 
-use entry_calls::Private;
+use core_invariant::Private;
 use std::alloc::{AllocError, Global};
 use std::marker::Model;
 use std::snapshot::Snapshot;
@@ -22,7 +22,7 @@ pub struct PartInBlock {
 impl Model for PartInBlock {
     ghost use Rattle.std.specs.Prelude.{◌≡◌, is_some, true};
     ghost use Rattle.entry_calls.specs.below.task_machine.{Private};
-    ghost use Rattle.turn_entries.specs.Blocks.{part_in};
+    ghost use Rattle.entry_calls.specs.Blocks.{part_in};
 
     ghost Value = { Private };
 
@@ -57,18 +57,20 @@ pub struct BlockSource {
 }
 
 impl BlockSource {
+    ghost use Rattle.std.specs.Prelude.{◌≡◌};
+
     /// Nothing but the allocator.
     pub fn new(alloc: Global) -> BlockSource {
         BlockSource { alloc, spare: None }
     }
 
     /// The allocator.
-    pub(crate) fn alloc(&self) -> Global {
+    pub fn alloc(&self) -> Global {
         self.alloc
     }
 
     /// A block for a part.
-    pub(crate) fn take(&mut self) -> Result<PartBlock, AllocError> {
+    pub fn take(&mut self) -> Result<PartBlock, AllocError> {
         match self.spare.take() {
             Some(block) => Ok(block),
             None => PartBlock::new(self.alloc),
@@ -76,17 +78,27 @@ impl BlockSource {
     }
 
     /// Keeps a block for the next part.
-    pub(crate) fn keep(&mut self, block: PartBlock) {
+    pub fn keep(&mut self, block: PartBlock) {
         self.spare = Some(block);
+    }
+
+    /// The part; its block is kept for the next one.
+    pub fn unpack(&mut self, part: PartInBlock) -> Private
+        ensures { result ≡ part }
+    {
+        let (part, block) = part.take_out();
+        self.keep(block);
+        part
     }
 }
 
 impl PartInBlock {
     ghost use Rattle.std.specs.Prelude.{◌≡◌};
     ghost use Rattle.std.specs.Borrow.{sem};
-    ghost use Rattle.turn_entries.specs.PartLends.{lends_part};
+    ghost use Rattle.entry_calls.specs.PartLends.{lends_part};
 
     /// The part, and its block, which can be reused.
+    #[inline(always)]
     pub fn take_out(self) -> (Private, PartBlock)
         ensures { result.0 ≡ self }
     {
@@ -105,6 +117,13 @@ impl PartInBlock {
             Some(part) => part,
             None => unreachable!(),
         }
+    }
+
+    /// Its task.
+    pub fn task(&self) -> u32
+        ensures { result ≡ self.now.task }
+    {
+        self.get().task
     }
 
     /// How many steps of it were taken since its last entry.
