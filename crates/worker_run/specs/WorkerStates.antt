@@ -49,9 +49,9 @@ module _ {P : Type 0} where
     pub begins : (k : ℕ) (d : WorkerState P) → slice_get worker_states k ≡ Some d → (rest : List EntryValue) × (journal ≡ (view d.seat).seen ++ rest) × NoneBy worker_of k rest
     pub whole : (k : ℕ) × (d : WorkerState P) × (slice_get worker_states k ≡ Some d) × ((view d.seat).seen ≡ journal)
 
-  -- the worker has put a task, or looked for one
+  -- the worker has put a task, or looked for one, or done neither
   pub record ChangesHand (old new : WorkerState P) : Type 0 where
-    pub rest : new ≡ record old { hand = new.hand; heard = new.heard }
+    pub rest : new ≡ record old { hand = new.hand; signals = new.signals }
     pub thieves : length (thefts new.hand) ≡ length (thefts old.hand)
 
   abbrev pub FewThefts : WorkerState P → Type 0

@@ -14,11 +14,13 @@ mod turn;
 // What the workers share.
 mod parking;
 mod run_context;
+mod signals;
 mod worker_state;
 
 pub use local::{copy_part, run_part};
 pub use parking::Parker;
 pub use run_context::RunContext;
+pub use signals::Signals;
 pub use turn::take_turn;
 pub use turn_entries::{
     BlockSource, Collecting, Copied, EntryCalls, Next, Ready, Run, Setup, Turn, TurnOutcome,

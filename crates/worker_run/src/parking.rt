@@ -30,10 +30,12 @@ impl Parker {
         *rings = rings.wrapping_add(1);
     }
 
-    /// Signals one more task than its worker takes: one waiting worker wakes.
-    pub fn ring_once<R: Wait>(&self, rt: &R) {
-        self.count(rt);
-        self.rung.notify_one();
+    /// If a worker owes a signal, signals a task that waits on its deque: one waiting worker wakes.
+    pub fn ring_if<R: Wait>(&self, rt: &R, is_owed: bool) {
+        if is_owed {
+            self.count(rt);
+            self.rung.notify_one();
+        }
     }
 
     /// Signals the end: all waiting workers wake.

@@ -1,5 +1,6 @@
 //! The states of the workers.
 
+use crate::signals::Signals;
 use std::alloc::Global;
 use steal_scheduler::Hand;
 use turn_entries::{EntryCalls, Run, Seat, Settings};
@@ -15,8 +16,7 @@ pub struct WorkerState<P: EntryCalls> {
     pub settings: Settings,
     /// How many entries it gave back.
     pub given: u64,
-    /// How many signals the worker had seen when it last looked for a task of others.
-    pub heard: u64,
+    pub signals: Signals,
     /// Padding: it keeps the counts of two workers from sharing a cache line.
     pub apart: [u64; 16],
 }

@@ -10,6 +10,7 @@ ghost use Rattle.worker_run.specs.Tasks.{HaveRoot};
 
 use crate::parking::Parker;
 use crate::run_context::RunContext;
+use crate::signals::Signals;
 use crate::worker_state::WorkerState;
 use crate::working::work;
 use io_traits::Gate;
@@ -65,6 +66,7 @@ fn worker_states_of<P: EntryCalls>(
     while !seats.is_empty() {
         let seat = seats.remove(0);
         let hand = hands.remove(0);
+        let signals = Signals::new();
         worker_states.push(WorkerState {
             seat,
             hand,
@@ -72,7 +74,7 @@ fn worker_states_of<P: EntryCalls>(
             alloc,
             settings,
             given: 0,
-            heard: 0,
+            signals,
             apart: [0; 16],
         })?;
         worker += 1;

@@ -26,25 +26,19 @@ fn look<R: Wait, P: EntryCalls>(rt: &R, parker: &Parker, worker_state: &mut Work
         rt,
         parker,
         &mut worker_state.hand,
-        &mut worker_state.heard,
+        &mut worker_state.signals,
         worker_state.worker,
     ))
 }
 
 // The worker puts the right child of a fork where others find it, and goes on with the left one.
-fn share_right<R: Wait, P: EntryCalls>(
-    rt: &R,
-    parker: &Parker,
-    worker_state: &mut WorkerState<P>,
-    left: u32,
-    right: u32,
-) -> Ready
+fn share_right<P: EntryCalls>(worker_state: &mut WorkerState<P>, left: u32, right: u32) -> Ready
     ensures hand { ChangesHand worker_state.old worker_state.new }
     ensures shared { SharesRight left right worker_state.old.hand worker_state.new.hand result }
 {
     match put(&mut worker_state.hand, right) {
         Ok(()) => {
-            parker.ring_once(rt);
+            worker_state.signals.put();
             Ready::Found(Some(left))
         }
         Err(_) => Ready::OutOfMemory,
@@ -65,26 +59,23 @@ pub fn prepare<R: Wait, P: EntryCalls, G: Gate>(
     ensures tasks { IfSome result (Prepares shop.now.program.now worker_state.old.worker next worker_state.old.hand worker_state.new.hand) }
     ensures stops { IfNone result ((next ≡ Next.Stop) × (worker_state.new ≡ worker_state.old)) }
 {
+    let worker = worker_state.worker;
     match next {
-        Next::Running(part) => Some(run_part(part, shop.program, shop.gate, worker_state.worker)),
-        Next::Collecting(collecting) => Some(Ready::Copied(copy_part(
-            collecting,
-            shop.gate,
-            worker_state.worker,
-        ))),
+        Next::Running(part) => {
+            shop.parker.ring_if(rt, worker_state.signals.pay_if_due());
+            Some(run_part(part, shop.program, shop.gate, worker))
+        }
+        Next::Collecting(collecting) => {
+            shop.parker.ring_if(rt, worker_state.signals.pay());
+            Some(Ready::Copied(copy_part(collecting, shop.gate, worker)))
+        }
         Next::Copied(copied) => Some(Ready::Copied(copied)),
         Next::Found(task) => Some(Ready::Found(Some(task))),
-        Next::Forked { left, right } => Some(share_right(
-            rt,
-            shop.parker,
-            worker_state,
-            left,
-            right,
-        )),
+        Next::Forked { left, right } => Some(share_right(worker_state, left, right)),
         Next::Resumed(task) => Some(Ready::Found(Some(task))),
         Next::Idle => Some(look(rt, shop.parker, worker_state)),
         Next::Waits => {
-            shop.parker.wait_past(rt, worker_state.heard);
+            shop.parker.wait_past(rt, worker_state.signals.heard());
             Some(look(rt, shop.parker, worker_state))
         }
         Next::Stop => {

@@ -33,7 +33,7 @@ pub loop-alloc-preserved : goal.loop-alloc-preserved
 loop-alloc-preserved g c =
     let inv = c.loop-alloc.invariant in
     let hand : Hand = c.remove-hand.result in
-    let worker_state : WorkerState g.row.P.Denot = record { seat = c.remove-seat.result; hand = hand; worker = c.loop-alloc.worker; alloc = c.args.alloc; settings = c.args.settings; given = 0; heard = 0; apart = replicate 16 0 } in
+    let worker_state : WorkerState g.row.P.Denot = record { seat = c.remove-seat.result; hand = hand; worker = c.loop-alloc.worker; alloc = c.args.alloc; settings = c.args.settings; given = 0; signals = c.new-signals.result; apart = replicate 16 0 } in
     let some : 0 < length c.loop-alloc.seats.items = search rules in
     let more : 0 < length c.loop-alloc.hands.items = search rules in
     let made : c.push.new.self.items ≡ c.loop-alloc.worker_states.items ++ worker_state ∷ [] = c.in_ok-push.ensures.items in
