@@ -16,8 +16,9 @@ use std::snapshot::Snapshot;
 use std::sync::Wait;
 use std::{hint, thread};
 
-// After this many failed attempts to take the turn, a thread yields before each further one.
-const PATIENCE: u32 = 7;
+// After this many failed attempts to take the turn, a thread yields before each further one. By then its pauses are some
+// microseconds long, so the others make many entries in a row, with the value in their caches.
+const PATIENCE: u32 = 14;
 
 /// A value that workers take in turns, each by its seat. Threads share it by reference.
 #[derive(Drop)]
