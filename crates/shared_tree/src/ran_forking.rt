@@ -15,13 +15,11 @@ use fork_join_commit::{ForkBlocks, Forking, fork_task_slots, grow};
 use leaf_collections::{
     BoxedSlot, DEPTH_LIMIT, End, Instr, Marking, MarkingRoom, NotEntered, NotRan, Private, Trap,
 };
-use std::mem;
 
-// The buffers for the next marking: those of the marking that is abandoned, if there is one, otherwise the kept ones.
-fn room_kept(marked: Option<BoxedSlot<Marking>>, room: MarkingRoom) -> MarkingRoom {
-    match marked {
-        Some(marking) => marking.into_inner().into_room(),
-        None => room,
+// Keeps the buffers of the marking that is abandoned, if there is one, for the next marking.
+fn keep_room(room: &mut MarkingRoom, marked: Option<BoxedSlot<Marking>>) {
+    if let Some(marking) = marked {
+        *room = marking.into_inner().into_room();
     }
 }
 
@@ -85,10 +83,7 @@ impl Shared {
         enter_alone(&mut self.steps, &mut self.journal, worker, &part);
         self.tasks_out.set(worker as usize, None);
         let marked = fork_task_slots(&mut self.heaps.task_slots, part, first, second, blocks);
-        self.room = room_kept(
-            marked,
-            mem::replace(&mut self.room, MarkingRoom::new(alloc)),
-        );
+        keep_room(&mut self.room, marked);
         Ok(Forking::Forked { left, right })
     }
 

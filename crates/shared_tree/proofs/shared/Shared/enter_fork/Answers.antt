@@ -58,7 +58,7 @@ fork_task_slots-marked-requires-clause-next c =
     next_small (asked_alone asks)
 
 -- The value afterwards: it is a shared value, and the fork entered it.
-module _ (c : goal.After-drop-self-inside-3) where
+module _ (c : goal.After-keep_room) where
   abbrev w : SharedValue
   w = the_view c.self.inside
 
