@@ -101,15 +101,6 @@ results_fit w after (Err e) S = S.fit
 
 -- ---- THE RESULT
 
--- the result of a fork
-abbrev pub ran_by : Forking → Ran
-ran_by (Forked left right) = RanForked left right
-ran_by (Over q) = RanOver q
-
-pub forks_to : (w after : SharedValue) (k : ℕ) (p : Private) → IsSharedValue w → IsSharedValue after → refused w (alone_entry k p) ≡ None → (f : Forking) → ForkAnswered w after k p f → GivesTaskUp w.tasks_out after.tasks_out k f → RanTo w after k p (ran_by f)
-forks_to w after k p I I' free (Forked left right) on task_out = (on, holds_none w after k p I I' free task_out)
-forks_to w after k p I I' free (Over q) over task_out = over
-
 -- what holds of a value and a part if nothing was committed, and vice versa
 pub then_same : (w after : SharedValue) (p q : Private) → after ≡ w → q ≡ p → (G : SharedValue → Private → Type 0) → G w p → G after q
 then_same w after p q same part G g = subst (λ (z : SharedValue). G z q) (sym same) (subst (G w) (sym part) g)

@@ -2,38 +2,43 @@
 
 ghost use Rattle.std.specs.Prelude.{◌≡◌, ◌<◌, OnErr, OnOk, IfErr, IfOk, None, Some, slice_set};
 ghost use Rattle.leaf_collections.specs.below.heap_tree.{parent_of, state_of, sibling};
-ghost use Rattle.leaf_collections.specs.below.core_invariant.{refused, RanAnswers, EachPartStillFits, WorkerPartFits};
+ghost use Rattle.leaf_collections.specs.below.core_invariant.{refused, EachPartStillFits, WorkerPartFits};
 ghost use Rattle.fork_join_commit.specs.below.step_commit.{alone_entry};
 ghost use Rattle.fork_join_commit.specs.ChildEnds.{EndsChild, IsAtEnd};
 ghost use Rattle.fork_join_commit.specs.Joins.{HasPlaces, IsUnchanged, SameButPlaces};
+ghost use Rattle.entry_calls.specs.Ends.{LeavingAnswers};
 ghost use Rattle.shared_tree.specs.StepEnd.{MayBeEntered};
 
+use crate::in_block::{at_end, enter_alone, make_places, own_child};
 use crate::shared::Shared;
-use crate::steps_entered::enter_alone;
-use fork_join_commit::{
-    at_end, in_order, is_ended, join_children, make_places, other_child, own_child,
-};
-use leaf_collections::{NotEntered, NotRan, Private, SetOf, TaskState, sibling_of};
+use entry_calls::{BlockSource, NotLeft, PartInBlock};
+use fork_join_commit::{in_order, is_ended, join_children, other_child};
+use leaf_collections::{NotEntered, SetOf, TaskState, sibling_of};
 use std::alloc::AllocError;
 
 impl Shared {
     // Commits the end of a child whose sibling goes on, given memory for its parked state.
-    fn ran_first(&mut self, worker: u32, part: Private) -> Result<Option<u32>, NotRan>
+    fn ran_first(
+        &mut self,
+        blocks: &mut BlockSource,
+        worker: u32,
+        part: PartInBlock,
+    ) -> Result<Option<u32>, NotLeft>
         requires room { 0 < self.old.journal.room }
         requires fits { WorkerPartFits self.old worker part }
         requires ends { IsAtEnd self.old part }
         requires free { refused self.old (alone_entry worker part) ≡ None }
         requires alone { state_of self.old.tree (sibling part.task) ≡ Some TaskState.Ended → ⊥ }
-        ensures refused { RanAnswers result None }
+        ensures refused { LeavingAnswers result None }
         ensures same { OnErr result (self.new ≡ self.old) }
         ensures memory { IfErr result (λ e. e.cause ≡ NotEntered.NoMemory) }
         ensures back { IfErr result (λ e. e.part ≡ part) }
         ensures answered { IfOk result (EndsChild self.old self.new worker part) }
         ensures task_out { OnOk result (self.new.tasks_out ≡ slice_set self.old.tasks_out worker None) }
     {
-        let task = part.task;
+        let task = part.task();
         if self.heaps.task_slots.make_block(task).is_err() {
-            return Err(NotRan {
+            return Err(NotLeft {
                 cause: NotEntered::NoMemory,
                 part,
             });
@@ -41,12 +46,12 @@ impl Shared {
         enter_alone(&mut self.steps, &mut self.journal, worker, &part);
         self.tree.set_state(task, TaskState::Ended);
         self.tasks_out.set(worker as usize, None);
-        self.heaps.task_slots.put_rest(task, at_end(part));
+        self.heaps.task_slots.put_rest(task, at_end(blocks, part));
         Ok(None)
     }
 
     // Reserves capacity in the parent's heap and set for what both children bring; nothing else changes.
-    fn make_join_places(&mut self, part: &Private, parent: u32) -> Result<(), AllocError>
+    fn make_join_places(&mut self, part: &PartInBlock, parent: u32) -> Result<(), AllocError>
         requires out { MayBeEntered self.old part.now }
         requires ends { IsAtEnd self.old part.now }
         requires ended { state_of self.old.tree (sibling part.now.task) ≡ Some TaskState.Ended }
@@ -60,7 +65,7 @@ impl Shared {
 
     // Commits the end of a child whose sibling has ended: both join their parent, which has capacity for what they
     // bring.
-    fn enter_join(&mut self, worker: u32, part: Private, parent: u32)
+    fn enter_join(&mut self, blocks: &mut BlockSource, worker: u32, part: PartInBlock, parent: u32)
         requires room { 0 < self.old.journal.room }
         requires fits { WorkerPartFits self.old worker part }
         requires ends { IsAtEnd self.old part }
@@ -71,13 +76,13 @@ impl Shared {
         ensures joined { EndsChild self.old self.new worker part (Some parent) }
         ensures task_out { self.new.tasks_out ≡ slice_set self.old.tasks_out worker None }
     {
-        let task = part.task;
+        let task = part.task();
         enter_alone(&mut self.steps, &mut self.journal, worker, &part);
         let other = sibling_of(task);
         self.tasks_out.set(worker as usize, None);
         self.tree.set_state(task, TaskState::Ended);
         let task_slots = &mut self.heaps.task_slots;
-        let own = own_child(part, task_slots.leave(task));
+        let own = own_child(blocks, part, task_slots.leave(task));
         let beside = other_child(task_slots.allocator(), other, task_slots.leave(other));
         let above = task_slots.take_rest(parent);
         let (noted, block) = task_slots.take_set(parent).into_parts();
@@ -92,12 +97,17 @@ impl Shared {
     /// Commits the fresh steps of a part and its next one, which is the last return of a task that isn't the root.
     /// Returns the parent if both its children have ended: it is ready then. If an allocation fails, only the spare
     /// capacity of the parent's heap and set changes.
-    pub(crate) fn ran_ending(&mut self, worker: u32, part: Private) -> Result<Option<u32>, NotRan>
+    pub(crate) fn ran_ending(
+        &mut self,
+        blocks: &mut BlockSource,
+        worker: u32,
+        part: PartInBlock,
+    ) -> Result<Option<u32>, NotLeft>
         requires room { 0 < self.old.journal.room }
         requires fits { WorkerPartFits self.old worker part }
         requires ends { IsAtEnd self.old part }
         requires free { refused self.old (alone_entry worker part) ≡ None }
-        ensures refused { RanAnswers result None }
+        ensures refused { LeavingAnswers result None }
         ensures same { IfErr result (λ e. IsUnchanged e.cause self.old self.new) }
         ensures still { OnErr result (EachPartStillFits self.old self.new) }
         ensures back { IfErr result (λ e. e.part ≡ part) }
@@ -105,18 +115,19 @@ impl Shared {
         ensures task_out { OnOk result (self.new.tasks_out ≡ slice_set self.old.tasks_out worker None) }
     {
         self.stands();
-        if !is_ended(self.tree.state(sibling_of(part.task))) {
-            return self.ran_first(worker, part);
+        let task = part.task();
+        if !is_ended(self.tree.state(sibling_of(task))) {
+            return self.ran_first(blocks, worker, part);
         }
-        let Some(parent) = self.tree.parent(part.task) else {
+        let Some(parent) = self.tree.parent(task) else {
             unreachable!()
         };
         match self.make_join_places(&part, parent) {
             Ok(()) => {
-                self.enter_join(worker, part, parent);
+                self.enter_join(blocks, worker, part, parent);
                 Ok(Some(parent))
             }
-            Err(_) => Err(NotRan {
+            Err(_) => Err(NotLeft {
                 cause: NotEntered::NoMemory,
                 part,
             }),

@@ -1,19 +1,20 @@
 // A part's steps are committed with a fork.
 
-ghost use Rattle.std.specs.Prelude.{◌≡◌, ◌<◌, ℕ, OnErr, IfErr, IfOk, None};
+ghost use Rattle.std.specs.Prelude.{◌≡◌, ◌≤◌, ◌<◌, ℕ, OnErr, OnOk, IfErr, IfOk, None, slice_set};
 ghost use Rattle.leaf_collections.specs.below.hh_model.{depth_limit};
 ghost use Rattle.leaf_collections.specs.below.heap_tree.{depth_of};
-ghost use Rattle.leaf_collections.specs.below.core_invariant.{refused, RanAnswers, WorkerPartFits};
-ghost use Rattle.fork_join_commit.specs.below.step_commit.{alone_entry};
-ghost use Rattle.fork_join_commit.specs.NoTask.{GivesTaskUp};
-ghost use Rattle.fork_join_commit.specs.Forks.{ForkAnswered, ForksTo, IsAtFork};
+ghost use Rattle.leaf_collections.specs.below.core_invariant.{refused, WorkerPartFits};
+ghost use Rattle.fork_join_commit.specs.below.step_commit.{alone_entry, HaltsAlone};
+ghost use Rattle.fork_join_commit.specs.Forks.{ForksOn, ForksTo, IsAtFork};
+ghost use Rattle.entry_calls.specs.Calls.{EntersLeaving};
 ghost use Rattle.shared_tree.specs.StepEnd.{MayBeEntered};
 
+use crate::in_block::{enter_alone, fork_task_slots, grow};
 use crate::shared::Shared;
-use crate::steps_entered::enter_alone;
-use fork_join_commit::{ForkBlocks, Forking, fork_task_slots, grow};
+use entry_calls::{BlockSource, NotLeft, PartInBlock, Ran};
+use fork_join_commit::ForkBlocks;
 use leaf_collections::{
-    BoxedSlot, DEPTH_LIMIT, End, Instr, Marking, MarkingRoom, NotEntered, NotRan, Private, Trap,
+    BoxedSlot, DEPTH_LIMIT, End, Instr, Marking, MarkingRoom, NotEntered, Private, Trap,
 };
 
 // Keeps the buffers of the marking that is abandoned, if there is one, for the next marking.
@@ -39,14 +40,15 @@ impl Shared {
         }
     }
 
-    // Commits a fork.
+    // Commits a fork, and returns the children.
     fn enter_fork(
         &mut self,
+        blocks: &mut BlockSource,
         worker: u32,
-        part: Private,
+        part: PartInBlock,
         left: u32,
         right: u32,
-    ) -> Result<Forking, NotRan>
+    ) -> Result<(u32, u32), NotLeft>
         requires room { 0 < self.old.journal.room }
         requires fits { WorkerPartFits self.old worker part }
         requires forks { IsAtFork self.old part }
@@ -56,12 +58,12 @@ impl Shared {
         ensures memory { IfErr result (λ e. e.cause ≡ NotEntered.NoMemory) }
         ensures same { OnErr result (self.new ≡ self.old) }
         ensures back { IfErr result (λ e. e.part ≡ part) }
-        ensures answered { IfOk result (ForkAnswered self.old self.new worker part) }
-        ensures task_out { IfOk result (GivesTaskUp self.old.tasks_out self.new.tasks_out worker) }
+        ensures answered { IfOk result (λ two. ForksOn self.old self.new worker part two.0 two.1) }
+        ensures task_out { OnOk result (self.new.tasks_out ≡ slice_set self.old.tasks_out worker None) }
     {
         let alloc = self.heaps.task_slots.allocator();
-        let Ok(blocks) = ForkBlocks::new(alloc) else {
-            return Err(NotRan {
+        let Ok(two) = ForkBlocks::new(alloc) else {
+            return Err(NotLeft {
                 cause: NotEntered::NoMemory,
                 part,
             });
@@ -74,7 +76,7 @@ impl Shared {
             right,
         );
         let Ok((first, second)) = grown else {
-            return Err(NotRan {
+            return Err(NotLeft {
                 cause: NotEntered::NoMemory,
                 part,
             });
@@ -82,33 +84,58 @@ impl Shared {
         let (left, right) = (first.task, second.task);
         enter_alone(&mut self.steps, &mut self.journal, worker, &part);
         self.tasks_out.set(worker as usize, None);
-        let marked = fork_task_slots(&mut self.heaps.task_slots, part, first, second, blocks);
+        let marked = fork_task_slots(blocks, &mut self.heaps.task_slots, part, first, second, two);
         keep_room(&mut self.room, marked);
-        Ok(Forking::Forked { left, right })
+        Ok((left, right))
     }
 
-    /// Commits the fresh steps of a part and its next one, which is a fork: its task waits for two children, or the run
-    /// ends, if too many forks are above it.
-    pub(crate) fn ran_forking(&mut self, worker: u32, part: Private) -> Result<Forking, NotRan>
+    // Commits a fork that ends the run, since too many forks are above it.
+    #[cold]
+    fn trap_fork(&mut self, worker: u32, part: PartInBlock, line: u32) -> PartInBlock
         requires room { 0 < self.old.journal.room }
         requires fits { WorkerPartFits self.old worker part }
         requires forks { IsAtFork self.old part }
         requires free { refused self.old (alone_entry worker part) ≡ None }
-        ensures refused { RanAnswers result None }
-        ensures same { OnErr result (self.new ≡ self.old) }
-        ensures back { IfErr result (λ e. e.part ≡ part) }
-        ensures answered { IfOk result (ForkAnswered self.old self.new worker part) }
-        ensures task_out { IfOk result (GivesTaskUp self.old.tasks_out self.new.tasks_out worker) }
+        requires by { (left : ℕ) × (right : ℕ) × ForksTo self.old part left right line }
+        requires deep { depth_limit ≤ depth_of self.old.tree part.task }
+        ensures { HaltsAlone self.old self.new worker part result }
     {
         self.stands();
-        let (left, right, line) = self.fork_line(&part);
-        if self.tree.depth(part.task) < DEPTH_LIMIT {
-            self.enter_fork(worker, part, left, right)
-        } else {
-            let mut part = part;
-            let end = End::Trapped(Trap::Depth, part.task, line);
-            self.enter_halt(worker, &mut part, end);
-            Ok(Forking::Over(part))
+        let (held, block) = part.take_out();
+        let mut held = held;
+        let end = End::Trapped(Trap::Depth, held.task, line);
+        self.enter_halt(worker, &mut held, end);
+        block.fill(held)
+    }
+
+    /// Commits the fresh steps of a part and its next one, which is a fork: its task waits for two children, or the run
+    /// ends, if too many forks are above it.
+    pub(crate) fn ran_forking(
+        &mut self,
+        blocks: &mut BlockSource,
+        worker: u32,
+        part: PartInBlock,
+    ) -> Result<Ran, NotLeft>
+        requires room { 0 < self.old.journal.room }
+        requires fits { WorkerPartFits self.old worker part }
+        requires forks { IsAtFork self.old part }
+        requires free { refused self.old (alone_entry worker part) ≡ None }
+        ensures { EntersLeaving self.old self.new worker part result }
+    {
+        self.stands();
+        let (left, right, line) = self.fork_line(part.get());
+        if self.tree.depth(part.task()) >= DEPTH_LIMIT {
+            return Ok(Ran::Over(self.trap_fork(worker, part, line)));
+        }
+        match self.enter_fork(blocks, worker, part, left, right) {
+            Ok(two) => {
+                self.stands();
+                Ok(Ran::Forked {
+                    left: two.0,
+                    right: two.1,
+                })
+            }
+            Err(failed) => Err(failed),
         }
     }
 }

@@ -24,38 +24,40 @@ module _ (c : After-self) where
 pub sibling_of-other-requires-clause-child : goal.sibling_of-other-requires-clause-child
 sibling_of-other-requires-clause-child c =
     let low = parent_low (asks (goal.at.sibling_of-other-requires-clause-child c).After-self) in
-    omega (arith, low)
+    let is = c.task-task.ensures in
+    omega (arith, low, is)
 
 pub sibling_of-other-requires-clause-few : goal.sibling_of-other-requires-clause-few
 sibling_of-other-requires-clause-few c =
     let b = (goal.at.sibling_of-other-requires-clause-few c).After-self in
     let few = few_tasks (w b) c.self.invariant in
     let made = own_made (asks b) in
-    omega (arith, few, made)
+    let is = c.task-task.ensures in
+    omega (arith, few, made, is)
 
 pub enter_alone-requires-clause-small : goal.enter_alone-requires-clause-small
 enter_alone-requires-clause-small c = alone_small (asked_alone (asks (goal.at.enter_alone-requires-clause-small c).After-self))
 
 pub set_state-requires : goal.set_state-requires
-set_state-requires c = own_made (asks (goal.at.set_state-requires c).After-self)
+set_state-requires c = subst (λ t. t < length (the_view c.self.inside).tree) (sym c.task-task.ensures) (own_made (asks (goal.at.set_state-requires c).After-self))
 
 pub leave-requires : goal.leave-requires
-leave-requires c = record { made = subst (λ n. c.args.part.task < n) (sym c.self.invariant.made) (own_made (asks (goal.at.leave-requires c).After-self)) }
+leave-requires c = record { made = subst (λ t. t < length c.self.inside.heaps.task_slots.rests) (sym c.task-task.ensures) (subst (λ n. c.args.part.task < n) (sym c.self.invariant.made) (own_made (asks (goal.at.leave-requires c).After-self))) }
 
 pub leave-requires-2 : goal.leave-requires-2
 leave-requires-2 c =
     let b = (goal.at.leave-requires-2 c).After-self in
     let made = other_made (asks b) (ended b) in
-    let o = c.sibling_of-other.ensures in
+    let o = c.sibling_of-other.ensures ∙ ap sibling c.task-task.ensures in
     let n = c.self.invariant.made in
-    let m : length c.leave.new.self.rests ≡ length (w b).rests = ap (λ (z : TaskSlotsValue). length z.rests) c.leave.ensures.task_slots ∙ length-set (w b).rests (p b).task None in
+    let m : length c.leave.new.self.rests ≡ length (w b).rests = ap (λ (z : TaskSlotsValue). length z.rests) c.leave.ensures.task_slots ∙ length-set (w b).rests c.task-task.result None in
     record { made = omega (arith, made, o, n, m) }
 
 pub take_rest-above-requires : goal.take_rest-above-requires
 take_rest-above-requires c =
     let b = (goal.at.take_rest-above-requires c).After-self in
-    let two : c.leave-2.new.self ≡ left_by (left_by c.self.inside.heaps.task_slots (p b).task) c.sibling_of-other.result = c.leave-2.ensures.task_slots ∙ ap (λ (z : TaskSlotsValue). left_by z c.sibling_of-other.result) c.leave.ensures.task_slots in
-    record { there = subst (λ (z : TaskSlotsValue). IsSome (rest_at z.rests c.args.parent)) (sym two) (entry.parent_stays (asks b) (ended b) c.args.parent c.sibling_of-other.result (par b) c.sibling_of-other.ensures) }
+    let two : c.leave-2.new.self ≡ left_by (left_by c.self.inside.heaps.task_slots (p b).task) c.sibling_of-other.result = c.leave-2.ensures.task_slots ∙ ap (λ (z : TaskSlotsValue). left_by z c.sibling_of-other.result) (c.leave.ensures.task_slots ∙ ap (left_by c.self.inside.heaps.task_slots) c.task-task.ensures) in
+    record { there = subst (λ (z : TaskSlotsValue). IsSome (rest_at z.rests c.args.parent)) (sym two) (entry.parent_stays (asks b) (ended b) c.args.parent c.sibling_of-other.result (par b) (c.sibling_of-other.ensures ∙ ap sibling c.task-task.ensures)) }
 
 pub take_set-requires : goal.take_set-requires
 take_set-requires c = record { block = c.take_rest-above.ensures.block }
@@ -69,8 +71,8 @@ module _ (c : After-in_order-children) where
     sets_are = refl;
     marks_are = refl;
     task_slots = record {
-      own_set = c.leave.ensures.set;
-      own_left = c.leave.ensures.task_slots;
+      own_set = subst (λ t. slice_get c.self.inside.heaps.task_slots.sets t ≡ Some c.leave.result.set) c.task-task.ensures c.leave.ensures.set;
+      own_left = c.leave.ensures.task_slots ∙ ap (left_by c.self.inside.heaps.task_slots) c.task-task.ensures;
       beside_rest = c.leave-2.ensures.rest;
       beside_set = c.leave-2.ensures.set;
       beside_left = c.leave-2.ensures.task_slots;
@@ -93,14 +95,14 @@ pub join_children-rest-requires-clause-work : goal.join_children-rest-requires-c
 join_children-rest-requires-clause-work c =
     let b = (goal.at.join_children-rest-requires-clause-work c).After-self in
     let d = (goal.at.join_children-rest-requires-clause-work c).After-in_order-children in
-    (can_join (asks b) (ended b) c.args.parent c.sibling_of-other.result (par b) c.sibling_of-other.ensures _ _ _ _ _ _ _ _ _ _ _ _ _ _ (taken d) (places d)).0
+    (can_join (asks b) (ended b) c.args.parent c.sibling_of-other.result (par b) (c.sibling_of-other.ensures ∙ ap sibling c.task-task.ensures) _ _ _ _ _ _ _ _ _ _ _ _ _ _ (taken d) (places d)).0
 
 pub join_children-rest-requires-clause-can : goal.join_children-rest-requires-clause-can
 join_children-rest-requires-clause-can c =
     let b = (goal.at.join_children-rest-requires-clause-can c).After-self in
     let d = (goal.at.join_children-rest-requires-clause-can c).After-in_order-children in
-    subst (λ (ns : List TaskNode). CanJoin ns (the_view c.self.inside).pool (parent_side c.args.parent c.take_rest-above.result c.into_parts-noted.result.0) c.in_order-children.result.0 c.in_order-children.result.1) (sym c.set_state.ensures)
-    (can_join (asks b) (ended b) c.args.parent c.sibling_of-other.result (par b) c.sibling_of-other.ensures _ _ _ _ _ _ _ _ _ _ _ _ _ _ (taken d) (places d)).1
+    subst (λ (ns : List TaskNode). CanJoin ns (the_view c.self.inside).pool (parent_side c.args.parent c.take_rest-above.result c.into_parts-noted.result.0) c.in_order-children.result.0 c.in_order-children.result.1) (sym (c.set_state.ensures ∙ ap (λ t. with_state (the_view c.self.inside).tree t Ended) c.task-task.ensures))
+    (can_join (asks b) (ended b) c.args.parent c.sibling_of-other.result (par b) (c.sibling_of-other.ensures ∙ ap sibling c.task-task.ensures) _ _ _ _ _ _ _ _ _ _ _ _ _ _ (taken d) (places d)).1
 
 pub remembering-set-requires : goal.remembering-set-requires
 remembering-set-requires c =
@@ -153,9 +155,9 @@ module _ (c : After-put_set) where
   both =
       let b = (goal.at.invariant_of-self c).After-self in
       let j : ReservedVecValue EntryValue = record { items = []; room = v.journal.room - 1 } in
-      let ends = both_made (asks b) (ended b) c.args.parent c.sibling_of-other.result (par b) c.sibling_of-other.ensures _ _ _ _ _ _ _ _ _ _ _ _ _ _ pool c.join_children-rest.result.0 c.join_children-rest.result.1 c.put_rest.new.self h6 c.remembering-set.result j (taken (goal.at.invariant_of-self c).After-in_order-children) put in
+      let ends = both_made (asks b) (ended b) c.args.parent c.sibling_of-other.result (par b) (c.sibling_of-other.ensures ∙ ap sibling c.task-task.ensures) _ _ _ _ _ _ _ _ _ _ _ _ _ _ pool c.join_children-rest.result.0 c.join_children-rest.result.1 c.put_rest.new.self h6 c.remembering-set.result j (taken (goal.at.invariant_of-self c).After-in_order-children) put in
       let now : SharedValue = record v { pool = pool; sets = h6.sets; marks = h6.marks; steps = v.steps + (part.fresh + 1) } in
-      let tree : c.join_children-rest.new.tree ≡ joined_nodes (with_state v.tree part.task Ended) c.args.parent left.side.task right.side.task = c.join_children-rest.ensures.tree ∙ ap (λ ns. joined_nodes ns c.args.parent left.side.task right.side.task) c.set_state.ensures in
+      let tree : c.join_children-rest.new.tree ≡ joined_nodes (with_state v.tree part.task Ended) c.args.parent left.side.task right.side.task = c.join_children-rest.ensures.tree ∙ ap (λ ns. joined_nodes ns c.args.parent left.side.task right.side.task) (c.set_state.ensures ∙ ap (λ t. with_state v.tree t Ended) c.task-task.ensures) in
       let same = four_changed now (joined_nodes (with_state v.tree part.task Ended) c.args.parent left.side.task right.side.task) c.join_children-rest.new.tree h6.rests h6.rests (slice_set v.tasks_out k None) c.set.new.self (entered v k part) _ tree refl c.set.ensures refl in
       along v k part _ _ c.enter_alone.ensures.steps c.enter_alone.ensures.journal (λ n j. IsSharedValue (with n j) × EndsChild v (with n j) k part (Some c.args.parent))
       (subst (λ (z : SharedValue). IsSharedValue z × EndsChild v z k part (Some c.args.parent)) (sym same) ends)

@@ -1,14 +1,14 @@
-use Rattle.shared_tree.proofs.Common.{false, true, ◌≡◌, ℕ, Option, Some, None, slice_set, ap, sym, ◌∙◌, ◌<◌, arith, refl, subst, OnErr, Result, Ok, Err, parent_of, state_of, TaskState, sibling, Private, NoMemory, NotRan, SharedValue, RanAnswers, refused, EachPartStillFits, WorkerPartFits, alone_entry, IsAtEnd, IsUnchanged, SameButPlaces, end_shared, own_made, parent_low, tree_parent, few_tasks, places_ends, places_same, same_world}
+use Rattle.shared_tree.proofs.Common.{false, true, ◌≡◌, ℕ, Option, Some, None, slice_set, ap, sym, ◌∙◌, ◌<◌, arith, refl, subst, OnErr, Result, Ok, Err, parent_of, state_of, TaskState, sibling, Private, NoMemory, NotLeft, SharedValue, refused, EachPartStillFits, WorkerPartFits, alone_entry, IsAtEnd, IsUnchanged, SameButPlaces, end_shared, own_made, parent_low, tree_parent, few_tasks, places_ends, places_same, same_world}
 use Rattle.std.specs.Prelude.{IfErr}
 use Rattle.fork_join_commit.proofs.JoinPlaces.{places_fit}
 use Rattle.shared_tree.proofs.shared.Shared.ran_ending.Goals as goal
 
 -- if nothing has changed since an allocation failed, no capacity was reserved either
-unchanged : (w after : SharedValue) (r : Result (Option ℕ) NotRan) → IfErr r (λ e. e.cause ≡ NoMemory) → OnErr r (after ≡ w) → IfErr r (λ e. IsUnchanged e.cause w after)
+unchanged : (w after : SharedValue) (r : Result (Option ℕ) NotLeft) → IfErr r (λ e. e.cause ≡ NoMemory) → OnErr r (after ≡ w) → IfErr r (λ e. IsUnchanged e.cause w after)
 unchanged w after (Ok x) m e = m
 unchanged w after (Err x) m e = subst (λ c. IsUnchanged c w after) (sym m) (subst (SameButPlaces w) (sym e) (same_world w))
 
-still : (w after : SharedValue) (r : Result (Option ℕ) NotRan) → OnErr r (after ≡ w) → OnErr r (EachPartStillFits w after)
+still : (w after : SharedValue) (r : Result (Option ℕ) NotLeft) → OnErr r (after ≡ w) → OnErr r (EachPartStillFits w after)
 still w after (Ok x) e = e
 still w after (Err x) e = λ k p F. subst (λ (z : SharedValue). WorkerPartFits z k p) (sym e) F
 
@@ -19,7 +19,7 @@ pub unreachable-requires : goal.unreachable-requires
 unreachable-requires c =
     let w : SharedValue = c.args.self.now in
     let p : Private = c.args.part in
-    none_some (sym c.in_default.is ∙ (c.parent.ensures ∙ (ap (λ (z : SharedValue). parent_of z.tree p.task) c.self.view_is ∙ tree_parent (record { I = c.stands.ensures; F = c.requires.fits; at_end = c.requires.ends; free = c.requires.free }))))
+    none_some (sym c.in_default.is ∙ ((c.parent.ensures ∙ ap (parent_of c.self.inside.tree) c.task-task.ensures) ∙ (ap (λ (z : SharedValue). parent_of z.tree p.task) c.self.view_is ∙ tree_parent (record { I = c.stands.ensures; F = c.requires.fits; at_end = c.requires.ends; free = c.requires.free }))))
 
 pub enter_join-requires-clause-fits : goal.enter_join-requires-clause-fits
 enter_join-requires-clause-fits c =
@@ -64,22 +64,22 @@ state_is : {f g : ℕ → Option TaskState} {o : Option TaskState} {t u : ℕ} �
 state_is {f = f} {u = u} e same at = e ∙ (ap f at ∙ ap (λ (h : ℕ → Option TaskState). h u) same)
 
 pub ran_first-requires-clause-alone : goal.ran_first-requires-clause-alone
-ran_first-requires-clause-alone c = λ e. not_yes (c.if-not-is_ended.ensures.1 (state_is c.state.ensures (ap (λ (z : SharedValue). state_of z.tree) c.self.view_is) c.sibling_of.ensures ∙ e))
+ran_first-requires-clause-alone c = λ e. not_yes (c.if-not-is_ended.ensures.1 (state_is c.state.ensures (ap (λ (z : SharedValue). state_of z.tree) c.self.view_is) (c.sibling_of.ensures ∙ ap sibling c.task-task.ensures) ∙ e))
 
 pub make_join_places-requires-clause-out : goal.make_join_places-requires-clause-out
 make_join_places-requires-clause-out c = record { worker = c.args.worker; fits = c.requires.fits; free = c.requires.free }
 
 pub make_join_places-requires-clause-ended : goal.make_join_places-requires-clause-ended
-make_join_places-requires-clause-ended c = sym (state_is c.state.ensures (ap (λ (z : SharedValue). state_of z.tree) c.self.view_is) c.sibling_of.ensures) ∙ c.if-not-is_ended.ensures.0 refl
+make_join_places-requires-clause-ended c = sym (state_is c.state.ensures (ap (λ (z : SharedValue). state_of z.tree) c.self.view_is) (c.sibling_of.ensures ∙ ap sibling c.task-task.ensures)) ∙ c.if-not-is_ended.ensures.0 refl
 
 pub make_join_places-requires-clause-parent : goal.make_join_places-requires-clause-parent
-make_join_places-requires-clause-parent c = ap (λ (z : SharedValue). parent_of z.tree c.args.part.task) (sym c.self.view_is) ∙ (sym c.parent.ensures ∙ c.in-Some.is)
+make_join_places-requires-clause-parent c = ap (λ (z : SharedValue). parent_of z.tree c.args.part.task) (sym c.self.view_is) ∙ (sym (c.parent.ensures ∙ ap (parent_of c.self.inside.tree) c.task-task.ensures) ∙ c.in-Some.is)
 
 pub enter_join-requires-clause-ended : goal.enter_join-requires-clause-ended
-enter_join-requires-clause-ended c = ap (λ (z : SharedValue). state_of z.tree (sibling c.args.part.task)) c.make_join_places.ensures.same.rest ∙ (sym (state_is c.state.ensures (ap (λ (z : SharedValue). state_of z.tree) c.self.view_is) c.sibling_of.ensures) ∙ c.if-not-is_ended.ensures.0 refl)
+enter_join-requires-clause-ended c = ap (λ (z : SharedValue). state_of z.tree (sibling c.args.part.task)) c.make_join_places.ensures.same.rest ∙ (sym (state_is c.state.ensures (ap (λ (z : SharedValue). state_of z.tree) c.self.view_is) (c.sibling_of.ensures ∙ ap sibling c.task-task.ensures)) ∙ c.if-not-is_ended.ensures.0 refl)
 
 pub enter_join-requires-clause-parent : goal.enter_join-requires-clause-parent
-enter_join-requires-clause-parent c = ap (λ (z : SharedValue). parent_of z.tree c.args.part.task) c.make_join_places.ensures.same.rest ∙ (ap (λ (z : SharedValue). parent_of z.tree c.args.part.task) (sym c.self.view_is) ∙ (sym c.parent.ensures ∙ c.in-Some.is))
+enter_join-requires-clause-parent c = ap (λ (z : SharedValue). parent_of z.tree c.args.part.task) c.make_join_places.ensures.same.rest ∙ (ap (λ (z : SharedValue). parent_of z.tree c.args.part.task) (sym c.self.view_is) ∙ (sym (c.parent.ensures ∙ ap (parent_of c.self.inside.tree) c.task-task.ensures) ∙ c.in-Some.is))
 
 pub enter_join-requires-clause-places : goal.enter_join-requires-clause-places
 enter_join-requires-clause-places c = c.in-Ok.ensures.places
@@ -110,7 +110,8 @@ sibling_of-requires-clause-child c =
     let w : SharedValue = c.args.self.now in
     let p : Private = c.args.part in
     let low = parent_low (record { I = c.stands.ensures; F = c.requires.fits; at_end = c.requires.ends; free = c.requires.free }) in
-    omega (arith, low)
+    let is = c.task-task.ensures in
+    omega (arith, low, is)
 
 pub sibling_of-requires-clause-few : goal.sibling_of-requires-clause-few
 sibling_of-requires-clause-few c =
@@ -118,4 +119,5 @@ sibling_of-requires-clause-few c =
     let p : Private = c.args.part in
     let few = few_tasks w c.stands.ensures in
     let made = own_made (record { I = c.stands.ensures; F = c.requires.fits; at_end = c.requires.ends; free = c.requires.free }) in
-    omega (arith, few, made)
+    let is = c.task-task.ensures in
+    omega (arith, few, made, is)

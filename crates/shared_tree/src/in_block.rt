@@ -1,0 +1,119 @@
+// What an entry does with a part in its block whose task forks or ends: the part is copied out of its block just where
+// it is parked or joined, and the block is kept.
+
+ghost use Rattle.std.specs.Prelude.{◌≡◌, ◌≤◌, ◌<◌, ◌+◌, ◌-◌, ◌^◌, ◌++◌, ◌∷◌, [], IsSome, OnErr, OnOk, IfOk, None, Some, true, length, slice_get, slice_set};
+ghost use Rattle.leaf_collections.specs.below.run_trace.{private_limit, fuel_limit, worker_limit};
+ghost use Rattle.leaf_collections.specs.below.hh_model.{depth_limit};
+ghost use Rattle.leaf_collections.specs.below.heap_tree.{depth_of, forked, state_of};
+ghost use Rattle.leaf_collections.specs.below.core_invariant.{rest_at};
+ghost use Rattle.leaf_collections.specs.below.task_slots.{marks_at};
+ghost use Rattle.fork_join_commit.specs.below.step_commit.{alone_entry, ended_rest};
+ghost use Rattle.fork_join_commit.specs.Forks.{begun_rest, part_child, waiting_rest, SetsFork};
+ghost use Rattle.fork_join_commit.specs.Joins.{own_child, GetsPlaces, SameButPlacesOf};
+
+use crate::steps_entered;
+use core_invariant::{Child, EndedChild, ParkedTask, TaskSlot, TaskSlots};
+use entry_calls::{BlockSource, PartInBlock};
+use fork_join_commit::ForkBlocks;
+use leaf_collections::{BoxedSlot, Entry, Marking, ReservedVec, TaskState, Tree};
+use std::alloc::AllocError;
+
+/// Counts the fresh steps of a part and its next one, and makes one entry of all of them.
+#[inline(always)]
+pub(crate) fn enter_alone(
+    steps: &mut u64,
+    journal: &mut ReservedVec<Entry>,
+    worker: u32,
+    part: &PartInBlock,
+)
+    requires room { 0 < journal.old.room }
+    requires worker { worker < worker_limit }
+    requires small { (steps.old < fuel_limit) × (part.now.fresh ≤ private_limit) }
+    ensures steps { steps.new ≡ steps.old + (part.now.fresh + 1) }
+    ensures journal { journal.new ≡ record { items = journal.old.items ++ alone_entry worker part.now ∷ []; room = journal.old.room - 1 } }
+{
+    steps_entered::enter_alone(steps, journal, worker, part.get());
+}
+
+/// Reserves capacity for two more slots, and a block for that of the part's task, and then forks. If an allocation
+/// fails, only capacities change.
+#[inline(always)]
+pub(crate) fn grow(
+    tree: &mut Tree,
+    task_slots: &mut TaskSlots,
+    part: &PartInBlock,
+    left: u32,
+    right: u32,
+) -> Result<(Child, Child), AllocError>
+    requires out { state_of tree.old part.now.task ≡ Some TaskState.Out }
+    requires shallow { depth_of tree.old part.now.task < depth_limit }
+    requires few { length tree.old < 2 ^ 31 }
+    requires made { part.now.task < length task_slots.old.rests }
+    ensures tree { OnOk result (tree.new ≡ forked tree.old part.now.task) }
+    ensures task_slots { task_slots.new ≡ record task_slots.old { blocks = task_slots.new.blocks; room = task_slots.new.room } }
+    ensures room { OnOk result (2 ≤ task_slots.new.room) }
+    ensures block { OnOk result (slice_get task_slots.new.blocks part.now.task ≡ Some true) }
+    ensures left_child { IfOk result (λ two. two.0 ≡ part_child part.now (length tree.old) left two.0.heap.slots two.0.heap.spare) }
+    ensures right_child { IfOk result (λ two. two.1 ≡ part_child part.now (length tree.old + 1) right two.1.heap.slots two.1.heap.spare) }
+    ensures same_tree { OnErr result (tree.new ≡ tree.old) }
+{
+    fork_join_commit::grow(tree, task_slots, part.get(), left, right)
+}
+
+/// The slots after a task has forked, within the reserved capacity and blocks: its own has its parked state, keeps
+/// overwritten references and isn't being marked, and there are two more. Returns the marking of its heap since its
+/// last fork, if any.
+#[inline(always)]
+pub(crate) fn fork_task_slots(
+    blocks: &mut BlockSource,
+    task_slots: &mut TaskSlots,
+    part: PartInBlock,
+    left: Child,
+    right: Child,
+    two: ForkBlocks,
+) -> Option<BoxedSlot<Marking>>
+    requires made { part.task < length task_slots.old.rests }
+    requires noted { part.task < length task_slots.old.sets }
+    requires block { slice_get task_slots.old.blocks part.task ≡ Some true }
+    requires room { 2 ≤ task_slots.old.room }
+    requires next { part.frames.top.next + 1 < 2 ^ 32 }
+    ensures rests { task_slots.new.rests ≡ slice_set task_slots.old.rests part.task (Some (waiting_rest part)) ++ Some (begun_rest left) ∷ (Some (begun_rest right) ∷ []) }
+    ensures sets { SetsFork task_slots.old.sets task_slots.new.sets part.task }
+    ensures marks { task_slots.new.marks ≡ slice_set task_slots.old.marks part.task None ++ None ∷ (None ∷ []) }
+    ensures marked { result ≡ marks_at task_slots.old.marks part.task }
+{
+    fork_join_commit::fork_task_slots(task_slots, blocks.unpack(part), left, right, two)
+}
+
+/// The parked state of a task whose last frame returned.
+#[inline(always)]
+pub(crate) fn at_end(blocks: &mut BlockSource, part: PartInBlock) -> ParkedTask
+    ensures { result ≡ ended_rest part }
+{
+    fork_join_commit::at_end(blocks.unpack(part))
+}
+
+/// Reserves capacity in the slot of a task for all that two of its children bring: a part, and its sibling, which has
+/// ended. Nothing else changes.
+#[inline(always)]
+pub(crate) fn make_places(
+    task_slots: &mut TaskSlots,
+    part: &PartInBlock,
+    parent: u32,
+) -> Result<(), AllocError>
+    requires child { 0 < part.now.task }
+    requires few { part.now.task < 2 ^ 31 }
+    requires there { IsSome (rest_at task_slots.old.rests parent) }
+    ensures same { SameButPlacesOf task_slots.old task_slots.new parent }
+    ensures places { OnOk result (GetsPlaces task_slots.old task_slots.new part.now parent) }
+{
+    fork_join_commit::make_places(task_slots, part.get(), parent)
+}
+
+/// What a join takes of the worker's own child: its part, and what was left in its slot.
+#[inline(always)]
+pub(crate) fn own_child(blocks: &mut BlockSource, part: PartInBlock, slot: TaskSlot) -> EndedChild
+    ensures { result ≡ own_child part slot.set.remembered }
+{
+    fork_join_commit::own_child(blocks.unpack(part), slot)
+}
