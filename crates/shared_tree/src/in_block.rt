@@ -1,22 +1,43 @@
-// What an entry does with a part in its block whose task forks or ends: the part is copied out of its block just where
-// it is parked or joined, and the block is kept.
+// What an entry does with a part in its block: it is copied into the block where its task is taken, and out of it where
+// it is parked or joined, and then the block is kept.
 
 ghost use Rattle.std.specs.Prelude.{◌≡◌, ◌≤◌, ◌<◌, ◌+◌, ◌-◌, ◌^◌, ◌++◌, ◌∷◌, [], IsSome, OnErr, OnOk, IfOk, None, Some, true, length, slice_get, slice_set};
 ghost use Rattle.leaf_collections.specs.below.run_trace.{private_limit, fuel_limit, worker_limit};
 ghost use Rattle.leaf_collections.specs.below.hh_model.{depth_limit};
 ghost use Rattle.leaf_collections.specs.below.heap_tree.{depth_of, forked, state_of};
 ghost use Rattle.leaf_collections.specs.below.core_invariant.{rest_at};
+ghost use Rattle.core_invariant.specs.WorkerPartFits.{taken_part, HasFrames};
+ghost use Rattle.leaf_collections.specs.below.task_frames.{FramesValue};
 ghost use Rattle.leaf_collections.specs.below.task_slots.{marks_at};
 ghost use Rattle.fork_join_commit.specs.below.step_commit.{alone_entry, ended_rest};
 ghost use Rattle.fork_join_commit.specs.Forks.{begun_rest, part_child, waiting_rest, SetsFork};
 ghost use Rattle.fork_join_commit.specs.Joins.{own_child, GetsPlaces, SameButPlacesOf};
 
 use crate::steps_entered;
-use core_invariant::{Child, EndedChild, ParkedTask, TaskSlot, TaskSlots};
-use entry_calls::{BlockSource, PartInBlock};
+use core_invariant::{Child, EndedChild, ParkedTask, TaskSlot, TaskSlots, Work};
+use entry_calls::{BlockSource, PartBlock, PartInBlock};
 use fork_join_commit::ForkBlocks;
 use leaf_collections::{BoxedSlot, Entry, Marking, ReservedVec, TaskState, Tree};
 use std::alloc::AllocError;
+
+/// The part of a task that no worker held.
+#[inline(always)]
+pub(crate) fn opened(
+    block: PartBlock,
+    rest: ParkedTask,
+    task: u32,
+    leaf_limit: u64,
+    field_limit: u32,
+) -> PartInBlock
+    requires { HasFrames rest.work }
+    ensures part { (s : FramesValue) → rest.work ≡ Work.Calls s → result ≡ taken_part task leaf_limit field_limit rest s }
+    ensures task { result.task ≡ task }
+    ensures fresh { result.fresh ≡ 0 }
+    ensures heap { result.heap ≡ rest.heap }
+    ensures idle { result.begun ≡ None }
+{
+    block.fill(leaf_collections::opened(rest, task, leaf_limit, field_limit))
+}
 
 /// Counts the fresh steps of a part and its next one, and makes one entry of all of them.
 #[inline(always)]

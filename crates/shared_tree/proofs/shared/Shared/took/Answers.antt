@@ -1,5 +1,4 @@
-use Rattle.std.proofs.Common.{ap, refl, sym, subst, ◌∙◌}
-use Rattle.shared_tree.proofs.Common.{Private, WorkerPartFits}
+use Rattle.std.proofs.Common.{refl, sym, ◌∙◌}
 use Rattle.shared_tree.proofs.shared.Shared.took.Goals as goal
 
 pub returns-in-Some : goal.returns-in-Some
@@ -10,10 +9,10 @@ returns-in-None c = record {
   refused = sym c.in-None.is ∙ c.took_refused.ensures;
   same = tt;
   enters = c.give_task.ensures.enters;
-  task = ap (λ (p : Private). p.task) c.fill.ensures ∙ c.give_task.ensures.task;
-  fresh = ap (λ (p : Private). p.fresh) c.fill.ensures ∙ c.give_task.ensures.fresh;
-  heap = (c.give_task.ensures.heap.0, c.give_task.ensures.heap.1, ap (λ (p : Private). p.heap) c.fill.ensures ∙ c.give_task.ensures.heap.2);
-  idle = ap (λ (p : Private). p.begun) c.fill.ensures ∙ c.give_task.ensures.idle;
-  fits = subst (WorkerPartFits c.give_task.new.self c.args.worker) (sym c.fill.ensures) c.give_task.ensures.fits;
+  task = c.give_task.ensures.task;
+  fresh = c.give_task.ensures.fresh;
+  heap = c.give_task.ensures.heap;
+  idle = c.give_task.ensures.idle;
+  fits = c.give_task.ensures.fits;
   others = c.give_task.ensures.others;
 }
