@@ -1,10 +1,10 @@
 -- The names of lower crates and of the specifications that these proofs use. Declares nothing.
 pub use Rattle.entry_calls.specs.Calls.{GetsChunk, BeginsLeaf, BeginsMarking, EntersLeaving, EntersLent}
-pub use Rattle.entry_calls.specs.Ran.{RanTo, IsAtRootEnd, LeavesBy}
+pub use Rattle.entry_calls.specs.Ran.{IsAtRootEnd, LeavesBy}
 pub use Rattle.entry_calls.specs.declared.answers.Lent.{Lent}
 pub use Rattle.entry_calls.specs.declared.answers.NotLeft.{NotLeft}
 pub use Rattle.fork_join_commit.proofs.ChildEnded.{alone_ends}
-pub use Rattle.fork_join_commit.proofs.ChildReturns.{AsksEnd, asked_alone, asks_end, own_made, parent_low, end_shared, tree_parent, asked}
+pub use Rattle.fork_join_commit.proofs.ChildReturns.{AsksEnd, asked_alone, asks_end, own_made, parent_low, tree_parent, asked}
 pub use Rattle.fork_join_commit.proofs.ForkEntries.{alone_forks, alone_world, rests_fork_by}
 pub use Rattle.fork_join_commit.proofs.JoinEntries.{other_made, parent_slot, parent_is, parent_other}
 pub use Rattle.fork_join_commit.proofs.JoinPlaces.{same_itself, same_world, placed_has, placed_same, places_world, places_ends, places_same}
@@ -13,12 +13,10 @@ pub use Rattle.fork_join_commit.proofs.JoinValue.{Put, Taken, both_made, can_joi
 pub use Rattle.fork_join_commit.proofs.NextStepForks.{AsksFork, asks_fork, few_tasks, on, tree_out, fork_shared, forks_to, is_par_line, par_is, deep_traps}
 pub use Rattle.fork_join_commit.proofs.below.step_commit.{runs_on, fits_machine, machine_same, alone_answer, alone_small, slot_there, next_small, set_there, AsksAlone, asks_alone, halt_world, halts_alone, printed_goes, printed_world, some_line, is_safe, tells, child_beyond, other_beyond, trap_is, finishes_alone, finished_world, node_there}
 pub use Rattle.fork_join_commit.specs.ChildEnds.{IsAtEnd, is_last_return, is_last_by, is_last_line, EndsChild}
-pub use Rattle.fork_join_commit.specs.Forks.{ForkAnswered, IsAtFork, is_fork, is_fork_by, is_par, ForksOn, ForksTo, RestsFork, SetsFork, begun_rest, part_child, waiting_rest}
+pub use Rattle.fork_join_commit.specs.Forks.{IsAtFork, is_fork, is_fork_by, is_par, ForksOn, ForksTo, RestsFork, SetsFork, begun_rest, part_child, waiting_rest}
 pub use Rattle.fork_join_commit.specs.Joins.{IsUnchanged, SameButPlaces, CanJoin, HasPlaces, parent_side}
-pub use Rattle.fork_join_commit.specs.NoTask.{HoldsNone, GivesTaskUp}
+pub use Rattle.fork_join_commit.specs.NoTask.{HoldsNone}
 pub use Rattle.fork_join_commit.specs.below.step_commit.{IsShared, alone_entry, machine_after, HaltsAlone, then_accounts, GoesAlone, EndingTells, FinishesAlone, ended_rest, IsBeyond}
-pub use Rattle.fork_join_commit.specs.declared.fork.Forking.{Forking}
-pub use Rattle.fork_join_commit.specs.declared.fork.Forking.TheVariants.{Forked, Over}
 pub use Rattle.heap_marking.proofs.HeapAsked.{AsksMarked, AsksWaiting, asks_marked, asks_waiting}
 pub use Rattle.heap_marking.proofs.MarkEntries.{mark_asks, mark_enters, kept_noted, put_back, some_asks, some_count, some_enters, mark_answer, mark_begun, mark_fields, mark_starts, some_answer, words_now}
 pub use Rattle.heap_marking.proofs.MarkedHeap.{further, marks_within, never_gone, never_unmarked}
@@ -44,7 +42,7 @@ pub use Rattle.leaf_collections.proofs.below.task_machine.{same_line}
 pub use Rattle.leaf_collections.specs.LeafEnd.{FitsCopied, end_entry, without_collection}
 pub use Rattle.leaf_collections.specs.below.chunk_pool.{PoolValue, TakesAll, slot_at, NotTaken, Full, units_in_use}
 pub use Rattle.leaf_collections.specs.below.copying_gc.{Moved, ToChunks}
-pub use Rattle.leaf_collections.specs.below.core_invariant.{NotEntered, NoMemory, SharedValue, accounts, rest_at, value_of, IsSharedValue, EachPartStillFits, WorkerPartFits, EntersOrRefuses, IsCaused, refused, Refuses, above_of, is_beyond, is_beyond_by, is_beyond_line, is_joint, next_line, first_cause, or_else, chunk_cause, part_asks, OthersFit, take_by, CopyingHasBegun, roots_of, Enters, heaps_of, sources_of, Prints, marks_at, taken_part, due_cause, FitsFirst, Ending, IsOutPart, Beyond, Returns, NotRan, RanAnswers, is_state_ready, took_cause}
+pub use Rattle.leaf_collections.specs.below.core_invariant.{NotEntered, NoMemory, SharedValue, accounts, rest_at, value_of, IsSharedValue, EachPartStillFits, WorkerPartFits, EntersOrRefuses, IsCaused, refused, Refuses, above_of, is_beyond, is_beyond_by, is_beyond_line, is_joint, next_line, first_cause, or_else, chunk_cause, part_asks, OthersFit, take_by, CopyingHasBegun, roots_of, Enters, heaps_of, sources_of, Prints, marks_at, taken_part, due_cause, FitsFirst, Ending, IsOutPart, Beyond, Returns, NotRan, is_state_ready, took_cause}
 pub use Rattle.leaf_collections.specs.below.fork_join.{Child, EndedChild, joined_nodes}
 pub use Rattle.leaf_collections.specs.below.heap_tree.{TaskNode, depth_of, forked, Ended, parent_of, state_of, with_state, sibling, Out, TaskState, Ready}
 pub use Rattle.leaf_collections.specs.below.hh_lang.{Instr, Par, Ret, Line, line_at}

@@ -1,8 +1,6 @@
 -- How a part's next step involves other tasks, by the next line; what remains if an allocation fails.
 use Rattle.std.specs.Result.{OnErr}
-use Rattle.shared_tree.proofs.Common.{IfErr, ◌≡◌, ℕ, Result, Ok, Err, ◌||◌, not, true, Option, Some, None, List, length, slice_get, slice_set, option_map, is_some, refl, ap, sym, subst, ◌∙◌, option_flatten, or_false, got_set, Instr, Par, Ret, Line, MachineState, Task, fetched, Ledger, owns, task_steps, touched, Refused, SetOf, content_of, Private, FitsNow as FitsMachine, Places, same_line, SharedValue, accounts, rest_at, value_of, IsSharedValue, EachPartStillFits, WorkerPartFits, EntersLeaving, EntersOrRefuses, IsCaused, refused, NotEntered, NotLeft, NotRan, NoMemory, Refuses, above_of, is_beyond, is_beyond_by, is_beyond_line, is_joint, next_line, same_length, worker_there, IsShared, alone_entry, machine_after, runs_on, fits_machine, machine_same, IsAtEnd, is_last_return, is_last_by, is_last_line, ForkAnswered, IsAtFork, is_fork, is_fork_by, is_par, HoldsNone, GivesTaskUp, IsUnchanged, SameButPlaces, Forking, Forked, Over, same_itself, same_world, IsOther, SameButRoom, is_other, is_other_by, is_other_line, RanTo, IsJoint}
-use Rattle.entry_calls.specs.declared.answers.Ran.{Ran}
-use Rattle.entry_calls.specs.declared.answers.Ran.TheVariants.{Forked as RanForked, Over as RanOver}
+use Rattle.shared_tree.proofs.Common.{IfErr, ◌≡◌, ℕ, Result, Ok, Err, ◌||◌, not, true, Option, Some, None, List, length, slice_get, slice_set, option_map, is_some, refl, ap, sym, subst, ◌∙◌, option_flatten, or_false, got_set, Instr, Par, Ret, Line, MachineState, Task, fetched, Ledger, owns, task_steps, touched, Refused, SetOf, content_of, Private, FitsNow as FitsMachine, Places, same_line, SharedValue, accounts, rest_at, value_of, IsSharedValue, EachPartStillFits, WorkerPartFits, EntersLeaving, EntersOrRefuses, IsCaused, refused, NotEntered, NotLeft, NotRan, NoMemory, Refuses, above_of, is_beyond, is_beyond_by, is_beyond_line, is_joint, next_line, same_length, worker_there, IsShared, alone_entry, machine_after, runs_on, fits_machine, machine_same, IsAtEnd, is_last_return, is_last_by, is_last_line, IsAtFork, is_fork, is_fork_by, is_par, HoldsNone, IsUnchanged, SameButPlaces, same_itself, same_world, IsOther, SameButRoom, is_other, is_other_by, is_other_line, IsJoint}
 
 other_by : (tasks : List Task) (t : ℕ) (x : Task) (i : Instr) → ((g h : ℕ) → i ≡ Par g h → ⊥) → (i ≡ Ret → ⊥) → (is_joint x i || not (owns tasks t (touched x.top i))) ≡ true → not (owns tasks t (touched x.top i)) ≡ true
 other_by tasks t x (Par g h) par ret e = absurd (par g h refl)

@@ -1,4 +1,4 @@
-use Rattle.shared_tree.proofs.Common.{refl, SharedValue}
+use Rattle.shared_tree.proofs.Common.{refl}
 use Rattle.shared_tree.proofs.Joints.{holds_none}
 use Rattle.shared_tree.proofs.shared.Shared.end_child.Goals as goal
 

@@ -1,4 +1,4 @@
-use Rattle.shared_tree.proofs.Common.{◌≡◌, ◌≤◌, ◌<◌, ℕ, None, length, refl, sym, subst, ◌∙◌, depth_of, Private, SharedValue, WorkerPartFits, NotEntered, NoMemory, IsCaused, refused, alone_entry, node_there, IsAtFork, ForksTo, fork_shared}
+use Rattle.shared_tree.proofs.Common.{◌≡◌, ◌≤◌, ◌<◌, None, length, refl, sym, subst, depth_of, Private, SharedValue, WorkerPartFits, NotEntered, IsCaused, refused, alone_entry, node_there, IsAtFork, ForksTo, fork_shared}
 use Rattle.shared_tree.proofs.Joints.{fit_by, holds_none, same_by}
 use Rattle.shared_tree.proofs.shared.Shared.ran_forking.Goals as goal
 

@@ -1,4 +1,4 @@
-use Rattle.shared_tree.proofs.Common.{◌≡◌, ◌≤◌, ℕ, None, ap, sym, subst, Depth, depth_of, Private, SharedValue, WorkerPartFits, refused, alone_entry, HaltsAlone, IsAtFork, ForksTo, trap_is, deep_traps, fork_shared}
+use Rattle.shared_tree.proofs.Common.{◌≡◌, ◌≤◌, None, sym, subst, Depth, depth_of, Private, SharedValue, WorkerPartFits, refused, alone_entry, HaltsAlone, IsAtFork, ForksTo, trap_is, deep_traps, fork_shared}
 use Rattle.shared_tree.proofs.shared.Shared.trap_fork.Goals as goal
 
 pub enter_halt-requires-clause-fits : goal.enter_halt-requires-clause-fits
