@@ -1,2 +1,3 @@
 -- Re-exports from lower crates for the crates above.
+pub mod log_tasks
 pub mod log_walk

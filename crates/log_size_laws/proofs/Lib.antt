@@ -1,0 +1,7 @@
+mod Counting
+mod Strands
+mod Weights
+mod Places
+mod Words
+pub mod Small
+mod Common
