@@ -143,7 +143,7 @@ module _ (p : ProgramText) (limit : ℕ) (small : limit ≤ 1000000) (named : Al
       fit_both s (entry_lines p (M ts) e.kind) (lines_from p m es) (entry_fits ts e.kind s (omega (arith, few, all)) K R.0)
       (subst (λ q. FitInLog r (lines_from p q es)) (sym i) (entries_fit es us r (omega (arith, few, all, n)) (subst (λ q. Known us q r) i E) (subst (λ q. along.AreReady p q es) i R.1)))
 
-small_limit : (v : Version) → field_limit v ≤ 1000000
+pub small_limit : (v : Version) → field_limit v ≤ 1000000
 small_limit One = omega arith
 small_limit Two = omega arith
 

@@ -1,0 +1,5 @@
+mod Acts
+mod Lines
+pub mod RunSizes
+pub mod below
+mod Common

@@ -1,0 +1,2 @@
+pub mod RunSizes
+pub mod below

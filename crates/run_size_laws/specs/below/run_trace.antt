@@ -1,0 +1,2 @@
+-- Re-exports from `run_trace` for the crates above.
+pub use Rattle.run_trace.specs.Entry.{IsEntry}
