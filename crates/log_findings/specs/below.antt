@@ -2,4 +2,5 @@
 pub mod fork_graph
 pub mod log_form
 pub mod log_tasks
+pub mod log_told
 pub mod log_weights

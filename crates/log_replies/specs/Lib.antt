@@ -1,3 +1,4 @@
 pub mod Blocks
 pub mod Status
 pub mod Shown
+pub mod below

@@ -1,0 +1,4 @@
+-- Re-exports from lower crates for the crates above.
+pub mod log_findings
+pub mod log_report
+pub mod log_told
