@@ -1,7 +1,7 @@
 -- The names of lower crates and of the specifications that these proofs use. Declares nothing.
-pub use Rattle.command_answers.specs.Answers.{AnswersTrace, IsModelled, IsReplay, IsText, WhereTraced, WhereWhole, Refuses, WhereProgram, AnswersText, AnswersProgram, AnswersRun, AnswersTraced, IsRaceAnswer, IsImaged, extras_of, races_status, AnswersImage, AnswersMake, AnswersLine, IsProgramInput, LeavesLine, LeavesMake, IsImageOf, short_of, AnswersVerify, AnswersReplayed, StandsReplayed, LeavesRun, summary}
+pub use Rattle.command_answers.specs.Answers.{AnswersTrace, IsModelled, IsReplay, IsText, WhereTraced, WhereWhole, Refuses, WhereProgram, AnswersText, AnswersProgram, AnswersRun, AnswersTraced, IsRaceAnswer, IsImaged, extras_of, races_status, AnswersImage, AnswersMake, AnswersLine, IsProgramInput, LeavesLine, LeavesMake, IsImageOf, short_of, AnswersVerify, LeavesRun, summary}
 pub use Rattle.command_answers.specs.CommandStatus.{status_of_end}
-pub use Rattle.command_answers.specs.Delivery.{IsAnswered, Delivered, DeliversNothing, DeliversBy, DeliversResult, ReturnsBlock, GivesFound, ReturnsNothing, ReturnsWanted, IsWanted, remains_by}
+pub use Rattle.command_answers.specs.Delivery.{IsAnswered, Delivered, DeliversNothing, DeliversBy, DeliversResult, ReturnsBlock, GivesFound, ReturnsNothing, ReturnsWanted, IsWanted}
 pub use Rattle.command_answers.specs.Headline.{FreesNoReachable, HeapIsHeld, HeapsAreHeld, RunsHoldTheHeadline, StopsUnordered}
 pub use Rattle.command_answers.specs.Input.{program_in}
 pub use Rattle.command_answers.specs.Laws.{WriteTheSame, ModelWritesTheSame, GivesAll, NoFault, HasProgram, IsEnd, MadeAreAccepted, MadeAreRun, NoFaultGivesAll, ProgramsAreRun, TracesAreReplayed, ImagesAreVerified, ImagesHaveJustHeld, RacelessAreDisentangled, IsRecorded, RecordedRunsAreAlike, MadeAreRead}
@@ -15,16 +15,13 @@ pub use Rattle.command_answers.specs.declared.wanted.Wanted.{Wanted}
 pub use Rattle.command_line.specs.declared.line.CommandLine.TheVariants.{Check, Run, Replay, Model, Races, Make, Verify}
 pub use Rattle.command_line.specs.declared.line.CommandLine.{CommandLine}
 pub use Rattle.command_line.specs.declared.line.Options.{Options}
-pub use Rattle.journal_replay.proofs.below.heap_reading.{handed_held, same_machine}
-pub use Rattle.journal_replay.proofs.below.ledger_step_laws.{split_leaves}
-pub use Rattle.journal_replay.proofs.below.refinement.{held_object, object_held}
-pub use Rattle.journal_replay.specs.Replay.{ReplayGives, HasReplayed, IsReplayStop}
-pub use Rattle.journal_replay.specs.WorldValue.{WorldValue}
-pub use Rattle.journal_replay.specs.below.core_invariant.{SharedValue, IsSharedValue, accounts, value_of, without_journal}
-pub use Rattle.journal_replay.specs.below.ledger_step_laws.{Rests}
-pub use Rattle.journal_replay.specs.below.refinement.{BelongingsStand, In, Memory, object_name, handed}
-pub use Rattle.journal_replay.specs.declared.replaying.ReplayStop.TheVariants.{NoMemory}
-pub use Rattle.journal_replay.specs.declared.replaying.ReplayStop.{ReplayStop}
+pub use Rattle.heap_reading.proofs.KeptNames.{handed_held}
+pub use Rattle.heap_reading.proofs.TreeNow.{same_machine}
+pub use Rattle.heap_reading.proofs.below.ledger_step_laws.{split_leaves}
+pub use Rattle.heap_reading.proofs.below.refinement.{held_object, object_held}
+pub use Rattle.heap_reading.specs.below.core_invariant.{SharedValue, IsSharedValue, accounts, value_of, without_journal}
+pub use Rattle.heap_reading.specs.below.ledger_step_laws.{Rests}
+pub use Rattle.heap_reading.specs.below.refinement.{BelongingsStand, In, Memory, object_name, handed}
 pub use Rattle.made_program_laws.proofs.Made.{made_are_programs}
 pub use Rattle.made_program_laws.proofs.below.program_make.{made_are_short}
 pub use Rattle.made_program_laws.proofs.below.round_trip_laws.{recorded_inputs_are_read}
@@ -54,11 +51,10 @@ pub use Rattle.refusal_lines.specs.Refusals.{refusal_of}
 pub use Rattle.refusal_lines.specs.below.run_report.{Extras, report_from, totals_from, report_part}
 pub use Rattle.refusal_lines.specs.declared.refusal.Refusal.TheVariants.{Words, Line, Entry, Image}
 pub use Rattle.refusal_lines.specs.declared.refusal.Refusal.{Refusal}
-pub use Rattle.run_statistics.specs.JournalCounts.{totals_of}
-pub use Rattle.shared_image.proofs.below.heap_image.{sound_is_faultless}
-pub use Rattle.shared_image.specs.Held.{HasJustHeld}
-pub use Rattle.shared_image.specs.below.heap_image.{ImageData, text_of}
-pub use Rattle.shared_image.specs.below.image_check.{ImageFault, image_fault, objects_in}
+pub use Rattle.heap_picture.proofs.below.heap_image.{sound_is_faultless}
+pub use Rattle.heap_picture.specs.Held.{HasJustHeld}
+pub use Rattle.heap_picture.specs.below.heap_image.{ImageData, text_of}
+pub use Rattle.heap_picture.specs.below.image_check.{ImageFault, image_fault, objects_in}
 pub use Rattle.std.proofs.Common.{◌≡◌, ◌∙◌, ℕ, List, [], ◌∷◌, ap, ap₂, sym, subst, Option, Some, None, Bool, true, false, inl, inr, ◌⊎◌, ◌≤◌, ◌+◌, length, refl, arith, ◌++◌, codes, ◌≢◌, cond, append-nil, zero, suc, replicate, is_none, append_assoc, rules}
 pub use Rattle.std.proofs.lemmas.Bool.{and_parts, le-leb}
 pub use Rattle.std.proofs.lemmas.List.{length-append, length-replicate}

@@ -1,7 +1,7 @@
 pub mod Runs
 pub mod Traces
 mod ImagesTold
-mod Imaged
+pub mod Imaged
 pub mod Answered
 pub mod Deliveries
 mod Given

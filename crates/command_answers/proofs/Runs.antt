@@ -1,6 +1,5 @@
 -- The answers for runs.
-use Rattle.command_answers.proofs.Common.{◌∙◌, ◌≡◌, ◌+◌, List, [], true, ap, ap₂, refl, sym, subst, append-nil, length, Option, Some, None, Result, Ok, Err, ProgramText, EntryValue, SettingsValue, TraceInput, settings_for, RunEnd, RefusedAt, IsPrefix, end_of, first_refused, is_legal, or_short, refused_as_run, out_text, first_refused_is_first, Extras, SharedValue, accounts, without_journal, IsSharedValue, ReplayStop, NoMemory as WantsMemory, ReplayGives, WorldValue, Entry, Options, Answer, Wanted, Amid, status_of_end, AnswersReplayed, AnswersTrace, IsReplay, Refuses, StandsReplayed, WhereWhole, extras_of, short_of, IsWanted, remains_by, ReturnsRun, IsReplayedRun, LeavesPrefix}
-use Rattle.journal_replay.specs.declared.replaying.ReplayStop.TheVariants.{RefusedAt as Stops}
+use Rattle.command_answers.proofs.Common.{◌∙◌, ◌≡◌, ◌+◌, List, [], true, ap, ap₂, refl, sym, subst, append-nil, length, Option, Some, None, ProgramText, EntryValue, SettingsValue, TraceInput, settings_for, RunEnd, RefusedAt, IsPrefix, end_of, first_refused, is_legal, or_short, refused_as_run, out_text, first_refused_is_first, Extras, SharedValue, accounts, without_journal, IsSharedValue, Entry, Options, Answer, Wanted, Amid, status_of_end, AnswersTrace, IsReplay, Refuses, WhereWhole, extras_of, short_of, IsWanted, ReturnsRun, IsReplayedRun, LeavesPrefix}
 use Rattle.command_answers.proofs.Traces.{trace_told}
 
 -- a legal journal with an end is one of a whole run
@@ -83,18 +82,3 @@ entries_left o t s entries w found limits is stands program settings prefix foun
 -- all of them are a prefix
 pub all_prefix : (journal entries : List EntryValue) → journal ≡ entries → IsPrefix journal entries
 all_prefix journal entries is = ([], sym is ∙ sym (append-nil journal))
-
--- A REPLAY up to some point
-
-pub replayed_told : (o : Options) (t : TraceInput) (s : SettingsValue) (entries : List EntryValue) (r : Result WorldValue (ReplayStop WorldValue)) (a : Answer) → s ≡ settings_for o.settings t → entries ≡ t.trace.entries
-    → ReplayGives t.program s entries r → AnswersReplayed (extras_of o) r a → AnswersTrace (IsReplay o) o.settings t a
-replayed_told o t s entries (Ok x) a limits is has h = made_told o t s entries x.shared a limits is has.program has.settings has.journal h
-replayed_told o t s entries (Err (Stops r)) a limits is stop h = trace_told (IsReplay o) o.settings t s entries (Some r) a limits is (refused_first t.program s entries r stop) h
-replayed_told o t s entries (Err (WantsMemory x)) a limits is come h = absurd h
-
-pub replayed_left : (o : Options) (t : TraceInput) (s : SettingsValue) (entries : List EntryValue) (r : Result WorldValue (ReplayStop WorldValue)) (found : Wanted) → s ≡ settings_for o.settings t → entries ≡ t.trace.entries
-    → ReplayGives t.program s entries r → StandsReplayed r → found ≡ remains_by r → IsWanted (LeavesPrefix t.program (settings_for o.settings t) t.trace.entries) found
-replayed_left o t s entries (Ok x) found limits is has stands e =
-    entries_left o t s entries x.shared found limits is stands has.program has.settings (all_prefix x.shared.journal.items entries has.journal) e
-replayed_left o t s entries (Err (Stops r)) found limits is stop stands e = subst (IsWanted (LeavesPrefix t.program (settings_for o.settings t) t.trace.entries)) (sym e) tt
-replayed_left o t s entries (Err (WantsMemory x)) found limits is come stands e = entries_left o t s entries x.shared found limits is stands come.program come.settings come.prefix e

@@ -1,7 +1,7 @@
 -- Each command's answer to its input: the bytes, the status, and what is returned.
 use Rattle.std.specs.Prelude.{◌≡◌, ◌+◌, ℕ, true, false, Bool, Option, Some, None, List, [], ◌∷◌, Result, Ok, Err, length, codes}
 use Rattle.std.specs.Fmt.{decimal}
-use Rattle.command_answers.specs.Common.{ProgramText, TextFault, program_of, made_text, SettingsValue, field_limit, usual_settings, EntryValue, InputFault, TraceInput, input_fault, settings_for, IsInput, RunEnd, Short, end_of, refused_as_run, machine_of, tasks_of, end_line, out_text, Extras, Race, accesses, IsReport, races_text, SharedValue, accounts, IsSharedValue, WorldValue, ReplayStop, RefusedAt as Stops, NoMemory as WantsMemory, ImageFault, image_fault, objects_in, ImageData, IsSoundPicture, text_of, IsPictureOf, HasJustHeld, Refusal, Words, Source, Entry, Image as ImageRefused, refusal_line, refusal_of, Options, CommandLine, Check, Run, Replay, Model, Races, Make, Verify}
+use Rattle.command_answers.specs.Common.{ProgramText, TextFault, program_of, made_text, SettingsValue, field_limit, usual_settings, EntryValue, InputFault, TraceInput, input_fault, settings_for, IsInput, RunEnd, Short, end_of, refused_as_run, machine_of, tasks_of, end_line, out_text, Extras, Race, accesses, IsReport, races_text, SharedValue, accounts, IsSharedValue, ImageFault, image_fault, objects_in, ImageData, IsSoundPicture, text_of, IsPictureOf, HasJustHeld, Refusal, Words, Source, Entry, Image as ImageRefused, refusal_line, refusal_of, Options, CommandLine, Check, Run, Replay, Model, Races, Make, Verify}
 use Rattle.race_report.specs.below.run_ledger.{RefusedAt}
 use Rattle.command_line.specs.declared.line.CommandLine.TheVariants.{Image as ImageOf}
 use Rattle.command_answers.specs.declared.answer.CommandStatus.{CommandStatus}
@@ -83,19 +83,6 @@ IsReplay o p s entries = IsReplayedRun p s (extras_of o) entries
 
 abbrev pub AnswersReplay : Options → List ℕ → Answer → Type 0
 AnswersReplay o = AnswersTraced (IsReplay o) o.settings
-
--- the answer at some point of a replay: nothing if memory ran out
-abbrev pub AnswersReplayed : Extras → Result WorldValue (ReplayStop WorldValue) → Answer → Type 0
-AnswersReplayed extras (Ok x) a =
-    WhereWhole (IsReplayedRun x.shared.program x.shared.settings extras x.shared.journal.items) (refused_as_run x.shared.program x.shared.settings x.shared.journal.items) a
-AnswersReplayed extras (Err (Stops r)) a = Refuses (Entry r) a
-AnswersReplayed extras (Err (WantsMemory x)) a = ⊥
-
--- the shared value left is one that represents its journal
-abbrev pub StandsReplayed : Result WorldValue (ReplayStop WorldValue) → Type 0
-StandsReplayed (Ok x) = IsSharedValue x.shared
-StandsReplayed (Err (Stops r)) = Unit {0}
-StandsReplayed (Err (WantsMemory x)) = IsSharedValue x.shared
 
 -- MODEL writes the same, and returns nothing
 

@@ -2,13 +2,10 @@
 pub use Rattle.command_line.specs.declared.line.CommandLine.{CommandLine}
 pub use Rattle.command_line.specs.declared.line.CommandLine.TheVariants.{Check, Run, Replay, Model, Races, Make, Verify}
 pub use Rattle.command_line.specs.declared.line.Options.{Options}
-pub use Rattle.journal_replay.specs.WorldValue.{WorldValue}
-pub use Rattle.journal_replay.specs.below.core_invariant.{SharedValue, accounts, IsSharedValue, without_journal, value_of}
-pub use Rattle.journal_replay.specs.below.ledger_step_laws.{Rests}
-pub use Rattle.journal_replay.specs.below.object_layout.{Located}
-pub use Rattle.journal_replay.specs.below.refinement.{IsModelObject, LiesWithOwner, In, Memory, object_name, objects, handed}
-pub use Rattle.journal_replay.specs.declared.replaying.ReplayStop.{ReplayStop}
-pub use Rattle.journal_replay.specs.declared.replaying.ReplayStop.TheVariants.{RefusedAt, NoMemory}
+pub use Rattle.heap_reading.specs.below.core_invariant.{SharedValue, accounts, IsSharedValue, without_journal, value_of}
+pub use Rattle.heap_reading.specs.below.ledger_step_laws.{Rests}
+pub use Rattle.heap_reading.specs.below.object_layout.{Located}
+pub use Rattle.heap_reading.specs.below.refinement.{IsModelObject, LiesWithOwner, In, Memory, object_name, objects, handed}
 pub use Rattle.made_program_laws.specs.below.hh_lang.{ProgramText, program_limit}
 pub use Rattle.made_program_laws.specs.below.program_make.{made_text, size_limit}
 pub use Rattle.made_program_laws.specs.below.program_reader.{TextFault, program_of, reading_of}
@@ -29,7 +26,7 @@ pub use Rattle.refusal_lines.specs.declared.refusal.Refusal.{Refusal}
 pub use Rattle.refusal_lines.specs.declared.refusal.Refusal.TheVariants.{Words, Source, Entry, Image, Line}
 pub use Rattle.made_program_laws.specs.below.round_trip_laws.{EndsInFeed}
 pub use Rattle.made_program_laws.specs.below.trace_input.{InputFault, TraceInput, input_fault, settings_for, IsInput, too_long}
-pub use Rattle.shared_image.specs.Drawn.{IsPictureOf}
-pub use Rattle.shared_image.specs.Held.{HasJustHeld}
-pub use Rattle.shared_image.specs.below.heap_image.{ImageData, IsSoundPicture, text_of}
-pub use Rattle.shared_image.specs.below.image_check.{ImageFault, image_fault, objects_in}
+pub use Rattle.heap_picture.specs.Drawn.{IsPictureOf}
+pub use Rattle.heap_picture.specs.Held.{HasJustHeld}
+pub use Rattle.heap_picture.specs.below.heap_image.{ImageData, IsSoundPicture, text_of}
+pub use Rattle.heap_picture.specs.below.image_check.{ImageFault, image_fault, objects_in}

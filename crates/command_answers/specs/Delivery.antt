@@ -1,6 +1,6 @@
 -- How an answer reaches the sink, and what a call returns.
 use Rattle.std.specs.Prelude.{◌≡◌, ◌⊎◌, ℕ, Option, Some, None, List, [], Result, Ok, Err, take}
-use Rattle.command_answers.specs.Common.{with_more, EntryValue, SharedValue, without_journal, WorldValue, ReplayStop, RefusedAt, NoMemory as WantsMemory, CommandLine, WroteSome}
+use Rattle.command_answers.specs.Common.{with_more, EntryValue, SharedValue, without_journal, CommandLine, WroteSome}
 use Rattle.command_answers.specs.declared.answer.CommandStatus.{CommandStatus}
 use Rattle.command_answers.specs.declared.answer.CommandStatus.TheVariants.{ReadFault, WriteFault, NoMemory}
 use Rattle.command_answers.specs.declared.answer.Answer.{Answer}
@@ -60,12 +60,6 @@ pub record ReturnsNothing (named : CommandStatus) (r : CallResult) : Type 0 wher
 abbrev pub remains_of : Option SharedValue → Wanted
 remains_of None = Before
 remains_of (Some w) = Amid w.journal.items (without_journal w)
-
--- what a replay leaves at some point; a refused entry is answered with nothing of its run
-abbrev pub remains_by : Result WorldValue (ReplayStop WorldValue) → Wanted
-remains_by (Ok x) = remains_of (Some x.shared)
-remains_by (Err (RefusedAt r)) = Before
-remains_by (Err (WantsMemory x)) = remains_of (Some x.shared)
 
 -- before a run began, or during it, with this left of it
 abbrev pub IsWanted : (List EntryValue → Option SharedValue → Type 0) → Wanted → Type 0

@@ -4,7 +4,7 @@ ghost use Rattle.std.specs.Prelude.{◌≡◌};
 ghost use Rattle.command_answers.specs.CommandStatus.{code_of_status, status_of_end, status_of_machine};
 
 use race_report::{End, Entry, Listed, RunEnd};
-use run_statistics::Remains;
+use shared_tree::Remains;
 
 /// How a call ended.
 #[derive(Clone, Copy)]
@@ -90,7 +90,7 @@ impl CommandStatus {
     }
 
     /// The status of a run with this end.
-    pub(crate) fn of_end(end: RunEnd) -> CommandStatus
+    pub fn of_end(end: RunEnd) -> CommandStatus
         ensures { result ≡ status_of_end end }
     {
         match end {

@@ -7,10 +7,10 @@ ghost use Rattle.read_write_all.specs.Bytes.{input_of, source_bytes};
 ghost use Rattle.command_answers.specs.Input.{limit_of, is_reading, program_in, source_bytes_for};
 
 use command_line::{CommandLine, FileName, name_of};
+use heap_picture::MOST_BYTES;
 use race_report::{PROGRAM_LIMIT, Program};
 use read_write_all::{ReadError, Source, read_file};
 use refusal_lines::{TOO_LONG, TextFault, read_program};
-use shared_image::MOST_BYTES;
 use std::alloc::{AllocError, Global};
 
 /// The program that an input is, or why it is refused.

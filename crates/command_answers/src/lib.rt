@@ -1,18 +1,16 @@
-// The answers of commands: bytes, a status, and what is returned of a run; how an answer is written; and the laws of
-// all answers.
+// What each command answers: bytes, a status, and what is returned of a run; the answers of commands that keep no shared
+// value; how an answer is written; and the laws of all answers.
 #![tactic(auto)]
 
 // The answers of the commands.
 mod check;
-mod image;
 mod model;
 mod races;
-mod replay;
 mod verify;
 
-// Their parts: the input, the end of a run, and the answers that return nothing of a run.
+// Their parts: the input, the options, and the answers that return nothing of a run.
 mod answer;
-mod ended;
+mod extras;
 mod input;
 mod refusals;
 mod wanted;
@@ -24,8 +22,7 @@ mod laws;
 pub use answer::{Answer, CallResult, CommandStatus};
 pub use check::answer_check;
 pub use delivery::{deliver, nothing, return_wanted};
-pub use ended::{amid, answer_ended, extras_of};
-pub use image::answer_image;
+pub use extras::extras_of;
 pub use input::{program_in, read_input};
 pub use laws::{
     images_are_verified, images_have_just_held, made_are_accepted, made_are_read, made_are_run,
@@ -36,7 +33,6 @@ pub use model::answer_model;
 pub use race_report::{Listed, Program};
 pub use races::answer_races;
 pub use read_write_all::ReadError;
-pub use refusals::{bytes_alone, refused};
-pub use replay::answer_replay;
+pub use refusals::{bytes_alone, refused, trace_short};
 pub use verify::answer_verify;
 pub use wanted::Wanted;

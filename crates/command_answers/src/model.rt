@@ -4,7 +4,7 @@ ghost use Rattle.std.specs.Prelude.{IfOk};
 ghost use Rattle.command_answers.specs.Answers.{AnswersModel, AnswersTrace, IsModelled};
 
 use crate::answer::{Answer, CommandStatus};
-use crate::ended::extras_of;
+use crate::extras::extras_of;
 use crate::refusals::{bytes_alone, refused};
 use command_line::Options;
 use refusal_lines::{OrNoMemory, Refusal, TraceInput, read_trace_input, whole_run};

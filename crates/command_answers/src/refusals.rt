@@ -51,7 +51,7 @@ pub fn refused(alloc: Global, refusal: Refusal) -> Result<Answer, AllocError>
 }
 
 /// The answer to a trace that isn't refused, but has no end of its run.
-pub(crate) fn trace_short(alloc: Global, journal: &[Entry]) -> Result<Answer, AllocError>
+pub fn trace_short(alloc: Global, journal: &[Entry]) -> Result<Answer, AllocError>
     ensures { IfOk result (Refuses (Refusal.Entry (short_of journal.now))) }
 {
     let index = journal.len() as u64 + 1;

@@ -8,8 +8,8 @@ ghost use Rattle.command_answers.specs.Answers.{AnswersVerify};
 
 use crate::answer::{Answer, CommandStatus};
 use crate::refusals::{refused, text_alone};
+use heap_picture::{OrNoMemory, verify};
 use refusal_lines::Refusal;
-use shared_image::{OrNoMemory, verify};
 use std::alloc::{AllocError, Global};
 
 // The end line of an image with this number of objects.

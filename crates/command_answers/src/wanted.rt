@@ -1,7 +1,7 @@
 // Out of memory while an answer is made.
 
 use race_report::{Entry, Listed};
-use run_statistics::Remains;
+use shared_tree::Remains;
 use std::alloc::AllocError;
 
 /// When memory ran out.

@@ -8,11 +8,12 @@ ghost use Rattle.command_answers.specs.Delivery.{IsWanted};
 
 use crate::run::answer_run;
 use command_answers::{
-    Answer, CommandStatus, Listed, Wanted, answer_check, answer_image, answer_model, answer_races,
-    answer_replay, answer_verify, bytes_alone,
+    Answer, CommandStatus, Listed, Wanted, answer_check, answer_model, answer_races, answer_verify,
+    bytes_alone,
 };
 use command_line::{CommandLine, Options, Settings, make};
 use io_traits::Gate;
+use run_answers::{answer_image, answer_replay};
 use std::alloc::Global;
 use std::sync::Wait;
 use std::thread::Threads;

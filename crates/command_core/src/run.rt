@@ -6,13 +6,12 @@ ghost use Rattle.command_answers.specs.Delivery.{IsWanted, remains_of};
 ghost use Rattle.command_answers.specs.Runs.{LeavesPaced};
 ghost use Rattle.command_core.specs.Left.{AnswersLeft};
 
-use command_answers::{
-    Answer, Program, Wanted, amid, answer_ended, extras_of, program_in, refused,
-};
+use command_answers::{Answer, Program, Wanted, extras_of, program_in, refused};
 use command_line::Options;
 use gc_pacer::Paced;
 use io_traits::Gate;
 use refusal_lines::{Extras, Refusal};
+use run_answers::{amid, answer_ended};
 use std::alloc::Global;
 use std::sync::Wait;
 use std::thread::Threads;

@@ -1,17 +1,15 @@
 // The text of the image of a shared value.
 
 ghost use Rattle.std.specs.Prelude.{◌≡◌, IfOk};
-ghost use Rattle.heap_image.specs.Text.{text_of};
-ghost use Rattle.heap_image.specs.ImageData.{IsSoundPicture};
-ghost use Rattle.heap_image.specs.declared.picture.ImageData.{ImageData as PictureOf};
-ghost use Rattle.tree_reading.specs.below.core_invariant.{accounts};
-ghost use Rattle.shared_image.specs.Drawn.{IsPictureOf};
-ghost use Rattle.shared_image.specs.Held.{HasJustHeld};
+ghost use Rattle.heap_picture.specs.below.heap_image.{ImageData as PictureOf, IsSoundPicture, text_of};
+ghost use Rattle.heap_reading.specs.below.core_invariant.{accounts};
+ghost use Rattle.heap_picture.specs.Drawn.{IsPictureOf};
+ghost use Rattle.heap_picture.specs.Held.{HasJustHeld};
 
 use crate::picture::draw;
-use heap_image::picture_text;
+use heap_picture::picture_text;
+use shared_tree::Shared;
 use std::alloc::{AllocError, Global};
-use tree_reading::Shared;
 
 /// The text of a shared value's picture, which is sound, and has exactly the objects of heaps at rest.
 pub fn image_text(alloc: Global, shared: &Shared) -> Result<Vec<u8>, AllocError>

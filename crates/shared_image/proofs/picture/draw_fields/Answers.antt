@@ -1,5 +1,5 @@
 use Rattle.shared_image.proofs.Common.{◌++◌, None, get_or, map, ap, ◌∙◌, slice_get-get_or, Ready, SharedValue, LiveTask, drawn_field}
-use Rattle.shared_image.proofs.Rounds.{fields_step}
+use Rattle.heap_picture.proofs.Rounds.{fields_step}
 use Rattle.shared_image.proofs.picture.draw_fields.Goals as goal
 
 pub loop-task-preserved : goal.loop-task-preserved

@@ -1,5 +1,5 @@
 use Rattle.shared_image.proofs.Common.{◌++◌, map, take_all, ap, sym, subst, ◌∙◌, slice_get-get_or, In, SharedValue, drawn_object}
-use Rattle.shared_image.proofs.Rounds.{objects_step, words_all, words_step}
+use Rattle.heap_picture.proofs.Rounds.{objects_step, words_all, words_step}
 use Rattle.shared_image.proofs.picture.draw_objects.Goals as goal
 
 pub loop-chunk-preserved : goal.loop-chunk-preserved

@@ -1,5 +1,0 @@
-use Rattle.shared_image.proofs.Common.{◌≡◌, map, take, drawn_task}
-use Rattle.shared_image.proofs.picture.draw_tasks.Given as goal
-
-abbrev pub invariant-loop-task : goal.invariant-loop-task
-invariant-loop-task l = l.tasks ≡ map drawn_task (take l.task-index l.live)

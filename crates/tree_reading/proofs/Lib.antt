@@ -1,2 +1,0 @@
-pub mod below
-mod Common
