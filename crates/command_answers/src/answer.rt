@@ -56,6 +56,15 @@ pub struct CallResult {
     pub shared: Option<Remains>,
 }
 
+impl CallResult {
+    /// How the call ended; what it returns of a run is dropped.
+    pub fn into_status(self) -> CommandStatus
+        ensures { result ≡ self.status }
+    {
+        self.status
+    }
+}
+
 impl CommandStatus {
     /// The exit status.
     pub fn code(self) -> u8

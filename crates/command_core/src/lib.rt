@@ -2,6 +2,7 @@
 #![tactic(auto)]
 
 mod answers;
+mod process_call;
 mod run;
 mod top_call;
 
@@ -11,4 +12,5 @@ pub use command_answers::{
     programs_are_run, raceless_are_disentangled, recorded_runs_are_alike, runs_hold_the_headline,
     statuses_of_ends, traces_are_replayed,
 };
+pub use process_call::answer_process;
 pub use top_call::{call_status, command};
