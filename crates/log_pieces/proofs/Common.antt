@@ -24,7 +24,7 @@ pub use Rattle.std.proofs.Math.Seq.{take-add, take-append-add}
 pub use Rattle.std.proofs.lemmas.Bool.{cases_lt}
 pub use Rattle.std.proofs.lemmas.Bool.Decides.{nat_tests}
 pub use Rattle.std.proofs.lemmas.Grind.{flat_map-append}
-pub use Rattle.std.proofs.lemmas.List.{drop_all, length-drop, take_all, drop-drop, length-take, take-append-drop, get_or-take, get_or_read}
+pub use Rattle.std.proofs.lemmas.List.{drop_all, length-drop, take_all, take_more, drop-drop, length-take, take-append-drop, get_or-take, get_or_read}
 pub use Rattle.std.proofs.lemmas.List.Splits.{slice_split_none}
 pub use Rattle.std.proofs.lemmas.List.Sums.{passes_at_first, fails_before_first}
 pub use Rattle.std.specs.HashSet.{contains}

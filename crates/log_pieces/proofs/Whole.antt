@@ -1,5 +1,5 @@
 -- The acts of texts that are whole lines.
-use Rattle.log_pieces.proofs.Common.{◌≡◌, ◌<◌, ◌≤◌, ◌+◌, ◌-◌, ◌==◌, ℕ, zero, suc, Bool, true, false, List, [], ◌∷◌, ◌++◌, length, take, drop, drop-cons, get_or, cond, arith, refl, ap, sym, ◌∙◌, append_assoc, append-nil, eqb-true, slice_range, Option, Some, None, slice_split, onto_first, flat_map, position_or_len, All, flat_map-append, length-drop, take_all, drop-drop, length-take, take-append-drop, get_or-take, passes_at_first, fails_before_first, slice_split_none, take-add, take-append-add, split_last, lines_of, Act, line_of, lines_in, all_but_last, act_said, acts_in, IsLineAt, BeginsLine}
+use Rattle.log_pieces.proofs.Common.{◌≡◌, ◌<◌, ◌≤◌, ◌+◌, ◌-◌, ◌==◌, ℕ, zero, suc, Bool, true, false, List, [], ◌∷◌, ◌++◌, length, take, drop, drop-cons, get_or, cond, arith, refl, ap, sym, ◌∙◌, append_assoc, append-nil, eqb-true, slice_range, Option, Some, None, slice_split, onto_first, flat_map, position_or_len, All, flat_map-append, length-drop, take_all, take_more, drop-drop, length-take, take-append-drop, get_or-take, nat_tests, passes_at_first, fails_before_first, slice_split_none, take-add, take-append-add, split_last, lines_of, Act, line_of, lines_in, all_but_last, act_said, acts_in, IsLineAt, BeginsLine}
 
 -- SPLITTING
 
@@ -50,6 +50,18 @@ whole_more xs line h ys =
     ∙ ap (λ a. acts_in xs ++ a) (acts_append line ys)
     ∙ sym (append_assoc (acts_in xs) (acts_in line) (acts_in ys))
     ∙ ap (λ a. a ++ acts_in ys) (sym (whole_acts xs line h))
+
+some_bytes : (n : ℕ) → (n == 0) ≡ false → (n - 1) + 1 ≡ n
+some_bytes n e = grind (arith, nat_tests, e)
+
+-- a text without the line feed that it ends with says the same
+pub feedless : (text : List ℕ) → (length text == 0) ≡ false → get_or text (length text - 1) 0 ≡ 10 → acts_in (take (length text - 1) text) ≡ acts_in text
+feedless text some feed =
+    let end = length text - 1 in
+    let size : end + 1 ≡ length text = some_bytes (length text) some in
+    let last : take end text ++ 10 ∷ [] ≡ take (end + 1) text = ap (λ c. take end text ++ c ∷ []) (sym feed) ∙ sym (take_more text end 0 (omega (arith, size))) in
+    let all : take (end + 1) text ≡ text = take_all (end + 1) text (omega (arith, size)) in
+    sym (acts_alone (take end text)) ∙ ap acts_in (last ∙ all)
 
 -- the acts of one line
 pub acts_one : (line : List ℕ) → lines_of line ≡ line ∷ [] → acts_in line ≡ act_said (line_of line)

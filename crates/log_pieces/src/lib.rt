@@ -12,4 +12,4 @@ mod walk;
 pub use log::{CutLog, cut_log};
 pub use or_no_memory::OrNoMemory;
 pub use piece::LogPiece;
-pub use text::{act_in, piece_text};
+pub use text::{act_in, piece_lines, piece_text};

@@ -2,7 +2,7 @@
 
 ghost use Rattle.std.specs.Prelude.{◌≡◌, option_to_list, slice_range};
 ghost use Rattle.log_lines.specs.Grammar.{line_of};
-ghost use Rattle.log_pieces.specs.Pieces.{act_said, text_at};
+ghost use Rattle.log_pieces.specs.Pieces.{act_said, acts_in, acts_of_piece, text_at};
 
 use crate::piece::LogPiece;
 use log_lines::{Act, LogLine, read_line};
@@ -35,4 +35,26 @@ fn part_of(text: &[u8], begin: usize, end: usize) -> &[u8]
     let end = end.min(text.len());
     let begin = begin.min(end);
     &text[begin..end]
+}
+
+/// The lines of a piece. Where its text ends with a line feed, the empty line behind it says nothing, and is left out.
+pub fn piece_lines(texts: &[Listed<u8>], piece: LogPiece) -> &[u8]
+    ensures { acts_in result.now ≡ acts_of_piece texts.now piece }
+{
+    without_feed(piece_text(texts, piece))
+}
+
+// A text without the line feed that it ends with.
+fn without_feed(text: &[u8]) -> &[u8]
+    ensures { acts_in result.now ≡ acts_in text.now }
+{
+    if text.is_empty() {
+        return text;
+    }
+    let end = text.len() - 1;
+    let last = text[end];
+    if last == b'\n' {
+        return &text[..end];
+    }
+    text
 }
