@@ -76,7 +76,7 @@ fn table_of(alloc: Global, log: &LogTasks, order: &[GraphStrand]) -> Result<Plac
     ensures { IfOk result (λ table. KnowsPlaces table log.now order.now) }
 {
     let mut table = PlaceTable {
-        places: HashMap::new(alloc),
+        places: HashMap::with_capacity(alloc, order.len())?,
     };
     for place in 0..order.len() {
         table.take(log, order[place], place)?;

@@ -25,7 +25,7 @@ pub use Rattle.log_lines.specs.declared.line.Act.{Act}
 pub use Rattle.log_lines.specs.declared.line.LogLine.{LogLine}
 pub use Rattle.log_pieces.proofs.Lines.{line_more, line_last, at_some, said_of}
 pub use Rattle.log_pieces.specs.Claims.{is_that}
-pub use Rattle.log_pieces.specs.Pieces.{on_strand, act_said, acts_in, events_in, events_of_pieces}
+pub use Rattle.log_pieces.specs.Pieces.{on_strand, act_said, acts_in, acts_of_piece, events_in, events_of_pieces}
 pub use Rattle.log_pieces.specs.declared.piece.LogPiece.{LogPiece}
 pub use Rattle.log_tasks.specs.EndCauses.{end_cause_of, NoneEndsBelow, IsFirstEndFault, of_graph, task_cause, is_sooner, sooner, sooner_of, goes_past, end_cause_by, end_cause}
 pub use Rattle.log_tasks.specs.Ends.{end_by, first_end, end_of, DoesSomething}

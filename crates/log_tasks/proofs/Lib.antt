@@ -13,4 +13,5 @@ pub mod FirstFault
 pub mod Nested
 pub mod Log
 pub mod FileOrder
+mod Noted
 mod Common

@@ -1,5 +1,5 @@
 -- What is known after a line more of a piece.
-use Rattle.log_tasks.proofs.Common.{◌≡◌, ◌++◌, ◌∷◌, ◌∙◌, ℕ, Bool, true, false, List, [], refl, sym, ap, subst, Option, Some, None, append-nil, take, length, get_or, ◌<◌, ◌+◌, ◌||◌, MatchOption, list_any, flat_map, flat_map-append, take_more, list_any-append, lines_of, Act, line_of, GraphStrand, Event, spawns, LogPiece, act_said, acts_in, events_in, events_of_pieces, line_more, line_last, StrandEnd, Told, end_by, first_end, is_told, end_told, task_told, end_after, codes, is_among, begins_with, letter_of, said_of}
+use Rattle.log_tasks.proofs.Common.{◌≡◌, ◌++◌, ◌∷◌, ◌∙◌, ℕ, Bool, true, false, List, [], refl, sym, ap, subst, Option, Some, None, append-nil, take, length, get_or, ◌<◌, ◌+◌, ◌||◌, MatchOption, list_any, flat_map, flat_map-append, take_more, list_any-append, lines_of, Act, line_of, GraphStrand, Event, spawns, LogPiece, act_said, acts_in, acts_of_piece, on_strand, events_in, events_of_pieces, KnowsEvents, line_more, line_last, StrandEnd, Told, end_by, first_end, is_told, end_told, task_told, end_after, codes, is_among, begins_with, letter_of, said_of}
 use Rattle.log_lines.specs.declared.line.Act.TheVariants as acts
 use Rattle.log_tasks.specs.Ends.{or_later}
 use Rattle.log_tasks.proofs.Acts.{first_end_append, or_assoc, later_none}
@@ -98,3 +98,10 @@ pieces_more texts pieces i d lt =
     ap (events_of_pieces texts) (take_more pieces i d lt)
     ∙ flat_map-append (events_in texts) (take i pieces) (get_or pieces i d ∷ [])
     ∙ ap (λ (es : List Event). events_of_pieces texts (take i pieces) ++ es) (append-nil (events_in texts (get_or pieces i d)))
+
+-- the next piece was taken
+pub pieces_known : (texts : List (List ℕ)) (pieces : List LogPiece) (i : ℕ) (d : LogPiece) (text : List ℕ) (new : Told) → i < length pieces → acts_in text ≡ acts_of_piece texts (get_or pieces i d)
+    → KnowsEvents new (events_of_pieces texts (take i pieces) ++ on_strand (get_or pieces i d).strand (acts_in text)) → KnowsEvents new (events_of_pieces texts (take (i + 1) pieces))
+pieces_known texts pieces i d text new lt is knows =
+    let more : List Act → List Event = λ acts. events_of_pieces texts (take i pieces) ++ on_strand (get_or pieces i d).strand acts in
+    subst (KnowsEvents new) (ap more is ∙ sym (pieces_more texts pieces i d lt)) knows

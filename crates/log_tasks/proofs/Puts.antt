@@ -26,18 +26,6 @@ module _ (F : ℕ → ℕ → Option StrandEnd) (u : GraphStrand) where
       cc
 
 module _ (told : Told) (u : GraphStrand) (later : Option StrandEnd) where
-  kept_by_test : (t i : ℕ) (b : Bool) → is_that u t i ≡ b → is_some (end_told told u.task u.index) ≡ true → end_told told t i ≡ (if b then or_later (end_told told t i) later else end_told told t i)
-  kept_by_test t i true e some = is_kept (end_told told t i) (ap is_some (at_that (end_told told) u t i e) ∙ some)
-    where
-      is_kept : (o : Option StrandEnd) → is_some o ≡ true → o ≡ or_later o later
-      is_kept (Some x) h = refl
-      is_kept None h = absurd (let z : false ≡ true = h in cc)
-  kept_by_test t i false e some = refl
-
-  -- a strand that ended before keeps its end
-  pub end_kept : is_some (end_told told u.task u.index) ≡ true → (t i : ℕ) → end_told told t i ≡ end_after told u later t i
-  end_kept some t i = kept_by_test t i (is_that u t i) refl some
-
   put_by_test : (t i : ℕ) (b : Bool) → is_that u t i ≡ b → is_some (end_told told u.task u.index) ≡ false → cond b later (end_told told t i) ≡ (if b then or_later (end_told told t i) later else end_told told t i)
   put_by_test t i true e none = is_put (end_told told t i) (ap is_some (at_that (end_told told) u t i e) ∙ none)
     where
@@ -49,6 +37,15 @@ module _ (told : Told) (u : GraphStrand) (later : Option StrandEnd) where
   -- another one has this end
   pub end_put : is_some (end_told told u.task u.index) ≡ false → (t i : ℕ) → cond (is_that u t i) later (end_told told t i) ≡ end_after told u later t i
   end_put none t i = put_by_test t i (is_that u t i) refl none
+
+module _ (told : Told) (u : GraphStrand) (later : Option StrandEnd) (first : StrandEnd) where
+  back_by : (t i : ℕ) (b : Bool) → is_that u t i ≡ b → end_told told u.task u.index ≡ Some first → cond b (Some first) (cond b later (end_told told t i)) ≡ (if b then or_later (end_told told t i) later else end_told told t i)
+  back_by t i true e h = ap (λ (o : Option StrandEnd). or_later o later) (sym (at_that (end_told told) u t i e ∙ h))
+  back_by t i false e h = refl
+
+  -- one that ended before gets its end back
+  pub end_back : end_told told u.task u.index ≡ Some first → (t i : ℕ) → cond (is_that u t i) (Some first) (cond (is_that u t i) later (end_told told t i)) ≡ end_after told u later t i
+  end_back h t i = back_by t i (is_that u t i) refl h
 
 after_none_by : (b : Bool) (o : Option StrandEnd) → o ≡ (if b then or_later o None else o)
 after_none_by true o = sym (later_none o)

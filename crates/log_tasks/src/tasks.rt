@@ -36,7 +36,7 @@ pub struct LogTasks {
 fn told_of(alloc: Global, texts: &[Listed<u8>], pieces: &[LogPiece]) -> Result<Told, AllocError>
     ensures { IfOk result (λ told. KnowsEvents told (events_of_pieces texts.now pieces.now)) }
 {
-    let mut told = Told::new(alloc)?;
+    let mut told = Told::new(alloc, pieces.len())?;
     told.take_pieces(texts, pieces)?;
     Ok(told)
 }

@@ -12,7 +12,7 @@ ghost use Rattle.log_tasks.specs.Told.{KnowsEvents, is_told, greater, is_below, 
 use crate::ending::StrandEnd;
 use fork_graph::{GraphStrand, GraphTurn};
 use log_lines::{Act, LogLine, begins_with, next_line, read_line};
-use log_pieces::{LogPiece, act_in, piece_text};
+use log_pieces::{LogPiece, act_in, piece_lines};
 use plain_vec::Listed;
 use std::alloc::{AllocError, Global};
 use std::collections::{BTreeSet, HashMap};
@@ -52,15 +52,25 @@ fn is_told(text: &[u8]) -> bool
     }
 }
 
+// Whether a number is above the greatest one so far.
+fn is_below(top: Option<u32>, index: u32) -> bool
+    ensures { result ≡ is_below top index }
+{
+    match top {
+        Some(top) => top < index,
+        None => true,
+    }
+}
+
 impl Told {
-    /// Nothing is told; the root is there.
-    pub(crate) fn new(alloc: Global) -> Result<Told, AllocError>
+    /// Nothing is told; the root is there. There is room for the ends of as many strands.
+    pub(crate) fn new(alloc: Global, strands: usize) -> Result<Told, AllocError>
         ensures { IfOk result (λ told. KnowsEvents told []) }
     {
         let mut tasks = BTreeSet::new(alloc);
         tasks.insert(0)?;
         Ok(Told {
-            ends: HashMap::new(alloc),
+            ends: HashMap::with_capacity(alloc, strands)?,
             tops: HashMap::new(alloc),
             tasks,
         })
@@ -72,10 +82,10 @@ impl Told {
         ensures rest { self.new ≡ record self.old { ends = self.new.ends } }
     {
         let key = (strand.task, strand.index);
-        if self.ends.contains_key(&key) {
-            return Ok(());
+        let before = self.ends.insert(key, end)?;
+        if let Some(first) = before {
+            self.ends.insert(key, first)?;
         }
-        self.ends.insert(key, end)?;
         Ok(())
     }
 
@@ -140,40 +150,55 @@ impl Told {
         }
     }
 
-    // Whether a strand has a greater number than all of its task's so far.
-    fn is_top(&self, strand: GraphStrand) -> bool
-        ensures { result ≡ is_below (top_told self.now strand.task) strand.index }
+    // The greatest number of a strand of a task that does something.
+    fn top(&self, task: u32) -> Option<u32>
+        ensures { result ≡ top_told self.now task }
     {
-        match self.tops.get(&strand.task) {
-            Some(top) => *top < strand.index,
-            None => true,
-        }
+        self.tops.get(&task).copied()
     }
 
-    // A strand's number is noted.
-    fn raise(&mut self, strand: GraphStrand) -> Result<(), AllocError>
+    // A strand's number is noted, by the greatest one of its task's so far.
+    fn raise(&mut self, strand: GraphStrand, top: Option<u32>) -> Result<(), AllocError>
+        requires { top ≡ top_told self.old strand.task }
         ensures tops { OnOk result ((t : ℕ) → top_told self.new t ≡ greater (top_told self.old t) (index_of strand t)) }
         ensures rest { self.new ≡ record self.old { tops = self.new.tops } }
     {
-        if !self.is_top(strand) {
+        if !is_below(top, strand.index) {
             return Ok(());
         }
         self.tops.insert(strand.task, strand.index)?;
         Ok(())
     }
 
+    // A task does something; one that did so before is there already.
+    fn note_task(&mut self, task: u32, top: Option<u32>) -> Result<(), AllocError>
+        requires knows { (events : List Event) × KnowsEvents self.old events }
+        requires top { top ≡ top_told self.old task }
+        ensures tasks { OnOk result ((t : ℕ) → task_told self.new t ≡ (task_told self.old t || (task == t))) }
+        ensures rest { self.new ≡ record self.old { tasks = self.new.tasks } }
+    {
+        if top.is_some() {
+            return Ok(());
+        }
+        self.tasks.insert(task)?;
+        Ok(())
+    }
+
     // A strand does something.
     fn note(&mut self, strand: GraphStrand) -> Result<(), AllocError>
+        requires { (events : List Event) × KnowsEvents self.old events }
         ensures tops { OnOk result ((t : ℕ) → top_told self.new t ≡ greater (top_told self.old t) (index_of strand t)) }
         ensures tasks { OnOk result ((t : ℕ) → task_told self.new t ≡ (task_told self.old t || (strand.task == t))) }
         ensures ends { self.new.ends ≡ self.old.ends }
     {
-        self.tasks.insert(strand.task)?;
-        self.raise(strand)
+        let top = self.top(strand.task);
+        self.note_task(strand.task, top)?;
+        self.raise(strand, top)
     }
 
     // A strand has a piece with this text.
     fn note_piece(&mut self, strand: GraphStrand, text: &[u8]) -> Result<(), AllocError>
+        requires { (events : List Event) × KnowsEvents self.old events }
         ensures tops { OnOk result ((t : ℕ) → top_told self.new t ≡ greater (top_told self.old t) (index_if (is_told (acts_in text.now)) strand t)) }
         ensures tasks { OnOk result ((t : ℕ) → task_told self.new t ≡ (task_told self.old t || (is_told (acts_in text.now) && (strand.task == t)))) }
         ensures ends { self.new.ends ≡ self.old.ends }
@@ -186,6 +211,7 @@ impl Told {
 
     // A piece of a strand, by its text.
     fn take_piece(&mut self, strand: GraphStrand, text: &[u8]) -> Result<(), AllocError>
+        requires { (events : List Event) × KnowsEvents self.old events }
         ensures { OnOk result ((events : List Event) → KnowsEvents self.old events → KnowsEvents self.new (events ++ on_strand strand (acts_in text.now))) }
     {
         self.note_piece(strand, text)?;
@@ -202,7 +228,7 @@ impl Told {
         ensures { OnOk result (KnowsEvents self.new (events_of_pieces texts.now pieces.now)) }
     {
         for piece in pieces {
-            let text = piece_text(texts, *piece);
+            let text = piece_lines(texts, *piece);
             self.take_piece(piece.strand, text)?;
         }
         Ok(())
