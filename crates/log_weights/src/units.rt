@@ -12,7 +12,7 @@ use crate::sums::{plus, text_work};
 use fork_graph::GraphStrand;
 use log_pieces::LogPiece;
 use log_strands::{is_known, strand_in_log};
-use log_tasks::{LogTasks, piece_text};
+use log_tasks::{LogTasks, piece_lines};
 use plain_vec::Listed;
 use std::alloc::{AllocError, Global};
 use std::collections::HashMap;
@@ -36,10 +36,14 @@ impl StrandWork {
 
     // A strand works further.
     fn add(&mut self, strand: GraphStrand, units: Option<u64>) -> Result<(), AllocError>
+        requires { (n : ℕ) × units ≡ fitting n }
         ensures { OnOk result ((t i : ℕ) → work_known self.new t i ≡ (if is_that strand t i then plus (work_known self.old t i) units else work_known self.old t i)) }
     {
-        let work = plus(self.of(strand), units);
-        self.units.insert((strand.task, strand.index), work)?;
+        let key = (strand.task, strand.index);
+        let before = self.units.insert(key, units)?;
+        if let Some(work) = before {
+            self.units.insert(key, plus(work, units))?;
+        }
         Ok(())
     }
 
@@ -49,7 +53,7 @@ impl StrandWork {
         ensures { OnOk result (KnowsWork self.new (events_of_pieces texts.now pieces.now)) }
     {
         for piece in pieces {
-            let work = text_work(piece_text(texts, *piece));
+            let work = text_work(piece_lines(texts, *piece));
             self.add(piece.strand, work)?;
         }
         Ok(())
@@ -67,16 +71,17 @@ impl StrandWork {
     }
 }
 
-/// The work of all strands.
+/// The work of all strands; there is room for as many.
 pub(crate) fn work_of(
     alloc: Global,
     texts: &[Listed<u8>],
     pieces: &[LogPiece],
+    strands: usize,
 ) -> Result<StrandWork, AllocError>
     ensures { IfOk result (λ work. KnowsWork work (events_of_pieces texts.now pieces.now)) }
 {
     let mut work = StrandWork {
-        units: HashMap::new(alloc),
+        units: HashMap::with_capacity(alloc, strands)?,
     };
     work.take_pieces(texts, pieces)?;
     Ok(work)

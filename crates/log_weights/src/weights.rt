@@ -48,7 +48,7 @@ pub fn log_weights(
     ensures fits { IfOk result (λ weights. sum weights < 2 ^ 64) }
     ensures too_much { IfErr result (IsTooMuch (weights_of (events_of texts.now) tasks.now order.now)) }
 {
-    let work = work_of(alloc, texts, pieces)?;
+    let work = work_of(alloc, texts, pieces, order.len())?;
     let weights = weights_by(alloc, &work, tasks, order)?;
     match total_work(weights.as_slice()) {
         Some(_) => Ok(weights),
