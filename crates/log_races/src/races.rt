@@ -56,11 +56,12 @@ pub fn log_races(
     ensures races { IfOk result (λ scan. AreVerdicts walk.now (touches_of (events_of texts.now) tasks.now walk.now.order) scan.races) }
     ensures refused { IfErr result (RacesAreTooMany (events_of texts.now) walk.now.order limit) }
 {
-    if walk.order().len() > MOST_STRANDS {
+    let strands = walk.order().len();
+    if strands > MOST_STRANDS {
         return Err(RacesError::TooLong);
     }
     let (numbers, firsts) = numbers_of(alloc, texts, pieces, limit)?;
-    let pieces = StrandPieces::new(alloc, texts, pieces, firsts)?;
+    let pieces = StrandPieces::new(alloc, texts, pieces, firsts, strands)?;
     let scan = scan_walk(alloc, walk, tasks, &numbers, &pieces)?;
     Ok(scan)
 }

@@ -14,7 +14,7 @@ ghost use Rattle.log_touches.specs.Limits.{most_acts, AreTooMany};
 use crate::access::access_of;
 use crate::numbers::RacesError;
 use log_lines::{Act, next_line};
-use log_pieces::{LogPiece, act_in, piece_text};
+use log_pieces::{LogPiece, act_in, piece_lines};
 use log_places::Places;
 use plain_vec::Listed;
 use std::alloc::{AllocError, Global};
@@ -87,7 +87,7 @@ pub fn mark_pieces(
     let mut number = 0;
     for piece in pieces {
         firsts.push(number)?;
-        number = mark_text(&mut places, piece_text(texts, *piece), number)?;
+        number = mark_text(&mut places, piece_lines(texts, *piece), number)?;
     }
     Ok((places, firsts))
 }

@@ -7,7 +7,7 @@ ghost use Rattle.log_pieces.specs.Pieces.{acts_in, acts_of_piece};
 ghost use Rattle.log_touches.specs.Chains.{firsts_from, next_on, ArePieceLinks};
 
 use fork_graph::GraphStrand;
-use log_pieces::{LogPiece, piece_text};
+use log_pieces::{LogPiece, piece_lines};
 use plain_vec::Listed;
 use std::alloc::{AllocError, Global};
 use std::collections::HashMap;
@@ -61,18 +61,18 @@ fn put_first(
     Ok(heads.insert((strand.task, strand.index), place)?)
 }
 
-// No strand has a piece.
-fn no_heads(alloc: Global) -> HashMap<(u32, u32), usize>
-    ensures { (t i : ℕ) → get is_pair result (t, i) ≡ None }
+// No strand has a piece; there is room for as many strands.
+fn no_heads(alloc: Global, strands: usize) -> Result<HashMap<(u32, u32), usize>, AllocError>
+    ensures { IfOk result (λ heads. (t i : ℕ) → get is_pair heads (t, i) ≡ None) }
 {
-    HashMap::new(alloc)
+    HashMap::with_capacity(alloc, strands)
 }
 
-// The links between pieces of one strand.
-fn links_of(alloc: Global, pieces: &[LogPiece]) -> Result<Links, AllocError>
+// The links between pieces of one strand; there is room for as many strands.
+fn links_of(alloc: Global, pieces: &[LogPiece], strands: usize) -> Result<Links, AllocError>
     ensures { IfOk result (ArePieceLinks pieces.now) }
 {
-    let mut heads = no_heads(alloc);
+    let mut heads = no_heads(alloc, strands)?;
     let mut nexts = Listed::from_vec(vec![in alloc; None; pieces.len()]?);
     let mut place = pieces.len();
     while place > 0 {
@@ -90,17 +90,19 @@ impl<'l> StrandPieces<'l> {
     ghost use Rattle.log_pieces.specs.Pieces.{acts_in, acts_of_piece};
     ghost use Rattle.log_touches.specs.Chains.{firsts_from, next_on, NumbersPiece};
 
-    /// The pieces of texts by their strands, with the number of each piece's first act.
+    /// The pieces of texts by their strands, with the number of each piece's first act; there is room for as many
+    /// strands.
     pub fn new(
         alloc: Global,
         texts: &'l [Listed<u8>],
         pieces: &'l [LogPiece],
         firsts: Listed<u64>,
+        strands: usize,
     ) -> Result<StrandPieces<'l>, AllocError>
         requires { firsts ≡ firsts_from texts.now 0 pieces.now }
         ensures { IfOk result (λ p. p ≡ record { texts = texts.entry.now; pieces = pieces.entry.now }) }
     {
-        let links = links_of(alloc, pieces)?;
+        let links = links_of(alloc, pieces, strands)?;
         Ok(StrandPieces {
             texts,
             pieces,
@@ -126,13 +128,13 @@ impl<'l> StrandPieces<'l> {
         *self.links.nexts.at(place)
     }
 
-    /// The text of the piece at a place, and the number of its first act.
+    /// The lines of the piece at a place, and the number of its first act.
     pub(crate) fn piece(&self, place: usize) -> (&[u8], u64)
         requires { place < length self.now.pieces }
         ensures acts { (p : LogPiece) → slice_get self.now.pieces place ≡ Some p → acts_in result.0.now ≡ acts_of_piece self.now.texts p }
         ensures number { NumbersPiece self.now place result.1 }
     {
         let piece = piece_at(self.pieces, place);
-        (piece_text(self.texts, piece), *self.firsts.at(place))
+        (piece_lines(self.texts, piece), *self.firsts.at(place))
     }
 }

@@ -20,4 +20,4 @@ returns-clause-races c =
       known = all_from (λ (t : Touch). t.access.strand < length walk.order) touches (λ t i. let w = (within events log 0 walk.order t i).1 in omega (arith, w));
       serial = sorted events log 0 walk.order;
     } in
-    verdicts_of walk c.order.ensures.walked v touches scan serial seen_all
+    verdicts_of walk c.order-strands.ensures.walked v touches scan serial seen_all

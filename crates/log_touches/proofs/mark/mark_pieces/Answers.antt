@@ -9,12 +9,12 @@ returns-in_err-number-clause-refused c =
     let pieces = c.args.pieces.now in
     let i = c.loop-piece.piece-index in
     let p = get_or pieces i no_piece in
-    let acts = ap (λ t. length (acts_in t)) c.piece_text.ensures in
+    let acts = ap length c.piece_lines.ensures in
     let count = count_more texts pieces i p (drop (i + 1) pieces) (split_here pieces i c.loop-piece-test.true) in
     let few = few_up_to texts pieces (i + 1) in
     let given = err_from_is_err_and c.from_residual-in_err-number.result c.from_residual-in_err-number.ensures.1 in
     subst (λ r. IfErr r (AreTooMany (length (events_of_pieces texts pieces)))) (sym (given.1 ∙ ap Err given.2))
-    (still_too_many (c.loop-piece.number + length (acts_in c.piece_text.result.now)) (length (events_of_pieces texts pieces)) c.in_err-number.field-0.0
+    (still_too_many (c.loop-piece.number + length (acts_in c.piece_lines.result.now)) (length (events_of_pieces texts pieces)) c.in_err-number.field-0.0
     (omega (arith, acts, count, few, c.loop-piece.invariant.number)) c.in_err-number.ensures.refused)
 
 pub loop-piece-preserved : goal.loop-piece-preserved
@@ -24,7 +24,7 @@ loop-piece-preserved c =
     let i = c.loop-piece.piece-index in
     let p = get_or pieces i no_piece in
     let split = split_here pieces i c.loop-piece-test.true in
-    let acts : acts_in c.piece_text.result.now ≡ acts_of_piece texts p = ap acts_in c.piece_text.ensures in
+    let acts : acts_in c.piece_lines.result.now ≡ acts_of_piece texts p = c.piece_lines.ensures in
     let number : c.in_ok-number.number ≡ c.loop-piece.number + length (acts_of_piece texts p) = c.in_ok-number.ensures.number ∙ ap (λ l. c.loop-piece.number + length l) acts in
     record {
       few = c.in_ok-number.ensures.few;

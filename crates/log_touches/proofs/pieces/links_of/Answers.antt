@@ -5,7 +5,7 @@ use Rattle.log_touches.proofs.pieces.links_of.Goals as goal
 pub loop-place-init : goal.loop-place-init
 loop-place-init c = record {
   within = omega arith;
-  heads = λ t i. c.no_heads-heads.ensures t i ∙ sym (none_first (strand t i) c.args.pieces.now (length c.args.pieces.now) (omega arith));
+  heads = λ t i. c.in_ok-heads.ensures t i ∙ sym (none_first (strand t i) c.args.pieces.now (length c.args.pieces.now) (omega arith));
   size = (let e = ap length c.from_vec-nexts.ensures in omega (arith, e, c.in_ok-vec.ensures.len, c.in_ok-vec.field-0.ok.0));
   nexts = λ k p le at. absurd (let l = got_within c.args.pieces.now k p at in omega (arith, l, le));
 }

@@ -13,7 +13,7 @@ pub returns-clause-acts : goal.returns-clause-acts
 returns-clause-acts c = λ p at.
     let same = ap (λ (v : LogPiecesValue). v.pieces) c.self.view_is in
     let is : c.piece_at-piece.result ≡ p = same_Some c.piece_at-piece.result p (sym c.piece_at-piece.ensures ∙ (ap (λ (ps : List LogPiece). slice_get ps c.args.place) same ∙ at)) in
-    ap acts_in c.piece_text.ensures ∙ (ap (acts_of_piece c.self.inside.texts.now) is ∙ ap (λ (v : LogPiecesValue). acts_of_piece v.texts p) c.self.view_is)
+    c.piece_lines.ensures ∙ (ap (acts_of_piece c.self.inside.texts.now) is ∙ ap (λ (v : LogPiecesValue). acts_of_piece v.texts p) c.self.view_is)
 
 pub returns-clause-number : goal.returns-clause-number
 returns-clause-number c =
