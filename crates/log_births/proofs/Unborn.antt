@@ -51,9 +51,9 @@ or_true : (a : Bool) → (a || true) ≡ true
 or_true true = refl
 or_true false = refl
 
-module _ (texts : List (List ℕ)) (pieces : List LogPiece) (i : ℕ) (d : LogPiece) (text : List ℕ) (lt : i < length pieces) (is : text ≡ slice_range (text_at texts (get_or pieces i d).file) (get_or pieces i d).begin (get_or pieces i d).end) where
+module _ (texts : List (List ℕ)) (pieces : List LogPiece) (i : ℕ) (d : LogPiece) (text : List ℕ) (lt : i < length pieces) (is : acts_in text ≡ acts_of_piece texts (get_or pieces i d)) where
   own : has_lifetime (events_in texts (get_or pieces i d)) ≡ list_any is_lifetime (acts_in text)
-  own = on_strand_any (get_or pieces i d).strand (acts_of_piece texts (get_or pieces i d)) ∙ ap (λ (t : List ℕ). list_any is_lifetime (acts_in t)) (sym is)
+  own = on_strand_any (get_or pieces i d).strand (acts_of_piece texts (get_or pieces i d)) ∙ ap (λ (acts : List Act). list_any is_lifetime acts) (sym is)
 
   first_ones : has_lifetime (events_of_pieces texts (take (i + 1) pieces)) ≡ (has_lifetime (events_of_pieces texts (take i pieces)) || list_any is_lifetime (acts_in text))
   first_ones =

@@ -7,7 +7,7 @@ ghost use Rattle.log_births.specs.Blocks.{is_lifetime};
 
 use log_pieces::LogPiece;
 use log_strands::next_act_by;
-use log_tasks::piece_text;
+use log_tasks::piece_lines;
 use plain_vec::Listed;
 
 // Whether a text says that a block is born or released.
@@ -22,7 +22,7 @@ pub(crate) fn have_lifetimes(texts: &[Listed<u8>], pieces: &[LogPiece]) -> bool
     ensures { result ≡ list_any (λ e. is_lifetime e.act) (events_of_pieces texts.now pieces.now) }
 {
     for piece in pieces {
-        if says_lifetime(piece_text(texts, *piece)) {
+        if says_lifetime(piece_lines(texts, *piece)) {
             return true;
         }
     }
