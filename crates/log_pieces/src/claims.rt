@@ -12,12 +12,14 @@ use log_form::LogFault;
 use log_lines::{Act, LogCause};
 use std::alloc::{AllocError, Global};
 use std::collections::HashSet;
+use std::hash::BuildHasherDefault;
+use strand_hasher::StrandHasher;
 
 /// What was said so far.
 #[derive(Drop)]
 pub(crate) struct Claims {
     /// Strands that have ended, by task and number.
-    pub(crate) ended: HashSet<(u32, u32)>,
+    pub(crate) ended: HashSet<(u32, u32), BuildHasherDefault<StrandHasher>>,
     /// Tasks that were spawned.
     pub(crate) spawned: HashSet<u32>,
     /// Blocks that were born.
@@ -47,7 +49,7 @@ impl Claims {
         ensures { ClaimsHold result [] }
     {
         Claims {
-            ended: HashSet::new(alloc),
+            ended: HashSet::with_hasher(alloc, BuildHasherDefault::new()),
             spawned: HashSet::new(alloc),
             born: HashSet::new(alloc),
             released: HashSet::new(alloc),

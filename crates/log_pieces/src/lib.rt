@@ -12,4 +12,5 @@ mod walk;
 pub use log::{CutLog, cut_log};
 pub use or_no_memory::OrNoMemory;
 pub use piece::LogPiece;
+pub use strand_hasher::StrandHasher;
 pub use text::{act_in, piece_lines, piece_text};

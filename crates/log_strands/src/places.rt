@@ -6,11 +6,12 @@ ghost use Rattle.log_strands.specs.Places.{is_known, ArePiecePlaces};
 ghost use Rattle.log_strands.specs.Table.{KnowsPlaces, place_told, noted_place, noted_if};
 
 use fork_graph::GraphStrand;
-use log_pieces::LogPiece;
+use log_pieces::{LogPiece, StrandHasher};
 use log_tasks::LogTasks;
 use plain_vec::Listed;
 use std::alloc::{AllocError, Global};
 use std::collections::HashMap;
+use std::hash::BuildHasherDefault;
 
 /// Whether the log tells how the strand's task came to it.
 pub fn is_known(log: &LogTasks, strand: GraphStrand) -> bool
@@ -41,7 +42,7 @@ pub fn strand_in_log(log: &LogTasks, strand: GraphStrand) -> GraphStrand
 /// The places of the log's strands in an order, by task and number.
 #[derive(Drop)]
 pub(crate) struct PlaceTable {
-    pub(crate) places: HashMap<(u32, u32), usize>,
+    pub(crate) places: HashMap<(u32, u32), usize, BuildHasherDefault<StrandHasher>>,
 }
 
 impl PlaceTable {
@@ -76,7 +77,7 @@ fn table_of(alloc: Global, log: &LogTasks, order: &[GraphStrand]) -> Result<Plac
     ensures { IfOk result (λ table. KnowsPlaces table log.now order.now) }
 {
     let mut table = PlaceTable {
-        places: HashMap::with_capacity(alloc, order.len())?,
+        places: HashMap::with_capacity_and_hasher(alloc, order.len(), BuildHasherDefault::new())?,
     };
     for place in 0..order.len() {
         table.take(log, order[place], place)?;

@@ -12,16 +12,17 @@ ghost use Rattle.log_tasks.specs.Told.{KnowsEvents, is_told, greater, is_below, 
 use crate::ending::StrandEnd;
 use fork_graph::{GraphStrand, GraphTurn};
 use log_lines::{Act, LogLine, begins_with, next_line, read_line};
-use log_pieces::{LogPiece, act_in, piece_lines};
+use log_pieces::{LogPiece, StrandHasher, act_in, piece_lines};
 use plain_vec::Listed;
 use std::alloc::{AllocError, Global};
 use std::collections::{BTreeSet, HashMap};
+use std::hash::BuildHasherDefault;
 
 /// What the pieces so far tell.
 #[derive(Drop)]
 pub(crate) struct Told {
     /// How strands end, by task and number.
-    pub(crate) ends: HashMap<(u32, u32), StrandEnd>,
+    pub(crate) ends: HashMap<(u32, u32), StrandEnd, BuildHasherDefault<StrandHasher>>,
     /// The greatest number of a strand that does something, by task.
     pub(crate) tops: HashMap<u32, u32>,
     /// The root, the tasks that do something, and those that are spawned.
@@ -70,7 +71,7 @@ impl Told {
         let mut tasks = BTreeSet::new(alloc);
         tasks.insert(0)?;
         Ok(Told {
-            ends: HashMap::with_capacity(alloc, strands)?,
+            ends: HashMap::with_capacity_and_hasher(alloc, strands, BuildHasherDefault::new())?,
             tops: HashMap::new(alloc),
             tasks,
         })

@@ -7,16 +7,17 @@ ghost use Rattle.log_pieces.specs.Pieces.{acts_in, acts_of_piece};
 ghost use Rattle.log_touches.specs.Chains.{firsts_from, next_on, ArePieceLinks};
 
 use fork_graph::GraphStrand;
-use log_pieces::{LogPiece, piece_lines};
+use log_pieces::{LogPiece, StrandHasher, piece_lines};
 use plain_vec::Listed;
 use std::alloc::{AllocError, Global};
 use std::collections::HashMap;
+use std::hash::BuildHasherDefault;
 use std::marker::Model;
 
 /// The place of each strand's first piece, and for each piece the place of the next one of its strand.
 #[derive(Drop)]
 pub(crate) struct Links {
-    pub(crate) heads: HashMap<(u32, u32), usize>,
+    pub(crate) heads: HashMap<(u32, u32), usize, BuildHasherDefault<StrandHasher>>,
     pub(crate) nexts: Listed<Option<usize>>,
 }
 
@@ -51,7 +52,7 @@ fn piece_at(pieces: &[LogPiece], place: usize) -> LogPiece
 
 // A piece of a strand comes before all others; the place of the one that was first.
 fn put_first(
-    heads: &mut HashMap<(u32, u32), usize>,
+    heads: &mut HashMap<(u32, u32), usize, BuildHasherDefault<StrandHasher>>,
     strand: GraphStrand,
     place: usize,
 ) -> Result<Option<usize>, AllocError>
@@ -62,10 +63,13 @@ fn put_first(
 }
 
 // No strand has a piece; there is room for as many strands.
-fn no_heads(alloc: Global, strands: usize) -> Result<HashMap<(u32, u32), usize>, AllocError>
+fn no_heads(
+    alloc: Global,
+    strands: usize,
+) -> Result<HashMap<(u32, u32), usize, BuildHasherDefault<StrandHasher>>, AllocError>
     ensures { IfOk result (λ heads. (t i : ℕ) → get is_pair heads (t, i) ≡ None) }
 {
-    HashMap::with_capacity(alloc, strands)
+    HashMap::with_capacity_and_hasher(alloc, strands, BuildHasherDefault::new())
 }
 
 // The links between pieces of one strand; there is room for as many strands.

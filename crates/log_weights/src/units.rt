@@ -10,17 +10,18 @@ ghost use Rattle.log_weights.specs.Known.{KnowsWork, work_known};
 
 use crate::sums::{plus, text_work};
 use fork_graph::GraphStrand;
-use log_pieces::LogPiece;
+use log_pieces::{LogPiece, StrandHasher};
 use log_strands::{is_known, strand_in_log};
 use log_tasks::{LogTasks, piece_lines};
 use plain_vec::Listed;
 use std::alloc::{AllocError, Global};
 use std::collections::HashMap;
+use std::hash::BuildHasherDefault;
 
 /// The work that is known of strands of a log, by task and number, or None where it doesn't fit; the others have none.
 #[derive(Drop)]
 pub(crate) struct StrandWork {
-    pub(crate) units: HashMap<(u32, u32), Option<u64>>,
+    pub(crate) units: HashMap<(u32, u32), Option<u64>, BuildHasherDefault<StrandHasher>>,
 }
 
 impl StrandWork {
@@ -81,7 +82,7 @@ pub(crate) fn work_of(
     ensures { IfOk result (λ work. KnowsWork work (events_of_pieces texts.now pieces.now)) }
 {
     let mut work = StrandWork {
-        units: HashMap::with_capacity(alloc, strands)?,
+        units: HashMap::with_capacity_and_hasher(alloc, strands, BuildHasherDefault::new())?,
     };
     work.take_pieces(texts, pieces)?;
     Ok(work)
