@@ -1,0 +1,8 @@
+//! Laws of the hasher.
+
+ghost use Rattle.strand_hasher.specs.Groups.{NearStrandsShareGroups};
+
+/// Pairs of numbers that differ in the last two bits alone come into one group of a table.
+pub fn near_strands_share_groups()
+    ensures { NearStrandsShareGroups }
+{}
