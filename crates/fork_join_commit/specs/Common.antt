@@ -1,5 +1,5 @@
 -- The names of lower crates that these specifications use. Declares nothing.
-pub use Rattle.step_commit.specs.Alone.{alone_entry, machine_after, HaltsAlone}
+pub use Rattle.step_commit.specs.Alone.{alone_entry, machine_after}
 pub use Rattle.step_commit.specs.below.chunk_list.{view_below}
 pub use Rattle.step_commit.specs.below.chunk_pool.{PoolValue}
 pub use Rattle.step_commit.specs.below.core_invariant.{SharedValue, accounts, OthersFit, Enters, rest_at, NotEntered, NoMemory, Refuses}

@@ -1,9 +1,7 @@
 -- An entry of a part's fresh steps and a fork.
 use Rattle.std.specs.Prelude.{◌≡◌, ◌≢◌, ◌≤◌, ℕ, ◌+◌, Bool, true, false, Option, Some, None, List, [], length, option_map, slice_get}
-use Rattle.fork_join_commit.specs.Common.{Par, Line, ProgramText, Task, fetched, private_limit, task_steps, view_below, with_next, SetOf, Content, content_at, Child, new_child, Private, keeping, ParkedTask, Calls, SharedValue, accounts, rest_at, OthersFit, Enters, HaltsAlone, alone_entry, machine_after}
+use Rattle.fork_join_commit.specs.Common.{Par, Line, ProgramText, Task, fetched, private_limit, task_steps, view_below, with_next, SetOf, Content, content_at, Child, new_child, Private, keeping, ParkedTask, Calls, SharedValue, accounts, rest_at, OthersFit, Enters, alone_entry, machine_after}
 pub use Rattle.step_commit.specs.below.task_machine.{is_fork, is_par}
-use Rattle.fork_join_commit.specs.declared.fork.Forking.{Forking}
-use Rattle.fork_join_commit.specs.declared.fork.Forking.TheVariants.{Forked, Over}
 
 -- ---- WHEN IT COMES
 
@@ -34,10 +32,6 @@ pub record ForksOn (w after : SharedValue) (k : ℕ) (p : Private) (left right :
   pub right_is : right ≡ length (accounts w).machine.tasks + 1
   pub goes : (accounts after).end ≡ None
   pub others : OthersFit w after k
-
-abbrev pub ForkAnswered : SharedValue → SharedValue → ℕ → Private → Forking → Type 0
-ForkAnswered w after k p (Forked left right) = ForksOn w after k p left right
-ForkAnswered w after k p (Over q) = HaltsAlone w after k p q
 
 -- ---- SLOTS AND SETS
 

@@ -12,16 +12,6 @@ use step_commit::{
     fork, slot_block,
 };
 
-/// The result of committing a part whose next step is a fork.
-#[derive(Drop)]
-pub enum Forking {
-    /// Its task waits for two children of these numbers, which are ready.
-    Forked { left: u32, right: u32 },
-    /// Too many forks are above it: the run has ended, the task is before the fork, and the worker still holds the
-    /// part.
-    Over(Private),
-}
-
 // The parked state of a task that has forked.
 fn waiting(part: Private) -> ParkedTask
     requires { part.frames.top.next + 1 < 2 ^ 32 }
