@@ -2,7 +2,7 @@
 use Rattle.std.specs.Prelude.{◌≡◌, ℕ, ◌/◌, ◌%◌, ◌^◌, List}
 use Rattle.strand_hasher.specs.Hashing.{finish, initial, word_of, write}
 
--- the group of a hash: a table has at most 2^24 of them, and a smaller one goes by fewer of the lowest bits
+-- the group of a hash in a table of 2^24 groups; one of fewer goes by fewer of the lowest bits
 abbrev pub group_of : ℕ → ℕ
 group_of hash = hash % 2 ^ 24
 

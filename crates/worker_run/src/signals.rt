@@ -1,7 +1,7 @@
 //! Which signals a worker has seen, and which it owes.
 
-/// How many turns a task lies on its worker's deque before that one signals it: about as long as another worker takes
-/// to wake. Most tasks of a few steps are taken back before.
+/// How many turns a task lies on its worker's deque before that one signals it. Most tasks of a few steps are taken back
+/// before. No other number was measured.
 const PATIENCE: u32 = 16;
 
 /// What a worker knows of signals.
