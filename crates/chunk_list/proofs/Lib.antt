@@ -1,4 +1,5 @@
 mod BareLevels
 mod Rows
 pub mod ViewLemmas
+pub mod below
 mod Common

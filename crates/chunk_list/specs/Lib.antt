@@ -1,3 +1,4 @@
 pub mod View
 pub mod ChunkList
 pub mod RowLends
+pub mod below

@@ -5,6 +5,7 @@ mod row;
 mod shelf;
 mod view;
 
+pub use frozen_views::Pieces;
 pub use row::ChunkList;
 pub use shelf::{Shelf, missing_pieces};
 pub use view::View;

@@ -1,6 +1,6 @@
 -- How the calls of commands end.
 use Rattle.command_core.proofs.Common.{◌≡◌, ◌≤◌, ◌+◌, ℕ, Bool, true, false, List, [], length, take, drop, refl, ap, sym, subst, arith, ◌≢◌, Option, Some, None, false≢true, HasRisen, input_of, CommandLine, Check, Run, Replay, Model, Races as RacesOf, Image as ImageOf, Make, Verify, CommandStatus, Done, Words, Source, Trap, Entangled, Fuel, Pool, ReadFault, WriteFault, NoMemory, Trace, CallResult, AnswersLine, AnswersWords, LeavesLine, LeavesNone, DeliversLine, DeliversWords, ReturnsNothing, IsSilent, nothing_given, is_reading, limit_of, source_bytes_for, CallStatus, Answered, AnswerStatus, Reads, ReadsNothing, ReadsUpTo, SourceState, HasRead, HasTaken, IsWholeCall, AnswersCommand, AnswersInput, call_reads, call_status, line_reads}
-use Rattle.command_answers.specs.declared.answer.CommandStatus.TheVariants.{Races, Image}
+use Rattle.run_answers.specs.below.command_answers.{Races, Image}
 use Rattle.whole_call.specs.declared.status.CallStatus.TheVariants.{ReadFault as ReadFailed, WriteFault as WriteFailed, NoMemory as MemoryFailed}
 use Rattle.whole_call.proofs.Calls as calls
 

@@ -1,20 +1,8 @@
 -- The names of lower crates and of the specifications that these proofs use. Declares nothing.
-pub use Rattle.command_answers.proofs.Answered.{answered}
-pub use Rattle.command_answers.proofs.Deliveries.{IsSilent, nothing_given, found_given, found_no_read}
-pub use Rattle.command_answers.proofs.Runs.{handed}
-pub use Rattle.command_answers.proofs.Traces.{made_left, made_run, text_made}
-pub use Rattle.command_answers.specs.Answers.{AnswersLine, AnswersWords, LeavesLine, LeavesNone, AnswersMake, LeavesMake, extras_of, AnswersProgram, WhereProgram}
-pub use Rattle.command_answers.specs.Delivery.{DeliversLine, DeliversWords, ReturnsNothing, IsWanted, remains_of}
-pub use Rattle.command_answers.specs.Input.{is_reading, limit_of, source_bytes_for, program_in}
-pub use Rattle.command_answers.specs.Runs.{IsReplayedRun, IsWorkersRun, LeavesPaced}
-pub use Rattle.command_answers.specs.below.hh_lang.{ProgramText}
-pub use Rattle.command_answers.specs.below.read_write_all.{input_of}
-pub use Rattle.command_answers.specs.declared.answer.Answer.{Answer}
-pub use Rattle.command_answers.specs.declared.answer.CallResult.{CallResult}
-pub use Rattle.command_answers.specs.declared.answer.CommandStatus.{CommandStatus}
-pub use Rattle.command_answers.specs.declared.answer.CommandStatus.TheVariants.{Done, Words, Source, Trap, Entangled, Fuel, Pool, ReadFault, WriteFault, NoMemory, Trace}
-pub use Rattle.command_answers.specs.declared.wanted.Wanted.{Wanted}
-pub use Rattle.command_answers.specs.declared.wanted.Wanted.TheVariants.{Amid}
+pub use Rattle.run_answers.proofs.below.command_answers.{answered, IsSilent, nothing_given, found_given, found_no_read, handed, made_left, made_run, text_made}
+pub use Rattle.run_answers.specs.below.command_answers.{AnswersLine, AnswersWords, LeavesLine, LeavesNone, AnswersMake, LeavesMake, extras_of, AnswersProgram, WhereProgram, DeliversLine, DeliversWords, ReturnsNothing, IsWanted, remains_of, is_reading, limit_of, source_bytes_for, program_in, IsReplayedRun, IsWorkersRun, LeavesPaced, Answer, CallResult, CommandStatus, Done, Words, Source, Trap, Entangled, Fuel, Pool, ReadFault, WriteFault, NoMemory, Trace, Wanted, Amid}
+pub use Rattle.run_answers.specs.below.hh_lang.{ProgramText}
+pub use Rattle.run_answers.specs.below.read_write_all.{input_of}
 pub use Rattle.command_core.specs.Call.{AnswersCommand, AnswersInput, call_reads, call_status, line_reads}
 pub use Rattle.command_core.specs.Left.{AnswersLeft}
 pub use Rattle.command_line.specs.CommandLine.{command_line}

@@ -2,11 +2,7 @@
 use Rattle.std.specs.Prelude.{ℕ, Option, Some, None, List}
 use Rattle.command_line.specs.declared.line.CommandLine.{CommandLine}
 use Rattle.command_line.specs.declared.line.CommandLine.TheVariants.{Check, Run, Replay, Model, Races as RacesOf, Image as ImageOf, Make, Verify}
-use Rattle.command_answers.specs.declared.answer.CommandStatus.{CommandStatus}
-use Rattle.command_answers.specs.declared.answer.CommandStatus.TheVariants.{Done, Words, Source, Trap, Entangled, Fuel, Pool, ReadFault, WriteFault, NoMemory, Trace, Races, Image}
-use Rattle.command_answers.specs.declared.answer.CallResult.{CallResult}
-use Rattle.command_answers.specs.Input.{limit_of}
-use Rattle.command_answers.specs.Delivery.{DeliversLine, DeliversWords}
+use Rattle.run_answers.specs.below.command_answers.{CommandStatus, Done, Words, Source, Trap, Entangled, Fuel, Pool, ReadFault, WriteFault, NoMemory, Trace, Races, Image, CallResult, limit_of, DeliversLine, DeliversWords}
 use Rattle.whole_call.specs.declared.status.AnswerStatus.TheVariants.{Done as DoneAnswer, Words as WordsAnswer, Source as SourceAnswer, Trap as TrapAnswer, Entangled as EntangledAnswer, Fuel as FuelAnswer, Pool as PoolAnswer, Trace as TraceAnswer, Races as RacesAnswer, Image as ImageAnswer}
 use Rattle.whole_call.specs.declared.status.CallStatus.{CallStatus}
 use Rattle.whole_call.specs.declared.status.CallStatus.TheVariants.{Answered, ReadFault as ReadFailed, WriteFault as WriteFailed, NoMemory as MemoryFailed}

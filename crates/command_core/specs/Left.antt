@@ -2,8 +2,7 @@
 use Rattle.std.specs.Prelude.{◌≡◌, Option, Some}
 use Rattle.refusal_lines.specs.below.run_report.{Extras}
 use Rattle.worker_run.specs.below.core_invariant.{SharedValue}
-use Rattle.command_answers.specs.declared.answer.Answer.{Answer}
-use Rattle.command_answers.specs.Runs.{IsReplayedRun}
+use Rattle.run_answers.specs.below.command_answers.{Answer, IsReplayedRun}
 
 -- that of a run that has ended: of its journal
 abbrev pub AnswersLeft : Option SharedValue → Extras → Answer → Type 0

@@ -3,17 +3,15 @@
 ghost use Rattle.std.specs.Prelude.{◌≤◌, IfOk, IfErr, Some};
 ghost use Rattle.command_line.specs.below.program_make.{size_limit};
 ghost use Rattle.command_line.specs.CommandLine.{HasSize};
-ghost use Rattle.command_answers.specs.Answers.{AnswersMake, AnswersLine, LeavesLine, LeavesMake};
-ghost use Rattle.command_answers.specs.Delivery.{IsWanted};
+ghost use Rattle.run_answers.specs.below.command_answers.{AnswersMake, AnswersLine, LeavesLine, LeavesMake, IsWanted};
 
 use crate::run::answer_run;
-use command_answers::{
-    Answer, CommandStatus, Listed, Wanted, answer_check, answer_model, answer_races, answer_verify,
-    bytes_alone,
-};
 use command_line::{CommandLine, Options, Settings, make};
 use io_traits::Gate;
-use run_answers::{answer_image, answer_replay};
+use run_answers::{
+    Answer, CommandStatus, Listed, Wanted, answer_check, answer_image, answer_model, answer_races,
+    answer_replay, answer_verify, bytes_alone,
+};
 use std::alloc::Global;
 use std::sync::Wait;
 use std::thread::Threads;

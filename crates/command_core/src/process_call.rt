@@ -1,8 +1,8 @@
 // The call of a process: its arguments, files, standard input and standard output.
 
 use crate::top_call::{call_status, command};
-use command_answers::CommandStatus;
 use io_traits::{EmptyGate, FileSource, OutSink};
+use run_answers::CommandStatus;
 use std::alloc::AllocError;
 use std::io;
 use std::rt::{Env, Files};

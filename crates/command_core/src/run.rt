@@ -1,17 +1,14 @@
 // The answers of runs.
 
 ghost use Rattle.std.specs.Prelude.{◌≡◌, IfOk, IfErr};
-ghost use Rattle.command_answers.specs.Answers.{AnswersProgram, AnswersRun, LeavesRun};
-ghost use Rattle.command_answers.specs.Delivery.{IsWanted, remains_of};
-ghost use Rattle.command_answers.specs.Runs.{LeavesPaced};
+ghost use Rattle.run_answers.specs.below.command_answers.{AnswersProgram, AnswersRun, LeavesRun, IsWanted, remains_of, LeavesPaced};
 ghost use Rattle.command_core.specs.Left.{AnswersLeft};
 
-use command_answers::{Answer, Program, Wanted, extras_of, program_in, refused};
 use command_line::Options;
 use gc_pacer::Paced;
 use io_traits::Gate;
 use refusal_lines::{Extras, Refusal};
-use run_answers::{amid, answer_ended};
+use run_answers::{Answer, Program, Wanted, amid, answer_ended, extras_of, program_in, refused};
 use std::alloc::Global;
 use std::sync::Wait;
 use std::thread::Threads;

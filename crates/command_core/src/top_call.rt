@@ -3,19 +3,18 @@
 ghost use Rattle.std.specs.Prelude.{◌≡◌, ◌≢◌, map, Some, string_bytes, IfOk};
 ghost use Rattle.io_traits.specs.Fault.{HasRisen};
 ghost use Rattle.command_line.specs.CommandLine.{command_line, HasSize};
-ghost use Rattle.command_answers.specs.CommandStatus.{code_of_status};
-ghost use Rattle.command_answers.specs.Delivery.{DeliversLine, DeliversWords, GivesFound, IsAnswered};
+ghost use Rattle.run_answers.specs.below.command_answers.{code_of_status, DeliversLine, DeliversWords, GivesFound, IsAnswered};
 ghost use Rattle.whole_call.specs.CallStatus.{code_of_status as code_of_call};
 ghost use Rattle.command_core.specs.Call.{call_status, AnswersCommand};
 
 use crate::answers::answer_line;
-use command_answers::{
-    Answer, CallResult, CommandStatus, ReadError, Wanted, deliver, nothing, read_input, refused,
-    return_wanted,
-};
 use command_line::{CommandLine, read_command_line};
 use io_traits::{Gate, Sink, Source};
 use refusal_lines::Refusal;
+use run_answers::{
+    Answer, CallResult, CommandStatus, ReadError, Wanted, deliver, nothing, read_input, refused,
+    return_wanted,
+};
 use std::alloc::{AllocError, Global};
 use std::sync::Wait;
 use std::thread::Threads;

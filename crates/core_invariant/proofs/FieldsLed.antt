@@ -3,7 +3,7 @@
 use Rattle.core_invariant.proofs.Common.{◌≡◌, ℕ, ◌+◌, ◌-◌, ◌==◌, arith, Bool, true, false, cond, Option, Some, None, List, [], ◌∷◌, fold, length, map, slice_get, inl, inr, refl, ap, ap₂, sym, subst, ◌∙◌, option_flatten, slice_index_or, slice_set, unwrap_or, cases_eq, false≢true, same_Some, got_other, got_same, map_in, Addr, Birth, Born, Cell, marked_object, size_of, with_ref, cell_of, put_object, same_address, with_cell, ChunkValue, Located, with_fields, is_same, same_is, PoolValue, owner_of, LeafHeapValue, room_of, with_ref_of, room_at, SameChunkCounts, Level, writes_keep_counts, RefField, target_of, new_reference, redirected, written, new_address, Chunk, In, mapped_chunk, mapped_belongings, objects_of_chunks, put_at, rewritten_belongings, in_chunk, ParkedTask, Work, Calls, Result, refs_of_rest, Resting, refs_for, resting_references, with_ref_at, with_ref_for, with_ref_in, chunk_of, chunks_of, AreMeasured, HeapForm, belongings_by, belongings_in, belongings_of, rest_at}
 use Rattle.std.specs.Option.{option_map}
 use Rattle.std.proofs.lemmas.List.{length-set}
-use Rattle.refinement.proofs.below.object_layout.ChunkLaws as laws
+use Rattle.refinement_laws.proofs.below.object_layout.ChunkLaws as laws
 use Rattle.core_invariant.proofs.CellsRead.{numbered, seen_object}
 use Rattle.core_invariant.proofs.FieldsLedTogether.{AreOnce, belongings_each, belongings_together, lead_at, lead_off, lead_one, mapped_belongings_stay, none_belongings, set_itself}
 use Rattle.core_invariant.proofs.UnitsMeasured.{measured_written}

@@ -1,6 +1,6 @@
 -- The words of a heap at rest: those that it counts are those of its names.
 use Rattle.core_invariant.proofs.Common.{◌≡◌, ℕ, suc, ◌+◌, ◌==◌, arith, All, Bool, true, false, cond, None, List, [], ◌∷◌, ◌++◌, inl, inr, length, map, refl, ap, ap₂, sym, subst, ◌∙◌, flat_map, sum_by-append, sum_by-cons, in_map, MachineState, Ledger, heap_of, small_in, words_at, object_words_of, words_sum, Born, Cell, Hole, Mark, Moved, moved_to, size_of, object_words_in, held_size, held_words, ChunkValue, Located, located, located_by, objects_from, behind, AreTidy, Rests, BelongingsStand, MemoryStands, large_chunks, chunk_names, small_chunks, Chunk, In, Memory, object_name, objects, objects_of_chunks, in_objects, large_names, named_by, names_in, small_lists, name_of, chunk_of, chunks_of}
-use Rattle.refinement.specs.below.run_ledger.{words_in}
+use Rattle.refinement_laws.specs.below.run_ledger.{words_in}
 use Rattle.core_invariant.proofs.HeapCounts.{large_are, small_names}
 use Rattle.core_invariant.proofs.FreeChunks.{refs_long}
 use Rattle.core_invariant.proofs.SmallWords.{SameWords}

@@ -1,6 +1,6 @@
 -- The levels of a view as the relation has them: what a heap's level shows, and what is at an address.
 use Rattle.core_invariant.proofs.Common.{◌≡◌, ℕ, ◌+◌, ◌==◌, ◌&&◌, Bool, true, false, not, cond, Option, Some, None, List, [], ◌∷◌, map, filter, refl, ap, ap₂, sym, ◌∙◌, eq-eqb, option_map, option_or, cond-true, cond-false, eqb-true, false≢true, same_Some, Addr, Birth, Born, Cell, Hole, Mark, Moved, size_of, ChunkValue, PieceValue, frozen_at, frozen_from, lasts, Located, located, located_by, objects_from, Level, level_of, nearest, piece_in, seen_at as view_at, seen_in as view_in, Chunk, chunk_among, frozen_chunks, shown_at, birth_in, chunks_of, levels_of, shown, shown_chunk}
-use Rattle.refinement.specs.Memory.{seen_at, seen_in}
+use Rattle.refinement_laws.specs.below.refinement.{seen_at, seen_in}
 
 -- ---- THE LEVEL OF A HEAP
 

@@ -1,6 +1,6 @@
 -- Entries that move nothing: the end of fuel, a chunk, and the end of the pool.
 use Rattle.core_invariant.proofs.Common.{◌≡◌, ℕ, Option, Some, None, [], ◌∷◌, ◌++◌, length, slice_get, inl, refl, ap, sym, ◌∙◌, option_flatten, ReservedVecValue, MachineState, row_of, is_joined, EntryValue, Heap, Ledger, Fuel as FuelEnd, heap_of, after, LeafHeapValue as HeapOf, Rests, rested, Memory, SameObjects, CountsGo, IsMarked, IsQuiet, with_belongings, MarksOn, NotesStay, BelongingsStand, BegunBy, IsBy, belongings_kept, quiet_fits_then, quiet_stands_for, quiet_leaves, Begun, Private, SharedValue, accounts, tree_counts_of, value_of, IsMeasured, KeepsUnits, HeapForm, IsSharedValue, EachPartStillFits, WorkerPartFits, belongings_of_part, part_of, Enters, refused}
-use Rattle.refinement.specs.below.run_trace.{Fuel}
+use Rattle.refinement_laws.specs.below.run_trace.{Fuel}
 use Rattle.core_invariant.proofs.EntryMade.{HasSameTasks, entered_world, entry_on, part_fits, same_form}
 use Rattle.core_invariant.proofs.BeforeTheEnd.{stands_now}
 use Rattle.core_invariant.proofs.UnitsMeasured.{all_kept, part_kept}

@@ -1,6 +1,6 @@
 -- A run of private steps keeps the addresses of objects: it only adds to existing chunks.
 use Rattle.core_invariant.proofs.Common.{◌≡◌, ℕ, zero, suc, ◌-◌, Bool, true, false, cond, Option, Some, None, List, [], ◌∷◌, map, nat_le, slice_set, ◌==◌, inl, inr, refl, ap, sym, subst, ◌∙◌, in_map, map_in, ProgramText, MachineState, asked, Addr, Cell, no_cell, size_of, cell_of, chunk_at, ChunkValue, cell_at, LeafHeapValue, place_for, with_object_placed, cell_of-others, In, Private, outline_after, outline_by, outline_of, outline_of_cell, outline_of_chunk, steps, Places, outline_size, born_is, KeepsPlaces}
-use Rattle.refinement.specs.below.task_machine.{Ran}
+use Rattle.refinement_laws.specs.below.task_machine.{Ran}
 
 mark_at : (cs : List Cell) (off : ℕ) → (cell_at (map outline_of_cell cs) off).mark ≡ (cell_at cs off).mark
 mark_at [] off = refl

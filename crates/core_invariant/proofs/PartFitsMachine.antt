@@ -1,7 +1,7 @@
 -- A part that fits the shared value fits the machine, with the addresses of the value's belongings.
 use Rattle.core_invariant.proofs.Common.{◌≡◌, ℕ, ◌+◌, ◌<◌, ◌≤◌, ◌==◌, arith, Bool, true, false, cond, Option, Some, None, List, [], ◌∷◌, ◌++◌, length, nat_lt, replicate, slice_get, is_none, ◌⊎◌, inl, inr, refl, ap, sym, subst, ◌∙◌, eq-eqb, ne_eqb, option_map, cases_eq, cond-true, cond-false, eqb-true, ltb-true, false≢true, both_ways, same_Some, in_got, in_map, Frame as ModelFrame, Name, Object, Running, MachineState, object_at, is_joined, is_on_path, is_waiting, parents, run, run_from, runs, start, run_on, start_is_fork_join_state, path_along, path_le, runs_idle, runs_live, limit_from, field_limit, Ran, Heap, Ledger, heap_of, let_go, tasks_of, is_name, task_steps, tasks_are_out_once, kind_machine, machine_is_run, heap_machine, is_name_itself, same_from_is_name, machine_goes_on, wait_run, Addr, Birth, Born, Cell, cell_of, place_in, chunk_position, ChunkValue, Located, located, seen_at, CallFrame, Rests, own, LedgerIsKnown, StepsAlone, rested_worker, legal_knows, leaf_alone, Chunk, Belongings, In, Lies, Memory, as_shown, object_name, objects, objects_of_chunks, shown_at, AllRead, FrameIsRead, FramesAreRead, HoldsRead, IsModelObject, ReadsReference, TaskIsRead, BelongingsStand, LiesWithOwner, MemoryStands, FitsAt, ahead, with_belongings, belongings_own, object_kept, task_kept, in_chunk, ahead_alone, ahead_sound, noted_mutable, at_belongings, off_belongings, aside_is, Private, AreAt, FrameStands, FramesStand, NamesAddress, birth_of, name_of, FitsNow as FitsMachine, HeapStands, IsOwnObject, IsReachedByRun, IsShownBy, StackStands, ParkedTask, Work, Calls, Result, chunk_of, SharedValue, accounts, frames_down, rest_at, value_of, belongings_in, belongings_by, HeapForm, IsSharedValue, WorkerPartFits, belongings_of_part, part_of, FitsFirst, above_of, find_at}
-use Rattle.refinement.specs.below.hh_model.{owner_of}
-use Rattle.refinement.proofs.below.run_ledger.{SoundLedger}
+use Rattle.refinement_laws.specs.below.hh_model.{owner_of}
+use Rattle.refinement_laws.proofs.below.run_ledger.{SoundLedger}
 use Rattle.core_invariant.proofs.CellsRead.{object_seen, seen_object}
 use Rattle.core_invariant.proofs.Levels.{shown_found, shown_there}
 use Rattle.core_invariant.proofs.BeforeTheEnd.{fits_now}

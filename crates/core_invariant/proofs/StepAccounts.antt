@@ -1,6 +1,6 @@
 -- What private steps of a task keep of the accounts.
 use Rattle.core_invariant.proofs.Common.{◌≡◌, ℕ, zero, suc, ◌+◌, ◌-◌, ◌++◌, ◌||◌, Bool, true, false, cond, Option, Some, None, List, [], ◌∷◌, slice_get, option_map, refl, ap, ap₂, sym, subst, ◌∙◌, cond-true, cond-false, got_same, got_other, ProgramText, Name, Running, Task, MachineState, step, can_step, goes_on, is_running, runs, asked, SettingsValue, Heap, Ledger, or_fresh, fresh, put_last, is_small_size, allocated_by, allocated_in, settled, moved_on, stepped_to, task_step, task_steps, is_private, is_due, is_in_need, standing, allocated_end, ArePrivate, private_off, with_at, heap_then, GoesOn, private_on}
-use Rattle.refinement.specs.below.run_ledger.{with_allocation, moved_to}
+use Rattle.refinement_laws.specs.below.run_ledger.{with_allocation, moved_to}
 
 -- what no allocation changes of an account
 abbrev pub hold : Heap → Option ℕ × Option ℕ × List Name × Bool

@@ -1,7 +1,7 @@
 -- Private steps are committed.
 use Rattle.core_invariant.proofs.Common.{◌≡◌, ℕ, zero, suc, ◌+◌, ◌-◌, ◌<◌, ◌≤◌, true, false, min, Bool, Option, Some, None, [], ◌∷◌, ◌++◌, map, slice_get, nat_le, is_none, is_some, inl, inr, refl, ap, sym, subst, ◌∙◌, arith, eq-eqb, le-leb, and_from, ReservedVecValue, option_is, ProgramText, Running, MachineState, is_running, step, Ran, EntryValue, SettingsValue, Ledger, Refused, NotOut, Collecting, Long, heap_of, let_go, is_private, task_step, task_steps, most_steps, standing, after, is_out, kind_refusal, refused_if, refused_unless, none_of, ran_tells, collecting_is, heap_machine, task_step_machine, steps_last, ArePrivate, aside, RunsPrivateSteps, rested_worker, entry_runs, reserved_chunks, reserved_units, Chunk, Belongings, Memory, ahead, part_for, with_belongings, IsSteady, ChunksHaveNames, BelongingsStand, WorkerFits, at_belongings, Private, HeapMatchesAccount, unended, steps, SharedValue, accounts, value_of, IsSharedValue, WorkerPartFits, OthersFit, beyond, belongings_of_part, part_of, refused, first_cause, or_else}
-use Rattle.refinement.proofs.below.run_ledger.{collecting}
-use Rattle.refinement.specs.below.ledger_step_laws.{Private as PrivateKind}
+use Rattle.refinement_laws.proofs.below.run_ledger.{collecting}
+use Rattle.refinement_laws.specs.below.ledger_step_laws.{Private as PrivateKind}
 use Rattle.core_invariant.proofs.HeapCounts.{counted_from}
 use Rattle.core_invariant.proofs.EntryMade.{entry_on, same_form}
 use Rattle.core_invariant.proofs.StepsMade.{MakesSteps, ran_entry, steps_others, steps_part, steps_world}

@@ -1,7 +1,7 @@
 -- An entry of steps is made: what it changes in the memory, in what is noted, and in the tree and the counts gives a
 -- shared value, which the parts of other workers fit, and that of its own worker if it goes on.
 use Rattle.core_invariant.proofs.Common.{◌≡◌, ℕ, suc, None, slice_get, refl, option_flatten, Ran, EntryValue, Ledger, after, task_steps, FramesValue, LastKind, Reading, Writing, Printing, Forking, Ending, Joining, Finishing, Halting, RunsPrivateSteps, part_for, BelongingsAfter, EntryMakes, taken_by, Marks, RanCounts, TasksOutGo, TreeCounts, WorkerFits, ran_fits_then, ran_leaves, ran_stands_for, Private, SharedValue, accounts, tree_counts_of, value_of, IsMeasured, IsSharedValue, WorkerPartFits, OthersFit, belongings_of_part, part_of, Enters, refused}
-use Rattle.refinement.specs.below.ledger_step_laws.{Private as PrivateKind}
+use Rattle.refinement_laws.specs.below.ledger_step_laws.{Private as PrivateKind}
 use Rattle.core_invariant.proofs.EntryMade.{HasForm, entered_world, part_fits, tasks_apart}
 
 -- the workers of tasks, except its own worker

@@ -1,6 +1,6 @@
 -- A worker takes a task.
 use Rattle.core_invariant.proofs.Common.{◌≡◌, ℕ, ◌<◌, Bool, true, false, not, ◌&&◌, nat_le, nat_lt, Option, Some, None, List, [], ◌∷◌, ◌++◌, length, length-set, slice_get, slice_set, option_map, is_none, is_some, refl, ap, sym, subst, ◌∙◌, arith, option_flatten, IsSome, and_parts, false≢true, ltb-true, ReservedVecValue, got_same, got_other, got_within, got_set, none_is, none_some, Name, Task, Running, is_running, parent_of, parents, runs_is, Took, EntryValue, field_limit, Ledger, heap_of, Refused, NoWorker, Over, Spent, after, out_from, is_fuel, is_ready, kind_refusal, refused_holding, refused_if, refused_unless, entry_tells, none_unless, Addr, FramesValue, TaskState, Out, TaskNode, set_at, with_state, parent_in, Rests, Belongings, Memory, SameBut, TakesNode, LetsGo, FramesAreRead, HoldsRead, LiesWithOwner, part_for, WorkerFits, StandsFor, took_stands_for, took_fits_then, took_leaves, Private, ParkedTask, Work, Calls, Result, SharedValue, accounts, belongings_in, belongings_by, rest_at, tree_counts_of, value_of, IsSharedValue, WorkerPartFits, HasFrames, OthersFit, belongings_of_part, part_of, taken_part, Enters, refused}
-use Rattle.refinement.specs.below.heap_tree.{parent_of as parent_in_tree}
+use Rattle.refinement_laws.specs.below.heap_tree.{parent_of as parent_in_tree}
 use Rattle.core_invariant.proofs.EntryMade.{ChangesRest, changed_form, entered_world, entry_on, fits_then, free_at_rest, free_before, part_fits, worker_when_out}
 use Rattle.core_invariant.proofs.UnitsMeasured.{all_kept}
 use Rattle.core_invariant.proofs.BeforeTheEnd.{node_now, task_out_now, stands_now}

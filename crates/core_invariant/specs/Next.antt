@@ -1,9 +1,9 @@
 -- The next instruction of a part, by its own frames and heap: the words that it allocates, and what it does if it isn't
 -- private.
 use Rattle.std.specs.Prelude.{ℕ, ◌+◌, ◌&&◌, ◌||◌, not, Bool, true, false, Option, Some, None, List, length, slice_get, is_some, if◌then◌else◌}
-use Rattle.refinement.specs.below.hh_lang.{Out}
+use Rattle.refinement_laws.specs.below.hh_lang.{Out}
 use Rattle.core_invariant.specs.Common.{Instr, Newm, Pack, Calc, Getr, Geti, Putr, Puti, Cntr, Cnti, Freeze, Cas, Call, Par, Ret, Line, ProgramText, line_at, MachineState, Task, Div as DivTrap, Nil as NilTrap, Range, Frozen as FrozenTrap, Size as SizeTrap, Depth as DepthTrap, counts_in, place_in as place_in_count, words_for, fetched, has_no_caller, owns, touched, Addr, Cell, object_of, ChunkValue, CallFrame, int_of, ref_of, Private}
-use Rattle.refinement.specs.below.object_layout.{place_in}
+use Rattle.refinement_laws.specs.below.object_layout.{place_in}
 use Rattle.core_invariant.specs.declared.next_step.Ending.{Ending}
 use Rattle.core_invariant.specs.declared.next_step.Ending.TheVariants.{Prints, Returns, Traps, Beyond}
 

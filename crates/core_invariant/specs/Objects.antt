@@ -1,8 +1,8 @@
 -- Chunks and the levels of a view as the relation has them: each with its objects.
 use Rattle.std.specs.Prelude.{ℕ, ◌<◌, ◌/◌, ◌==◌, not, false, List, map}
-use Rattle.refinement.specs.below.object_layout.{Birth, Born, Cell, Hole, Mark, Moved, chunk_words, ChunkValue, Located, located, objects_of, PieceValue}
+use Rattle.refinement_laws.specs.below.object_layout.{Birth, Born, Cell, Hole, Mark, Moved, chunk_words, ChunkValue, Located, located, objects_of, PieceValue}
 use Rattle.chunk_list.specs.View.{Level}
-use Rattle.refinement.specs.Memory.{Chunk, In, objects_of_chunks}
+use Rattle.refinement_laws.specs.below.refinement.{Chunk, In, objects_of_chunks}
 
 abbrev pub chunk_of : ChunkValue → Chunk
 chunk_of k = record { number = k.number; units = k.size / chunk_words; large = not (k.size == chunk_words); objects = objects_of k }

@@ -2,7 +2,7 @@
 use Rattle.std.specs.Prelude.{ℕ, ℤ, pos, Bool, false, Option, Some, None, List, [], ◌∷◌, replicate, slice_get}
 use Rattle.std.specs.Option.{option_flatten}
 use Rattle.core_invariant.specs.Common.{ReservedVecValue, ProgramText, EntryValue, SettingsValue, Ledger, RunEnd, ledger_of, Addr, PoolValue, owner_of, units_in_use, LeafHeapValue, room_of, Level, CallFrame, FramesValue, TaskNode, SetOf, MarkingValue, Belongings, Noted, Memory, TreeCounts, ParkedTask, Work, Calls, Result}
-pub use Rattle.refinement.specs.Memory.{no_belongings}
+pub use Rattle.refinement_laws.specs.below.refinement.{no_belongings}
 pub use Rattle.task_slots.specs.TaskSlotsValue.{marks_at, rest_at}
 use Rattle.core_invariant.specs.Objects.{chunks_of, levels_of}
 

@@ -1,6 +1,6 @@
 // Why a call made no entry.
 
-use refinement::{Private, Refused};
+use refinement_laws::{Private, Refused};
 use std::alloc::AllocError;
 
 /// Why a call made no entry.
@@ -13,8 +13,7 @@ pub enum NotEntered {
 }
 
 impl From<AllocError> for NotEntered {
-    ghost use Rattle.std.specs.Prelude.{◌≡◌};
-    ghost use Rattle.core_invariant.specs.declared.answer.NotEntered.TheVariants.{NoMemory};
+    ghost use Rattle.core_invariant.specs.declared.answer.NotEntered.TheVariants.{NoMemory, Refuses};
 
     ghost from_gives = { λ _ e. e ≡ NoMemory };
 
@@ -25,7 +24,6 @@ impl From<AllocError> for NotEntered {
 
 impl From<Refused> for NotEntered {
     ghost use Rattle.std.specs.Prelude.{◌≡◌};
-    ghost use Rattle.core_invariant.specs.declared.answer.NotEntered.TheVariants.{Refuses};
 
     ghost from_gives = { λ cause e. e ≡ Refuses cause };
 

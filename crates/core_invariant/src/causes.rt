@@ -3,7 +3,7 @@
 ghost use Rattle.std.specs.Prelude.{◌≡◌};
 ghost use Rattle.core_invariant.specs.Causes.{first_cause};
 
-use refinement::{Refused, RunEnd, Settings};
+use refinement_laws::{Refused, RunEnd, Settings};
 
 /// The causes that precede those of an entry's kind.
 pub fn first_cause(

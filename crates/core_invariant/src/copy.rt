@@ -2,7 +2,7 @@
 
 ghost use Rattle.std.specs.Prelude.{◌≡◌, IfOk};
 
-use refinement::{Fun, Listed, Program};
+use refinement_laws::{Fun, Listed, Program};
 use std::alloc::{AllocError, Global};
 
 fn copy_function(alloc: Global, function: &Fun) -> Result<Fun, AllocError>

@@ -15,7 +15,7 @@ pub use copying_gc::{Moved, ToChunks, copy as copying_gc_copy};
 pub use fork_join::{Child, EndedChild, Side, fork, join, places, sibling_of};
 pub use leaf_heap::{LeafHeap, View};
 pub use next_step::{Ending, field_index, last_step, words_asked};
-pub use refinement::{
+pub use refinement_laws::{
     Addr, Begun, Birth, CHUNK_WORDS, Chunk, DEPTH_LIMIT, End, Entry, Frames, Instr, IntReg, Kind,
     Listed, MARKED_AT_ONCE, Marking, MarkingRoom, Owed, PRIVATE_LIMIT, Paused, Private, Program,
     RefField, RefReg, Refused, RefusedAt, Remembered, Report, ReservedVec, RunEnd, Settings,

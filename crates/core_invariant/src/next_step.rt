@@ -1,12 +1,12 @@
 // The next instruction of a part, by its own frames and heap.
 
 ghost use Rattle.std.specs.Prelude.{◌≡◌, ◌<◌, ◌^◌, length, IfSome};
-ghost use Rattle.refinement.specs.below.hh_model.{counts_in, place_in};
-ghost use Rattle.refinement.specs.below.task_frames.{int_of};
-ghost use Rattle.refinement.specs.below.task_machine.{IsSafe};
+ghost use Rattle.refinement_laws.specs.below.hh_model.{counts_in, place_in};
+ghost use Rattle.refinement_laws.specs.below.task_frames.{int_of};
+ghost use Rattle.refinement_laws.specs.below.task_machine.{IsSafe};
 ghost use Rattle.core_invariant.specs.Next.{ending, instr_asks, on_own, part_asks, unwritten};
 
-use refinement::{Instr, IntReg, Private, Program, RefReg, Trap};
+use refinement_laws::{Instr, IntReg, Private, Program, RefReg, Trap};
 
 // Two numbers as counts of fields, if neither is negative and their sum is within the limit.
 fn field_counts(limit: u32, refs: i64, ints: i64) -> Option<(u32, u32)>

@@ -1,10 +1,10 @@
 // The part of a task that a worker takes.
 
 ghost use Rattle.std.specs.Prelude.{◌≡◌, None};
-ghost use Rattle.refinement.specs.below.task_frames.{FramesValue};
+ghost use Rattle.refinement_laws.specs.below.task_frames.{FramesValue};
 ghost use Rattle.core_invariant.specs.WorkerPartFits.{taken_part, HasFrames};
 
-use refinement::Private;
+use refinement_laws::Private;
 use task_slots::{ParkedTask, Work};
 
 /// The part of a task that no worker held.

@@ -7,3 +7,5 @@ pub mod plain_vec
 pub mod step_commit
 pub mod run_ledger
 pub mod core_invariant
+pub mod fork_join_commit
+pub mod task_machine

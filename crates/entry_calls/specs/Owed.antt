@@ -1,8 +1,8 @@
 -- What a worker owes, by the journal.
 use Rattle.std.specs.Prelude.{◌≡◌, ℕ, true}
-use Rattle.core_invariant.specs.below.run_trace.{EntryValue}
-use Rattle.core_invariant.specs.below.run_ledger.{Owed, WorkerPace, gives, owed, pace_at_end, pace_of}
-use Rattle.core_invariant.specs.SharedValue.{SharedValue, accounts}
+use Rattle.leaf_collections.specs.below.run_trace.{EntryValue}
+use Rattle.leaf_collections.specs.below.run_ledger.{Owed, WorkerPace, gives, owed, pace_at_end, pace_of}
+use Rattle.leaf_collections.specs.below.core_invariant.{SharedValue, accounts}
 
 -- the record of the worker's entries in the journal
 abbrev pub worker_pace : SharedValue → ℕ → WorkerPace

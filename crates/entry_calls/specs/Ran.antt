@@ -1,9 +1,8 @@
 -- The one entry of a part's fresh steps and its next one, which isn't private: the part afterwards.
 use Rattle.std.specs.Prelude.{◌≡◌, ℕ}
-use Rattle.core_invariant.specs.below.task_machine.{Private}
-use Rattle.core_invariant.specs.SharedValue.{SharedValue}
-use Rattle.core_invariant.specs.declared.next_step.Ending.TheVariants.{Returns}
-use Rattle.step_commit.specs.Alone.{FinishesAlone, GoesAlone, HaltsAlone, EndingTells}
+use Rattle.leaf_collections.specs.below.task_machine.{Private}
+use Rattle.leaf_collections.specs.below.core_invariant.{SharedValue, Returns}
+use Rattle.fork_join_commit.specs.below.step_commit.{FinishesAlone, GoesAlone, HaltsAlone, EndingTells}
 use Rattle.fork_join_commit.specs.ChildEnds.{EndsChild, IsAtEnd}
 use Rattle.fork_join_commit.specs.Forks.{ForksOn, IsAtFork}
 use Rattle.fork_join_commit.specs.NoTask.{HoldsNone}

@@ -12,3 +12,13 @@ pub mod run_ledger
 pub mod run_trace
 pub mod core_invariant
 pub mod task_machine
+pub mod heap_tree
+pub mod task_frames
+pub mod task_slots
+pub mod refinement
+pub mod fork_join
+pub mod mark_sweep_gc
+pub mod object_layout
+pub mod plain_vec
+pub mod remembered_set
+pub mod write_barrier

@@ -1,7 +1,7 @@
 //! The results of the calls.
 
 use crate::part_block::PartInBlock;
-use core_invariant::{Moved, NotEntered, Refused};
+use leaf_collections::{Moved, NotEntered, Refused};
 
 /// The result for a task of a step that gives its part up.
 #[derive(Drop)]

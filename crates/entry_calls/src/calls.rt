@@ -1,17 +1,12 @@
 //! The calls of a value that workers share.
 
 ghost use Rattle.std.specs.Prelude.{◌≡◌, ◌<◌, ◌≤◌, ◌^◌, [], ℕ, IfOk, OnOk, None, Some, false, true, is_some, length};
-ghost use Rattle.core_invariant.specs.below.run_trace.{mark_limit};
-ghost use Rattle.core_invariant.specs.below.run_ledger.{heap_of, is_paced, is_pool_enough, left_in, sweep_number};
-ghost use Rattle.core_invariant.specs.below.task_machine.{Private as PrivateOf};
-ghost use Rattle.core_invariant.specs.below.task_slots.{ParkedTask as RestOf};
-ghost use Rattle.core_invariant.specs.Causes.{first_cause};
-ghost use Rattle.core_invariant.specs.Due.{IsOutPart};
-ghost use Rattle.core_invariant.specs.Entered.{refused};
-ghost use Rattle.core_invariant.specs.WorkerPartFits.{EachPartStillFits, WorkerPartFits};
-ghost use Rattle.core_invariant.specs.SharedValue.{accounts, rest_at};
-ghost use Rattle.core_invariant.specs.Stands.{IsSharedValue};
-ghost use Rattle.step_commit.specs.Alone.{alone_entry, IsShared};
+ghost use Rattle.leaf_collections.specs.below.run_trace.{mark_limit};
+ghost use Rattle.leaf_collections.specs.below.run_ledger.{heap_of, is_paced, is_pool_enough, left_in, sweep_number};
+ghost use Rattle.leaf_collections.specs.below.task_machine.{Private as PrivateOf};
+ghost use Rattle.leaf_collections.specs.below.task_slots.{ParkedTask as RestOf};
+ghost use Rattle.leaf_collections.specs.below.core_invariant.{first_cause, IsOutPart, refused, EachPartStillFits, WorkerPartFits, accounts, rest_at, IsSharedValue};
+ghost use Rattle.fork_join_commit.specs.below.step_commit.{alone_entry, IsShared};
 ghost use Rattle.leaf_collections.specs.LeafEnd.{end_entry, FitsCopied};
 ghost use Rattle.heap_marking.specs.MarkCauses.{marking_cause};
 ghost use Rattle.entry_calls.specs.Calls.{BeginsLeaf, BeginsMarking, EndsForFuel, EndsLeaf, EntersLeaving, EntersLent, EntersSteps, GetsChunk, MarksMore, PutsOff, SweepsHeap, TakesTask};
@@ -20,7 +15,7 @@ ghost use Rattle.entry_calls.specs.Ran.{LeavesBy};
 
 use crate::answers::{Leaving, Lent, NotEnded, NotLeft, Ran};
 use crate::part_block::{BlockSource, PartBlock, PartInBlock};
-use core_invariant::{
+use leaf_collections::{
     Addr, Kind, Moved, NotEntered, Owed, Private, Program, Refused, RunEnd, Settings, ToChunks,
 };
 use std::alloc::{AllocError, Global};
@@ -28,7 +23,7 @@ use std::alloc::{AllocError, Global};
 /// Keeps the value that workers share, so that each entry gives what its worker owes to the collections of the heaps of
 /// waiting tasks, or ends the run because the fuel is used up. Each committing call makes one entry of the journal.
 pub trait EntryCalls {
-    ghost use Rattle.core_invariant.specs.SharedValue.{SharedValue};
+    ghost use Rattle.leaf_collections.specs.below.core_invariant.{SharedValue};
 
     ghost value: { Self → SharedValue };
 

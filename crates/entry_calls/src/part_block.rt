@@ -1,7 +1,7 @@
 //! A boxed part, so that passing it moves a pointer.
 ghost use Rattle.std.specs.Prelude.{◌≡◌};
 
-use core_invariant::Private;
+use leaf_collections::Private;
 use std::alloc::{AllocError, Global};
 use std::marker::Model;
 use std::snapshot::Snapshot;
@@ -57,8 +57,6 @@ pub struct BlockSource {
 }
 
 impl BlockSource {
-    ghost use Rattle.std.specs.Prelude.{◌≡◌};
-
     /// Nothing but the allocator.
     pub fn new(alloc: Global) -> BlockSource {
         BlockSource { alloc, spare: None }
@@ -93,7 +91,6 @@ impl BlockSource {
 }
 
 impl PartInBlock {
-    ghost use Rattle.std.specs.Prelude.{◌≡◌};
     ghost use Rattle.std.specs.Borrow.{sem};
     ghost use Rattle.entry_calls.specs.PartLends.{lends_part};
 

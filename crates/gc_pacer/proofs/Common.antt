@@ -1,7 +1,5 @@
 -- The names of lower crates and of the specifications that these proofs use. Declares nothing.
-pub use Rattle.entry_calls.specs.Calls.{GetsChunk, EndsForFuel, BeginsLeaf, EndsLeaf, BeginsMarking, MarksMore, PutsOff, EntersLeaving, EntersLent, EntersSteps, SweepsHeap, TakesTask}
-pub use Rattle.entry_calls.specs.Owed.{worker_pace, Pays, owed_by}
-pub use Rattle.entry_calls.specs.Ran.{LeavesBy, LeavesPart, LentTo}
+pub use Rattle.run_statistics.specs.below.entry_calls.{GetsChunk, EndsForFuel, BeginsLeaf, EndsLeaf, BeginsMarking, MarksMore, PutsOff, EntersLeaving, EntersLent, EntersSteps, SweepsHeap, TakesTask, worker_pace, Pays, owed_by, LeavesBy, LeavesPart, LentTo}
 pub use Rattle.gc_pacer.specs.Paces.{AreIdle, KeepsPaces, NotesAt, SameMarks, KeepsNoted, NotesOther}
 pub use Rattle.run_statistics.proofs.EntryCounted.{ran_enters, lent_enters}
 pub use Rattle.run_statistics.proofs.below.core_invariant.{entry_on}

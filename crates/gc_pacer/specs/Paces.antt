@@ -4,7 +4,7 @@ use Rattle.run_statistics.specs.below.run_trace.{Kind}
 use Rattle.run_statistics.specs.below.run_ledger.{Ledger, WorkerPace, is_paced, pace_noted}
 use Rattle.run_statistics.specs.below.core_invariant.{SharedValue, accounts}
 use Rattle.run_statistics.specs.below.heap_marking.{Pace, Other, KeepsPace}
-use Rattle.entry_calls.specs.Owed.{worker_pace}
+use Rattle.run_statistics.specs.below.entry_calls.{worker_pace}
 
 -- the journal is paced; and of each worker there is a record, as long as the run goes on, that determines what it owes
 pub record KeepsPaces (w : SharedValue) (paces : List Pace) : Type 0 where

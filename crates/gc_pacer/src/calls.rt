@@ -6,11 +6,9 @@ ghost use Rattle.run_statistics.specs.below.core_invariant.{refused, IsCaused};
 use crate::noting::{idle_paces, note_mark, note_other, note_ran, reserve_mark};
 use crate::owing::owed;
 use crate::paced::{Paced, put_apart};
-use entry_calls::{
-    BlockSource, EntryCalls, Leaving, Lent, NotEnded, NotLeft, PartBlock, PartInBlock, Ran,
-};
 use run_statistics::{
-    Addr, Counted, Kind, LegalCalls, Moved, NotEntered, Owed, Private, Program, Refused, RunEnd,
+    Addr, BlockSource, Counted, EntryCalls, Kind, Leaving, LegalCalls, Lent, Moved, NotEnded,
+    NotEntered, NotLeft, Owed, PartBlock, PartInBlock, Private, Program, Ran, Refused, RunEnd,
     Settings, Shared, ToChunks,
 };
 use std::alloc::{AllocError, Global};

@@ -24,4 +24,5 @@ pub mod SweptUnits
 mod SweptBelongings
 pub mod SweepEntered
 pub mod SweptRefusals
+pub mod below
 mod Common

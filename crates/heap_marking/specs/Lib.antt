@@ -4,4 +4,5 @@ pub mod MarkCauses
 pub mod MarkStand
 pub mod Sweeping
 pub mod Pace
+pub mod below
 mod Common

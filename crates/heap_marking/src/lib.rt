@@ -8,6 +8,7 @@ mod starts;
 mod sweep;
 
 pub use causes::{marking_cause, waiting_cause, words_cause};
+pub use core_invariant::{Child, EndedChild, ParkedTask, TaskSlot, TaskSlots, Work};
 pub use forks::fork_in;
 pub use pace::{Fork, Pace, PreviousKind, is_joined};
 pub use starts::begin_marking;

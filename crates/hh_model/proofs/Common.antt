@@ -29,9 +29,7 @@ pub use Rattle.hh_model.specs.declared.data.TaskStatus.{TaskStatus}
 pub use Rattle.hh_model.specs.declared.data.TaskStatus.TheVariants.{Running, Waiting, Ended, Joined}
 pub use Rattle.hh_model.specs.declared.data.Trap.{Trap}
 pub use Rattle.hh_model.specs.declared.data.Trap.TheVariants.{Div, Range, Frozen, Size, Depth}
-pub use Rattle.plain_vec.proofs.Members.{got_same, In, got_in, got_cases, got_past, in_append_right, in_append_left, got_within, same_view, in_append_cases, in_from_contains, got_other, got_front, got_back, view_step, contains_from_in}
-pub use Rattle.plain_vec.proofs.Options.{none_some, some_none}
-pub use Rattle.plain_vec.proofs.Places.{in_take, all_at, got_some, got_more}
+pub use Rattle.hh_lang.proofs.below.plain_vec.{got_same, In, got_in, got_cases, got_past, in_append_right, in_append_left, got_within, same_view, in_append_cases, in_from_contains, got_other, got_front, got_back, view_step, contains_from_in, none_some, some_none, in_take, all_at, got_some, got_more}
 pub use Rattle.std.proofs.Common.{◌≡◌, ℕ, Option, Some, None, IfSome, ap, sym, ◌∙◌, ℤ, zero, suc, ◌+◌, ◌<◌, ◌&&◌, Bool, true, false, IsSomeAnd, is_some, List, slice_get, slice_set, refl, ap₂, ◌==◌, eqb-true, arith, set-set, pos, cond, [], ◌∷◌, ◌++◌, length, set, ◌⊎◌, inl, inr, subst, replicate, negsuc, ◌≤◌, nat_le, take, nat_lt, ◌*◌, ◌^◌, length-set, length-append, append_assoc, ◌-◌, ◌%◌, eq-eqb, ◌||◌, ne_eqb, max, get_or, Contains, eqb, rules}
 pub use Rattle.std.proofs.Math.Bool.{or-false}
 pub use Rattle.std.proofs.Math.Path.{fun_ext}

@@ -21,4 +21,5 @@ pub mod Next
 pub mod Root
 pub mod EndLaws
 pub mod Sizes
+pub mod below
 mod Common

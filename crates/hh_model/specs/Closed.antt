@@ -1,6 +1,6 @@
 -- Sets of names that contain all that tasks hold, and with a name all to which its object refers.
 use Rattle.std.specs.Prelude.{◌≡◌, ℕ, Some, List, slice_get}
-use Rattle.plain_vec.specs.Members.{In}
+use Rattle.hh_lang.specs.below.plain_vec.{In}
 use Rattle.hh_model.specs.declared.data.Name.{Name}
 use Rattle.hh_model.specs.declared.data.Object.{Object}
 use Rattle.hh_model.specs.declared.data.Task.{Task}

@@ -5,4 +5,4 @@ pub use Rattle.hh_lang.specs.declared.instr.Instr.TheVariants.{Set, Mov, Movr, N
 pub use Rattle.hh_lang.specs.declared.instr.Operator.{Operator}
 pub use Rattle.hh_lang.specs.declared.instr.Operator.TheVariants.{Add, Sub, Mul, Div, Rem, Lt, Eq}
 pub use Rattle.hh_lang.specs.declared.program.Line.{Line}
-pub use Rattle.plain_vec.specs.Members.{In}
+pub use Rattle.hh_lang.specs.below.plain_vec.{In}

@@ -12,4 +12,5 @@ pub mod Closed
 pub mod Counts
 pub mod Ends
 pub mod NextLaw
+pub mod below
 mod Common

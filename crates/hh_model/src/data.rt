@@ -1,6 +1,6 @@
 // The plain data of the machine: names, objects, tasks and the whole state.
 
-use plain_vec::Listed;
+use hh_lang::Listed;
 
 /// Where an object was allocated: its task, and how many objects that task had allocated before. Names are ordered by
 /// task, then by count.

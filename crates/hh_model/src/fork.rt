@@ -4,13 +4,12 @@ ghost use Rattle.std.specs.Prelude.{◌≡◌, ◌<◌, ◌+◌, ◌^◌, ◌++�
 ghost use Rattle.hh_model.specs.Step.{with_task, forked, child, edge, strand};
 
 use crate::data::{Edge, End, Frame, MachineState, Strand, Task, TaskStatus, Trap};
-use hh_lang::DEPTH_LIMIT;
-use plain_vec::Listed;
+use hh_lang::{DEPTH_LIMIT, Listed};
 use std::alloc::{AllocError, Global};
 
 impl MachineState {
     /// A task forks.
-    #[tactic(auto, using(crate::proofs::Lists::set_front, plain_vec::proofs::Members::got_front))]
+    #[tactic(auto, using(crate::proofs::Lists::set_front, hh_lang::proofs::below::plain_vec::got_front))]
     pub(crate) fn fork(
         &mut self,
         alloc: Global,

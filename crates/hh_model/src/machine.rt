@@ -4,8 +4,7 @@ ghost use Rattle.std.specs.Prelude.{◌≡◌, ◌<◌, ◌^◌, ◌↔◌, IfOk
 ghost use Rattle.hh_model.specs.Step.{can_step, start};
 
 use crate::data::{End, Frame, MachineState, Task, TaskStatus};
-use hh_lang::{Line, Program};
-use plain_vec::Listed;
+use hh_lang::{Line, Listed, Program};
 use std::alloc::{AllocError, Global};
 use std::marker::Model;
 
@@ -28,7 +27,7 @@ pub struct Machine<'p> {
 }
 
 impl<'p> Model for Machine<'p> {
-    ghost use Rattle.hh_model.specs.Machine.{MachineValue, IsOfRun};
+    ghost use Rattle.hh_model.specs.Machine.{MachineValue, IsOfRun, begun, advanced};
 
     ghost Value = { MachineValue };
 
@@ -41,7 +40,6 @@ impl<'p> Machine<'p> {
     ghost use Rattle.std.specs.Prelude.{◌≡◌, ◌≤◌, ◌<◌, ◌+◌, ◌^◌, ◌↔◌, ℕ, slice_get, IfOk, IfSome, OnOk, OnErr, Err, true, false};
     ghost use Rattle.hh_model.specs.Calculations.{advanced_by, calculates};
     ghost use Rattle.hh_model.specs.Step.{can_step, fetched};
-    ghost use Rattle.hh_model.specs.Machine.{begun, advanced, IsOfRun};
 
     /// A machine before its first step, with this limit of fields.
     pub fn start(

@@ -9,7 +9,7 @@ use std::alloc::AllocError;
 
 impl MachineState {
     /// The top frame of a task returns.
-    #[tactic(auto, using(crate::proofs::Lists::set_again, plain_vec::proofs::Members::got_same))]
+    #[tactic(auto, using(crate::proofs::Lists::set_again, hh_lang::proofs::below::plain_vec::got_same))]
     pub(crate) fn return_frame(&mut self, t: u32) -> Result<(), AllocError>
         requires made { t < length self.old.tasks }
         requires fits { length self.old.tasks < 2 ^ 32 }

@@ -5,8 +5,7 @@ ghost use Rattle.hh_model.specs.Effect.{effect, int_in, object_at, put_object, r
 ghost use Rattle.hh_model.specs.Step.{follow, setting, strand_of};
 
 use crate::data::{Frame, MachineState, Name, Object};
-use hh_lang::{FieldCount, Instr, IntReg, RefReg};
-use plain_vec::Listed;
+use hh_lang::{FieldCount, Instr, IntReg, Listed, RefReg};
 use std::alloc::{AllocError, Global};
 
 impl MachineState {

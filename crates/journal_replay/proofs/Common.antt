@@ -29,9 +29,7 @@ pub use Rattle.fork_join_commit.proofs.below.step_commit.{apart_cause, unless_fa
 pub use Rattle.heap_reading.proofs.below.task_machine.{lacks_same}
 pub use Rattle.heap_reading.specs.below.copying_gc.{Moved, ToChunks, CanTake, IsCollected, IsSoundReference, as_reference}
 pub use Rattle.heap_reading.specs.below.core_invariant.{NotEntered, NoMemory, Refuses, first_cause, or_else, refused, EachPartStillFits, IsSharedValue, SharedValue, accounts, rest_at, Enters, WorkerPartFits, CopyingHasBegun, value_of, beyond, FitsFirst, OthersFit, task_asked, EntersOrRefuses, IsCaused, IsSamePart, next_line, part_of, refusal_of_result}
-pub use Rattle.entry_calls.specs.declared.answers.Ran.TheVariants.{Done, Ended, Forked, Over}
-pub use Rattle.entry_calls.specs.Ran.{RanTo, LeavesBy, LeavesPart, LentTo}
-pub use Rattle.entry_calls.specs.Ends.{end_cause}
+pub use Rattle.legal_calls.specs.below.entry_calls.{Done, Ended, Forked, Over, RanTo, LeavesBy, LeavesPart, LentTo, end_cause}
 pub use Rattle.fork_join_commit.specs.Joins.{IsSameRest, SameButPlaces, IsUnchanged}
 pub use Rattle.fork_join_commit.specs.NoTask.{HoldsNone}
 pub use Rattle.heap_reading.specs.below.hh_lang.{ProgramText}

@@ -1,7 +1,6 @@
 -- The result of an entry of a worker, from the result of a call of the shared value.
 use Rattle.journal_replay.proofs.Common.{◌≡◌, ℕ, true, false, Some, None, Result, Ok, Err, refl, ap, sym, subst, ◌∙◌, OnErr, OnOk, false≢true, none_some, EntryValue, End, Refused, ends_as, Moved, Private, NotEntered, NoMemory, Refuses, first_cause, EntersOrRefuses, Enters, IsCaused, IsSamePart, refused, EachPartStillFits, WorkerPartFits, OthersFit, IsSharedValue, SharedValue, GoesAlone, HaltsAlone, alone_entry, IsUnchanged, Done, Ended, Forked, Over, RanTo, LeavesPart, OutPart, Copied, Made, AnswersFor, EntersFor, MakesFor, RefusesFor, holding_of, WorkerHolds, HoldsCopy, HoldsPart}
-use Rattle.entry_calls.specs.declared.answers.Leaving.{Leaving}
-use Rattle.entry_calls.specs.declared.answers.Ran.{Ran}
+use Rattle.legal_calls.specs.below.entry_calls.{Leaving, Ran}
 use Rattle.journal_replay.specs.declared.out_part.OutPart.TheVariants.{Part}
 use Rattle.journal_replay.proofs.HoldingCauses.{copy_fits, said}
 use Rattle.journal_replay.proofs.Holding.{part_stops, places_same, stops}

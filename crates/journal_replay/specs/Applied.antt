@@ -4,8 +4,7 @@ use Rattle.heap_reading.specs.below.run_trace.{Kind, Fuel, Mark, More, Sweep, En
 use Rattle.heap_reading.specs.below.run_ledger.{Refused, Collecting, NotCollecting, NotOut}
 use Rattle.heap_reading.specs.below.core_invariant.{NotEntered, NoMemory, Refuses, Enters, refused, EachPartStillFits, OthersFit, SharedValue}
 use Rattle.fork_join_commit.specs.Joins.{SameButPlaces}
-use Rattle.entry_calls.specs.declared.answers.Ran.{Ran}
-use Rattle.entry_calls.specs.declared.answers.Ran.TheVariants.{Done, Ended, Forked, Over}
+use Rattle.legal_calls.specs.below.entry_calls.{Ran, Done, Ended, Forked, Over}
 use Rattle.journal_replay.specs.declared.out_part.OutPart.{OutPart}
 use Rattle.journal_replay.specs.declared.out_part.OutPart.TheVariants.{Nothing, Part, Copied}
 use Rattle.journal_replay.specs.declared.out_part.Made.{Made}

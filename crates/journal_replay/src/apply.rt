@@ -14,9 +14,8 @@ use crate::apply_put_off::apply_put_off;
 use crate::apply_ran::apply_ran;
 use crate::apply_took::apply_took;
 use crate::out_part::{Made, OutPart};
-use entry_calls::{BlockSource, Entry, Kind, NotEntered};
 use heap_reading::Listed;
-use legal_calls::LegalCalls;
+use legal_calls::{BlockSource, Entry, Kind, LegalCalls, NotEntered};
 use std::alloc::AllocError;
 use std::mem;
 

@@ -4,8 +4,7 @@ ghost use Rattle.std.specs.Prelude.{◌≡◌, ◌<◌, false};
 ghost use Rattle.heap_reading.specs.below.run_trace.{IsKind};
 ghost use Rattle.journal_replay.specs.Applied.{is_own, AnswersApart};
 
-use entry_calls::{Kind, NotEntered};
-use legal_calls::LegalCalls;
+use legal_calls::{Kind, LegalCalls, NotEntered};
 
 // Up to `n` more objects of a heap are marked.
 fn mark_more<S: LegalCalls>(shared: &mut S, worker: u32, t: u32, n: u32) -> Result<(), NotEntered>

@@ -7,9 +7,8 @@ ghost use Rattle.journal_replay.specs.Applied.{MakesFor};
 ghost use Rattle.journal_replay.specs.WorldValue.{WorkerHolds, HoldsCopy, HoldsPart};
 
 use crate::out_part::{Made, OutPart, idle_part};
-use entry_calls::{Addr, Kind, Moved, Private, ToChunks, copy};
 use io_traits::EmptyGate;
-use legal_calls::LegalCalls;
+use legal_calls::{Addr, Kind, LegalCalls, Moved, Private, ToChunks, copy};
 
 // Copies the heap of a part whose collection has begun.
 fn copy_begun<S: LegalCalls>(

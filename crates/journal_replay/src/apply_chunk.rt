@@ -6,8 +6,7 @@ ghost use Rattle.journal_replay.specs.Applied.{MakesFor};
 ghost use Rattle.journal_replay.specs.WorldValue.{WorkerHolds, HoldsPart};
 
 use crate::out_part::{Made, OutPart, idle_part};
-use entry_calls::{Kind, Private};
-use legal_calls::LegalCalls;
+use legal_calls::{Kind, LegalCalls, Private};
 
 // The part gets a chunk.
 fn give_chunk<S: LegalCalls>(shared: &mut S, worker: u32, part: Private) -> Made

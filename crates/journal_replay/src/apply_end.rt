@@ -7,8 +7,7 @@ ghost use Rattle.journal_replay.specs.Applied.{MakesFor};
 ghost use Rattle.journal_replay.specs.WorldValue.{WorkerHolds, HoldsCopy};
 
 use crate::out_part::{Made, OutPart, copied_part};
-use entry_calls::{Kind, Moved, NotEntered, Private, Refused};
-use legal_calls::LegalCalls;
+use legal_calls::{Kind, LegalCalls, Moved, NotEntered, Private, Refused};
 
 // The first of the three numbers that is wrong.
 fn miscounted(moved: &Moved, taken: u32, given: u32, left: u32) -> Option<Refused>

@@ -6,8 +6,7 @@ ghost use Rattle.journal_replay.specs.Applied.{MakesFor};
 ghost use Rattle.journal_replay.specs.WorldValue.{WorkerHolds, HoldsPart};
 
 use crate::out_part::{Made, OutPart, idle_part};
-use entry_calls::{Kind, NotEntered, Private};
-use legal_calls::LegalCalls;
+use legal_calls::{Kind, LegalCalls, NotEntered, Private};
 
 // The collection of the part is put off.
 fn put_off<S: LegalCalls>(shared: &mut S, worker: u32, part: Private) -> Made

@@ -4,18 +4,17 @@ ghost use Rattle.std.specs.Prelude.{◌≡◌, ◌<◌, ◌≤◌, ◌+◌, ◌^
 ghost use Rattle.heap_reading.specs.below.run_ledger.{most_steps};
 ghost use Rattle.heap_reading.specs.below.core_invariant.{first_cause, WorkerPartFits};
 ghost use Rattle.fork_join_commit.specs.below.step_commit.{alone_entry, IsShared};
-ghost use Rattle.entry_calls.specs.Ran.{LeavesBy};
+ghost use Rattle.legal_calls.specs.below.entry_calls.{LeavesBy};
 ghost use Rattle.journal_replay.specs.Applied.{holding_of, MakesFor};
 ghost use Rattle.journal_replay.specs.Next.{standing_by, PausesNext};
 ghost use Rattle.journal_replay.specs.WorldValue.{WorkerHolds, HoldsPart};
 
 use crate::out_part::{Made, OutPart, idle_part};
-use entry_calls::{
-    BlockSource, Kind, Leaving, Lent, NotEntered, PRIVATE_LIMIT, Paused, Private, Ran, Refused,
-    run_local,
-};
 use io_traits::EmptyGate;
-use legal_calls::LegalCalls;
+use legal_calls::{
+    BlockSource, Kind, Leaving, LegalCalls, Lent, NotEntered, PRIVATE_LIMIT, Paused, Private, Ran,
+    Refused, run_local,
+};
 use std::alloc::AllocError;
 
 // Takes more private steps, as many as the budget or as precede one that isn't private, and returns what comes next.

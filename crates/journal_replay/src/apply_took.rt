@@ -6,8 +6,7 @@ ghost use Rattle.journal_replay.specs.Applied.{MakesFor};
 ghost use Rattle.journal_replay.specs.WorldValue.{WorkerHolds};
 
 use crate::out_part::{Made, OutPart};
-use entry_calls::{BlockSource, Kind, NotEntered};
-use legal_calls::LegalCalls;
+use legal_calls::{BlockSource, Kind, LegalCalls, NotEntered};
 
 /// A worker takes a task, and then holds its part.
 pub(crate) fn apply_took<S: LegalCalls>(

@@ -3,7 +3,7 @@
 ghost use Rattle.std.specs.Prelude.{◌≡◌, IfErr, IfOk, Some};
 ghost use Rattle.journal_replay.specs.Applied.{copied_cause, idle_cause};
 
-use entry_calls::{Moved, NotEntered, Private, Refused};
+use legal_calls::{Moved, NotEntered, Private, Refused};
 
 /// What a worker holds.
 #[derive(Drop)]

@@ -4,9 +4,8 @@ ghost use Rattle.std.specs.Prelude.{◌≡◌, [], IfOk, false};
 ghost use Rattle.journal_replay.specs.Replay.{ReplayGives};
 
 use crate::world::{NotApplied, World};
-use entry_calls::{Entry, Program, Settings};
 use heap_reading::RefusedAt;
-use legal_calls::LegalCalls;
+use legal_calls::{Entry, LegalCalls, Program, Settings};
 use std::alloc::{AllocError, Global};
 
 /// Why a replay stopped before the last entry. `W` is the world.

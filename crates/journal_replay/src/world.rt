@@ -8,9 +8,8 @@ ghost use Rattle.journal_replay.specs.WorldValue.{IsWhole};
 
 use crate::apply::make_entry;
 use crate::out_part::OutPart;
-use entry_calls::{BlockSource, Entry, NotEntered, Program, Refused, Settings};
 use heap_reading::Listed;
-use legal_calls::LegalCalls;
+use legal_calls::{BlockSource, Entry, LegalCalls, NotEntered, Program, Refused, Settings};
 use std::alloc::{AllocError, Global};
 use std::marker::Model;
 

@@ -16,3 +16,4 @@ pub mod run_trace
 pub mod core_invariant
 pub mod task_machine
 pub mod write_barrier
+pub mod hh_model

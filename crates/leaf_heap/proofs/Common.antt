@@ -1,6 +1,6 @@
 -- The names of lower crates and of the specifications that these proofs use. Declares nothing.
-pub use Rattle.frozen_views.proofs.Levels.{on_ok}
-pub use Rattle.frozen_views.specs.PiecesValue.{NotesChanges, PiecesValue, ShowsChunks, written_chunk}
+pub use Rattle.chunk_list.proofs.below.frozen_views.{on_ok}
+pub use Rattle.chunk_list.specs.below.frozen_views.{NotesChanges, PiecesValue, ShowsChunks, written_chunk}
 pub use Rattle.leaf_heap.specs.LeafHeapValue.{CellsFitInChunks, saturating_words, LeafHeapValue, IsCurrent, IsFresh, AgreesWithChunks, IsReserved, large_place, HaveDistinctNumbers, place_for, room_at, small_place, units, AllBeginInFirstUnit, AreTidy, IsTidy, added, IsSettled}
 pub use Rattle.leaf_heap.specs.PlaceLaws.{KeepsShape, WritesKeepCounts}
 pub use Rattle.leaf_heap.specs.contracts.contents.Contents.{the_view}

@@ -1,6 +1,6 @@
 -- The invariant of a heap after one of its chunks is written or another is added.
 use Rattle.leaf_heap.proofs.Common.{◌≡◌, ℕ, zero, suc, ◌+◌, ◌-◌, ◌*◌, ◌/◌, ◌<◌, ◌≤◌, true, false, List, [], ◌∷◌, ◌++◌, length, get_or, set, refl, sym, ap, ◌∙◌, subst, arith, ⊎_elim, inl, inr, ◌⊎◌, eqb, length-set, Option, Some, None, take, All-get_or, All-set, Bor, IfSome, option_copied, option_map, cases_Bool, cases_lt, eqb-true, lt-ltb, le-ltb, le-leb, lt-leb, get_or_read, take_more, Addr, Header, Born, Cell, Hole, IsObject, Mark, Moved, header_of, size_of, ChunkValue, cell_at, object_at, put_cell, words_in, IsObjectAt, cell_of, chunk_at, object_words_in, held_size, held_words, no_chunk, one_each, place_in, chunk_position, put_object, small_part, sum_in, sum_of, with_cell, NotesChanges, PiecesValue, ShowsChunks, written_chunk, total-put_cell, words_in-push, CellsFitInChunks, saturating_words, LeafHeapValue, IsCurrent, AgreesWithChunks, IsReserved, large_place, place_for, room_at, small_place, units}
-use Rattle.frozen_views.proofs.PieceLists as lists
+use Rattle.chunk_list.proofs.below.frozen_views.PieceLists as lists
 use Rattle.object_layout.proofs.ChunkLaws as chunks
 pub use Rattle.object_layout.proofs.ChunkLaws.{none_there, place_found, place_there}
 use Rattle.object_layout.proofs.PlaceLemmas as place

@@ -6,8 +6,7 @@ ghost use Rattle.object_layout.specs.Chunks.{chunk_at, held_words, next_address,
 ghost use Rattle.leaf_heap.specs.LeafHeapValue.{added, saturating_words, no_contents, with_object_placed, placed_at, place_for, room_of, with_places, CellsFitInChunks, IsCurrent, IsFresh, IsReserved, IsSettled};
 
 use super::counts::small_part;
-use chunk_list::{ChunkList, missing_pieces};
-use frozen_views::Pieces;
+use chunk_list::{ChunkList, Pieces, missing_pieces};
 use object_layout::{Addr, Birth, CHUNK_WORDS, Chunk, Header, units, write_new};
 use std::alloc::{AllocError, AllocFailed, Global};
 use std::collections::HashMap;

@@ -1,8 +1,8 @@
 -- No worker has a task before the first entry.
 use Rattle.std.proofs.Common.{◌≡◌, ℕ, zero, suc, Some}
-use Rattle.core_invariant.specs.below.hh_lang.{ProgramText}
-use Rattle.core_invariant.specs.below.run_trace.{SettingsValue}
-use Rattle.core_invariant.specs.below.run_ledger.{heap_of, opening}
+use Rattle.entry_calls.specs.below.hh_lang.{ProgramText}
+use Rattle.entry_calls.specs.below.run_trace.{SettingsValue}
+use Rattle.entry_calls.specs.below.run_ledger.{heap_of, opening}
 
 pub first_worker : (p : ProgramText) (s : SettingsValue) (t k : ℕ) → (heap_of (opening p s) t).worker ≡ Some k → ⊥
 first_worker p s zero k h = absurd cc

@@ -1,15 +1,14 @@
 //! The calls of a value that makes each entry that the ledger allows.
 
 ghost use Rattle.std.specs.Prelude.{◌≡◌, ◌<◌, ◌≤◌, [], ℕ, IfOk, OnOk, None, Some, false, true};
-ghost use Rattle.core_invariant.specs.below.run_trace.{mark_limit};
-ghost use Rattle.entry_calls.specs.below.core_invariant.{FitsFirst, IsSharedValue, WorkerPartFits, first_cause, refused};
+ghost use Rattle.entry_calls.specs.below.run_trace.{mark_limit};
+ghost use Rattle.entry_calls.specs.below.core_invariant.{FitsFirst, IsSharedValue, WorkerPartFits, first_cause, refused, rest_at};
 ghost use Rattle.entry_calls.specs.below.leaf_collections.{FitsCopied};
 ghost use Rattle.entry_calls.specs.below.step_commit.{IsShared, alone_entry};
 ghost use Rattle.entry_calls.specs.Calls.{BeginsLeaf, BeginsMarking, EndsForFuel, EndsLeaf, EntersLeaving, EntersLent, EntersSteps, GetsChunk, MarksMore, PutsOff, SweepsHeap, TakesTask};
 ghost use Rattle.entry_calls.specs.Ran.{LeavesBy};
-ghost use Rattle.core_invariant.specs.below.task_slots.{ParkedTask as RestOf};
-ghost use Rattle.core_invariant.specs.below.task_machine.{Private as PrivateOf};
-ghost use Rattle.core_invariant.specs.SharedValue.{rest_at};
+ghost use Rattle.entry_calls.specs.below.task_slots.{ParkedTask as RestOf};
+ghost use Rattle.entry_calls.specs.below.task_machine.{Private as PrivateOf};
 
 use entry_calls::{
     Addr, BlockSource, Leaving, Lent, Moved, NotEnded, NotEntered, NotLeft, PartBlock, PartInBlock,

@@ -4,3 +4,7 @@
 mod calls;
 
 pub use calls::LegalCalls;
+pub use entry_calls::{
+    Addr, BlockSource, Entry, Kind, Leaving, Lent, Moved, NotEntered, PRIVATE_LIMIT, Paused,
+    Private, Program, Ran, Refused, Settings, ToChunks, copy, run_local,
+};

@@ -1,8 +1,5 @@
 -- The names of lower crates and of the specifications that these proofs use. Declares nothing.
-pub use Rattle.hh_lang.specs.Form.{ProgramText}
-pub use Rattle.hh_lang.specs.declared.instr.Instr.{Instr}
-pub use Rattle.hh_lang.specs.declared.instr.Instr.TheVariants.{Set, Mov, Movr, Calc, Same, Jmp, Jz, Newm, Pack, Getr, Geti, Putr, Puti, Cntr, Cnti, Freeze, Cas, Call, Par, Ret, Out}
-pub use Rattle.hh_lang.specs.declared.program.Line.{Line}
+pub use Rattle.hh_model.specs.below.hh_lang.{ProgramText, Instr, Set, Mov, Movr, Calc, Same, Jmp, Jz, Newm, Pack, Getr, Geti, Putr, Puti, Cntr, Cnti, Freeze, Cas, Call, Par, Ret, Out, Line}
 pub use Rattle.hh_model.proofs.Carried.{in_from_named, next_name, named_from_in, at_in}
 pub use Rattle.hh_model.proofs.Changes.{SetsRef, SetsInt, Freezes}
 pub use Rattle.hh_model.proofs.Climbs.{owner_here}
@@ -34,9 +31,7 @@ pub use Rattle.path_laws.specs.Disentangled.{Disentangled}
 pub use Rattle.path_laws.specs.Leaves.{LeavesOwner, WaitsAlone}
 pub use Rattle.path_laws.specs.Paths.{IsWalkUp, IsWalkOfJoined, PathsAreWalks, OwnersAreWalks}
 pub use Rattle.path_laws.specs.ReadLaws.{ReadsFreely, OwnReadsGo, IsReadStop, StopsNameOwners, FrozenReadsGo}
-pub use Rattle.plain_vec.proofs.Members.{In, got_cases, got_within, same_view, in_from_contains, contains_from_in, got_same, got_other, got_past, got_front, got_back}
-pub use Rattle.plain_vec.proofs.Options.{none_some}
-pub use Rattle.plain_vec.proofs.Places.{none_set, got_some}
+pub use Rattle.hh_model.proofs.below.plain_vec.{In, got_cases, got_within, same_view, in_from_contains, contains_from_in, got_same, got_other, got_past, got_front, got_back, none_some, none_set, got_some}
 pub use Rattle.std.proofs.Common.{◌≡◌, ℕ, ℤ, zero, suc, ◌+◌, ◌<◌, ◌≤◌, ◌==◌, ◌||◌, Bool, true, false, Option, Some, List, [], ◌∷◌, ◌++◌, length, slice_get, slice_set, ◌⊎◌, inl, inr, refl, ap, sym, subst, ◌∙◌, arith, length-set, ne_eqb, cond, None, is_some, set, append_assoc, append-nil, eqb-true}
 pub use Rattle.std.proofs.Math.Path.{fun_ext}
 pub use Rattle.std.proofs.lemmas.Bool.{or_right, cases_eq, both_ways, cases_lt, false≢true, or_cases, false_from_ne_true}

@@ -5,4 +5,5 @@ pub mod FreeReads
 pub mod Frozen
 pub mod PathLaws
 pub mod Leaves
+pub mod below
 mod Common

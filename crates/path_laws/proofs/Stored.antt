@@ -1,6 +1,6 @@
 -- Every name that a task or a field holds is in the store.
 use Rattle.path_laws.proofs.Common.{◌≡◌, ℕ, zero, suc, ◌+◌, Bool, true, false, Option, Some, None, List, [], ◌∷◌, ◌++◌, length, slice_get, slice_set, ◌⊎◌, inl, inr, refl, ap, sym, subst, ◌∙◌, arith, is_some, ◌<◌, false≢true, same_Some, In, in_from_contains, got_same, got_back, got_within, got_some, Instr, Set, Mov, Movr, Calc, Same, Jmp, Jz, Newm, Pack, Getr, Geti, Putr, Puti, Cntr, Cnti, Freeze, Cas, Call, Par, Ret, Out, Line, ProgramText, Name, Object, Frame, Task, Size, MachineState, Effect, StepContext, effect, made, row_of, object_at, counts_in, int_in, or_trap, refs_of, task_names, words_asked, words_for, setting, fetched, step, follow, root, start, run, run_from, can_step, asked, asked_line, IsStored, NamesAreStored, put_cases, made_cases, named_from_in, next_name, IsForkJoinState, start_is_fork_join_state, step_is_fork_join_state, empty_rows, Alters, step_cases, Closed, closed_step, asked_at, Counted, counted_step, start_counted, step_taken, step_idle, can_task}
-use Rattle.hh_lang.specs.declared.instr.Instr.TheVariants.{Nil as NilOf}
+use Rattle.hh_model.specs.below.hh_lang.{Nil as NilOf}
 use Rattle.path_laws.proofs.Disentangled.{no_refs}
 use Rattle.path_laws.proofs.Objects.{object_later}
 

@@ -1,7 +1,5 @@
 -- The names of lower crates that these specifications use. Declares nothing.
-pub use Rattle.hh_lang.specs.Form.{ProgramText}
-pub use Rattle.hh_lang.specs.declared.instr.Instr.TheVariants.{Getr}
-pub use Rattle.hh_lang.specs.declared.program.Line.{Line}
+pub use Rattle.hh_model.specs.below.hh_lang.{ProgramText, Getr, Line}
 pub use Rattle.hh_model.specs.Effect.{object_at, Goes, int_in, onward, place_in, read_effect, ref_in, with_ref}
 pub use Rattle.hh_model.specs.Names.{refs_at, task_names}
 pub use Rattle.hh_model.specs.Precedence.{Precedes}
@@ -14,4 +12,4 @@ pub use Rattle.hh_model.specs.declared.data.MachineState.{MachineState}
 pub use Rattle.hh_model.specs.declared.data.Name.{Name}
 pub use Rattle.hh_model.specs.declared.data.Object.{Object}
 pub use Rattle.hh_model.specs.declared.data.Task.{Task}
-pub use Rattle.plain_vec.specs.Members.{In}
+pub use Rattle.hh_model.specs.below.plain_vec.{In}

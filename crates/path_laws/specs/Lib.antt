@@ -2,4 +2,5 @@ pub mod Paths
 pub mod Disentangled
 pub mod Leaves
 pub mod ReadLaws
+pub mod below
 mod Common

@@ -4,4 +4,5 @@
 
 mod laws;
 
+pub use hh_model::{End, MachineState, Name, Strand};
 pub use laws::{frozen_reads_go, outputs_grow, own_reads_go, stops_name_owners};

@@ -1,2 +1,15 @@
 -- Re-exports from lower crates for the crates above.
 pub mod path_laws
+pub mod hh_model
+pub mod ledger_step_laws
+pub mod object_layout
+pub mod plain_vec
+pub mod run_ledger
+pub mod task_machine
+pub mod refinement
+pub mod heap_tree
+pub mod hh_lang
+pub mod mark_sweep_gc
+pub mod remembered_set
+pub mod run_trace
+pub mod walk_laws

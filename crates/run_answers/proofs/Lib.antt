@@ -1,2 +1,3 @@
 mod Replayed
+pub mod below
 mod Common

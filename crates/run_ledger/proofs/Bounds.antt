@@ -1,6 +1,6 @@
 -- How many steps a legal journal takes, and what holds before each allocation.
 use Rattle.run_ledger.proofs.Common.{◌≡◌, ℕ, zero, suc, ◌+◌, ◌<◌, ◌≤◌, ◌&&◌, ◌||◌, min, Bool, true, false, cond, Option, Some, None, List, [], ◌∷◌, ◌++◌, slice_get, nat_le, nat_lt, refl, ap, sym, subst, ◌∙◌, arith, is_none, inl, inr, ◌⊎◌, false≢true, and_parts, leb-true, leb-false, Kind, Took, Ran, Chunk, Begin, End as EndOf, PutOff, Mark, More, Sweep, Fuel, EntryValue, SettingsValue, ProgramText, TaskStatus, Running, Waiting, Ended, Joined, Task, is_left, can_step, step, asked, Heap, Ledger, with_heap, with_heap_at, heap_at, within, fresh, let_go, emptied, forked_heap, in_use, lacks_room, join_heaps, moved_on, moved_to, settled, stepped_to, allocated_by, allocated_in, task_step, task_steps, on_asked, most_steps, standing, after_kind, after, chunk_units, refusal, long_at, after_all, opening, is_legal_from, StepsAreBounded}
-use Rattle.hh_model.specs.declared.data.End.{End}
+use Rattle.path_laws.specs.below.hh_model.{End}
 use Rattle.run_ledger.proofs.Journals.{entry_tells, out_tells, none_unless}
 
 -- STEPS

@@ -1,37 +1,8 @@
 -- The names of lower crates and of the specifications that these proofs use. Declares nothing.
 pub use Rattle.chunk_sizes.proofs.Filled.{Filled, filled_more, filled_next}
-pub use Rattle.hh_lang.specs.Form.{ProgramText, line_at}
-pub use Rattle.hh_lang.specs.declared.instr.Instr.{Instr}
-pub use Rattle.hh_lang.specs.declared.instr.Instr.TheVariants.{Set, Mov, Movr, Nil, Calc, Same, Jmp, Jz, Newm, Pack, Getr, Geti, Putr, Puti, Cntr, Cnti, Freeze, Cas, Call, Par, Ret, Out}
-pub use Rattle.hh_lang.specs.declared.program.Line.{Line}
-pub use Rattle.hh_model.proofs.Carried.{next_name, named_from_in}
-pub use Rattle.hh_model.proofs.Climbs.{owner_here}
-pub use Rattle.hh_model.proofs.Closed.{asked_at, Closed, closed_step, grown_cases}
-pub use Rattle.hh_model.proofs.Counts.{step_limit, run_on, Counted, counted_step, start_counted}
-pub use Rattle.hh_model.proofs.ForkJoinStates.{IsForkJoinState, empty_rows, start_is_fork_join_state, IsForkJoinStateIn, step_is_fork_join_state}
-pub use Rattle.hh_model.proofs.Next.{packs_are_few}
-pub use Rattle.hh_model.proofs.Paths.{owner_le, owner_same, path_same, owner_joins}
-pub use Rattle.hh_model.proofs.Runs.{waiting, grown_other, three_other, wp, below, running_tells, grown_length, grown_view, grown_view_front, grown_at, wrest_fork, three_length, three_top, three_left, three_right, three_view, parl, parr, dp, drest}
-pub use Rattle.hh_model.proofs.Steps.{step_cases, runs_is, run_names, register_cases}
-pub use Rattle.hh_model.proofs.Stores.{put_cases, made_cases, in_row}
-pub use Rattle.hh_model.proofs.Taken.{step_taken, can_task, can_runs, step_none, can_made}
-pub use Rattle.hh_model.proofs.Tree.{not_above, owner_not_joined}
-pub use Rattle.hh_model.specs.Effect.{onward, Effect, StepContext, effect, made, object_at, counts_in, int_in, or_trap, Goes, Prints, Calls, Forks, Returns, Traps, Stops, row_of, put_object, ref_in, with_object, read_effect, calculated, place_in, same_name}
-pub use Rattle.hh_model.specs.Names.{words_asked, words_for, refs_at, registers, task_names, names_of_references, names_from}
-pub use Rattle.hh_model.specs.Precedence.{precedes}
-pub use Rattle.hh_model.specs.Step.{runs, is_running, child, joined_task, resumed, ended_task, result_of, step, can_step, asked, asked_by, asked_line, fetched, is_left, setting, follow, called, returned, returned_to, last_return, child_ended_by, last_of, result_at, sibling, or_same, join_of, ended_by, frame_limit, depth_limit, is_waiting, is_joined, parents, joined, owner_of, is_on_path, root, start, stepped, run_from, waits, is_over, parent_of, owner_in, goes_on, strand, strand_of, edge}
-pub use Rattle.hh_model.specs.Store.{IsStored}
-pub use Rattle.hh_model.specs.declared.data.Edge.{Edge}
-pub use Rattle.hh_model.specs.declared.data.End.TheVariants.{Trapped, Done}
-pub use Rattle.hh_model.specs.declared.data.Frame.{Frame}
-pub use Rattle.hh_model.specs.declared.data.MachineState.{MachineState}
-pub use Rattle.hh_model.specs.declared.data.Name.{Name}
-pub use Rattle.hh_model.specs.declared.data.Object.{Object}
-pub use Rattle.hh_model.specs.declared.data.Task.{Task}
-pub use Rattle.hh_model.specs.declared.data.TaskStatus.{TaskStatus}
-pub use Rattle.hh_model.specs.declared.data.TaskStatus.TheVariants.{Waiting, Running, Ended, Joined}
-pub use Rattle.hh_model.specs.declared.data.Trap.{Trap}
-pub use Rattle.hh_model.specs.declared.data.Trap.TheVariants.{Size, Range, Frozen, Div, Depth}
+pub use Rattle.path_laws.specs.below.hh_lang.{ProgramText, line_at, Instr, Set, Mov, Movr, Nil, Calc, Same, Jmp, Jz, Newm, Pack, Getr, Geti, Putr, Puti, Cntr, Cnti, Freeze, Cas, Call, Par, Ret, Out, Line}
+pub use Rattle.path_laws.proofs.below.hh_model.{next_name, named_from_in, owner_here, asked_at, Closed, closed_step, grown_cases, step_limit, run_on, Counted, counted_step, start_counted, IsForkJoinState, empty_rows, start_is_fork_join_state, IsForkJoinStateIn, step_is_fork_join_state, packs_are_few, owner_le, owner_same, path_same, owner_joins, waiting, grown_other, three_other, wp, below, running_tells, grown_length, grown_view, grown_view_front, grown_at, wrest_fork, three_length, three_top, three_left, three_right, three_view, parl, parr, dp, drest, step_cases, runs_is, run_names, register_cases, put_cases, made_cases, in_row, step_taken, can_task, can_runs, step_none, can_made, not_above, owner_not_joined}
+pub use Rattle.path_laws.specs.below.hh_model.{onward, Effect, StepContext, effect, made, object_at, counts_in, int_in, or_trap, Goes, Prints, Calls, Forks, Returns, Traps, Stops, row_of, put_object, ref_in, with_object, read_effect, calculated, place_in, same_name, words_asked, words_for, refs_at, registers, task_names, names_of_references, names_from, precedes, runs, is_running, child, joined_task, resumed, ended_task, result_of, step, can_step, asked, asked_by, asked_line, fetched, is_left, setting, follow, called, returned, returned_to, last_return, child_ended_by, last_of, result_at, sibling, or_same, join_of, ended_by, frame_limit, depth_limit, is_waiting, is_joined, parents, joined, owner_of, is_on_path, root, start, stepped, run_from, waits, is_over, parent_of, owner_in, goes_on, strand, strand_of, edge, IsStored, Edge, Trapped, Done, Frame, MachineState, Name, Object, Task, TaskStatus, Waiting, Running, Ended, Joined, Trap, Size, Range, Frozen, Div, Depth}
 pub use Rattle.path_laws.proofs.Disentangled.{start_disentangled, Disentangled, disentangled_step}
 pub use Rattle.path_laws.proofs.Leaves.{waiting_stops, leaves_owner, same_owner}
 pub use Rattle.path_laws.proofs.Objects.{object_later}

@@ -1,6 +1,6 @@
 -- As long as the run goes on, so does the machine.
 use Rattle.run_ledger.proofs.Common.{◌≡◌, ℕ, zero, suc, ◌+◌, Bool, true, false, cond, Option, Some, None, List, [], ◌∷◌, nat_lt, refl, ap, ◌∙◌, ProgramText, Kind, Took, Ran, Chunk, Begin, End as EndOf, PutOff, Mark, More, Sweep, Fuel, EntryValue, SettingsValue, MachineState, step, can_step, asked, Heap, Ledger, RunEnd, Pool, with_heap, with_heap_at, heap_at, in_use, allocated_in, settled, stepped_to, task_step, task_steps, after_kind, after, with_chunk, chunk_units, opening, after_all, MachineGoesOn}
-use Rattle.hh_model.specs.declared.data.End.{End}
+use Rattle.path_laws.specs.below.hh_model.{End}
 use Rattle.run_ledger.proofs.Machine.{stepped_machine}
 
 abbrev pub Goes : Ledger → Type 0

@@ -1,6 +1,6 @@
 -- What a step adds to the store: nothing, or the one object that it allocates; and objects keep their words.
 use Rattle.run_ledger.proofs.Common.{sum_by-append, sum_by-cons, ◌≡◌, ℕ, ℤ, zero, suc, pos, ◌+◌, ◌-◌, ◌==◌, ◌<◌, ◌≤◌, Bool, true, false, cond, Option, Some, None, List, [], ◌∷◌, ◌++◌, length, slice_get, slice_set, replicate, take, ◌⊎◌, inl, inr, refl, ap, ap₂, sym, subst, ◌∙◌, arith, is_some, nat_lt, sum_by, length-set, option_flatten, false≢true, same_Some, length-take, length-replicate, got_within, got_some, none_some, Instr, Set, Mov, Movr, Nil as NilOf, Calc, Same, Jmp, Jz, Newm, Pack, Getr, Geti, Putr, Puti, Cntr, Cnti, Freeze, Cas, Call, Par, Ret, Out, Line, ProgramText, Name, Object, Frame, Task, Trap, Range, Frozen, Div, Size, Depth, Trapped, MachineState, Effect, Goes, Prints, Calls, Forks, Returns, Traps, Stops, StepContext, effect, made, row_of, object_at, put_object, counts_in, int_in, ref_in, or_trap, with_object, read_effect, calculated, place_in, same_name, onward, words_asked, words_for, precedes, IsStored, setting, fetched, step, follow, called, returned, returned_to, last_return, child_ended_by, last_of, result_at, result_of, sibling, is_left, or_same, join_of, ended_by, can_step, is_running, asked, asked_line, frame_limit, depth_limit, put_cases, made_cases, in_row, next_name, IsForkJoinState, empty_rows, asked_at, object_later, made_here, can_runs, step_taken, step_none, store_words, object_words_of, words_at}
-use Rattle.hh_model.specs.declared.data.Trap.TheVariants.{Nil}
+use Rattle.path_laws.specs.below.hh_model.{Nil}
 
 -- WORDS OF A STORE
 

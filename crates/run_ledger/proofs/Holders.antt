@@ -1,6 +1,6 @@
 -- Which worker holds which task.
 use Rattle.run_ledger.proofs.Common.{◌≡◌, ℕ, zero, suc, ◌+◌, ◌-◌, Bool, true, false, cond, Option, Some, None, List, [], ◌∷◌, ◌++◌, slice_get, slice_set, nat_lt, inl, inr, refl, ap, sym, subst, ◌∙◌, is_some, is_none, eq-eqb, false≢true, both_ways, cases_eq, and_parts, got_same, got_other, none_some, Kind, Took, Ran, Chunk, Begin, End as EndOf, PutOff, Mark, More, Sweep, Fuel, SettingsValue, ProgramText, Name, TaskStatus, Running, Waiting, Ended, Joined, Task, MachineState, step, can_step, asked, is_running, is_left, next_name, option_is, Heap, Ledger, RunEnd, Pool, heap_at, heap_of, or_fresh, with_heap, with_heap_at, with_allocation, is_small_size, fresh, forked_heap, emptied, let_go, within, in_use, collected, swept_heap, put_last, chunk_words, allocated_by, allocated_in, settled, moved_on, moved_to, join_heaps, stepped_to, task_step, task_steps, on_asked, kind_refusal, after_kind, is_ready, is_out, out_from, refused_holding, with_chunk, chunk_units, opening, ledger_of, TasksAreOutOnce}
-use Rattle.hh_model.specs.declared.data.End.{End}
+use Rattle.path_laws.specs.below.hh_model.{End}
 use Rattle.run_ledger.proofs.Machine.{stepped_machine}
 use Rattle.run_ledger.proofs.Sound.{SoundLedger, collecting}
 use Rattle.run_ledger.proofs.Moves.{moves_each}

@@ -1,6 +1,6 @@
 -- The machine of a journal's accounts is the run of the journal's steps.
 use Rattle.run_ledger.proofs.Common.{◌≡◌, ℕ, zero, suc, ◌+◌, ◌-◌, Bool, true, false, cond, Option, Some, None, List, [], ◌∷◌, ◌++◌, slice_get, replicate, nat_lt, refl, ap, sym, ◌∙◌, arith, cond-false, Kind, Took, Ran, Chunk, Begin, End as EndOf, PutOff, Mark, More, Sweep, Fuel, EntryValue, SettingsValue, ProgramText, TaskStatus, Running, Waiting, Ended, Joined, Task, MachineState, is_left, can_step, or_same, stepped, fetched, step, asked, run_from, run_on, Heap, Ledger, with_heap, with_heap_at, heap_at, within, fresh, let_go, emptied, forked_heap, in_use, join_heaps, moved_on, moved_to, settled, stepped_to, allocated_in, task_step, task_steps, after_kind, after, chunk_units, after_all, opening, tasks_in, tasks_of, EntriesMoveMachine, MachineIsRun}
-use Rattle.hh_model.specs.declared.data.End.{End}
+use Rattle.path_laws.specs.below.hh_model.{End}
 
 -- n steps of a task and then k more
 pub task_steps_more : (p : ProgramText) (t n k : ℕ) (l : Ledger) → task_steps p l t (n + k) ≡ task_steps p (task_steps p l t n) t k

@@ -1,6 +1,6 @@
 -- A step of a task keeps the invariant of heaps.
 use Rattle.run_ledger.proofs.Common.{◌≡◌, ℕ, ℤ, zero, suc, ◌+◌, ◌<◌, ◌≤◌, Bool, true, false, cond, Option, Some, None, List, [], ◌∷◌, ◌++◌, length, slice_get, slice_set, ◌⊎◌, inl, inr, refl, ap, sym, subst, ◌∙◌, arith, length-set, length-append, is_some, cases_eq, cases_lt, both_ways, false≢true, same_Some, fun_ext, In, got_same, got_other, got_front, got_past, got_within, same_view, in_append_left, ProgramText, Name, TaskStatus, Running, Waiting, Ended, Joined, Task, Done, MachineState, onward, int_in, ref_in, names_of_references, registers, names_from, task_names, runs, waits, is_over, is_running, is_waiting, is_joined, parent_of, parents, joined, owner_in, owner_of, is_on_path, child, step, can_step, goes_on, asked, ended_task, result_of, ended_by, strand, strand_of, edge, owner_le, owner_same, path_same, not_above, owner_not_joined, next_name, named_from_in, waiting, running_tells, grown_length, grown_view, grown_view_front, grown_at, grown_other, wrest_fork, below, IsForkJoinStateIn, step_is_fork_join_state, step_cases, runs_is, register_cases, Closed, closed_step, grown_cases, owner_here, Disentangled, disentangled_step, Heap, Ledger, frames_of, within, with_allocation, with_heap_at, fresh, let_go, forked_heap, allocated_by, allocated_in, moved_on, moved_to, settled, stepped_to, task_step, task_steps}
-use Rattle.hh_model.specs.declared.data.End.{End}
+use Rattle.path_laws.specs.below.hh_model.{End}
 use Rattle.run_ledger.proofs.Held.{placed_cases, placed_old, placed_new, placed_begun}
 use Rattle.run_ledger.proofs.Sound.{heap_names, InHeaps, SomeHeapHas, Owners, Spares, collecting, snapshot_at, survivors_at, Sound, SoundLedger, closed_same, frozen, renewed}
 pub use Rattle.run_ledger.specs.Sound.{SoundAt}

@@ -1,7 +1,7 @@
 -- The accounts of a task's steps: allocations, forks, ends and joins; and which steps are private, due or in need.
 use Rattle.std.specs.Prelude.{ℕ, zero, suc, ◌+◌, ◌-◌, ◌==◌, ◌&&◌, ◌||◌, not, Bool, true, false, Option, Some, None, List, [], ◌∷◌, ◌++◌, slice_get, length, if◌then◌else◌, nat_le, is_none}
 use Rattle.run_ledger.specs.Common.{is_empty, private_limit, SettingsValue, Instr, Getr, Geti, Putr, Puti, Cntr, Cnti, Freeze, Cas, Par, Ret, Out, Line, ProgramText, Name, Object, Frame, TaskStatus, Running, Waiting, Ended, Joined, Task, MachineState, object_at, row_of, ref_in, step, can_step, fetched, asked, owner_of, is_left, is_on_path}
-use Rattle.hh_model.specs.declared.data.End.{End}
+use Rattle.path_laws.specs.below.hh_model.{End}
 use Rattle.run_ledger.specs.declared.data.Ledger.{Ledger}
 use Rattle.run_ledger.specs.declared.data.RunEnd.TheVariants.{Machine}
 use Rattle.run_ledger.specs.Heaps.{heap_of, with_heap, within, with_allocation, lacks_room, fresh, forked_heap, merged, emptied, let_go}

@@ -4,7 +4,7 @@ use Rattle.std.specs.List.{flat_map}
 use Rattle.std.specs.Fmt.{decimal, signed_decimal}
 use Rattle.run_ledger.specs.Common.{EntryValue, SettingsValue, trace_text, ProgramText, Trap, Nil, Range, Frozen, Div, Size, Depth, Done, Trapped, Entangled}
 pub use Rattle.run_trace.specs.Line.{line}
-use Rattle.hh_model.specs.declared.data.End.{End}
+use Rattle.path_laws.specs.below.hh_model.{End}
 use Rattle.run_ledger.specs.declared.data.RunEnd.{RunEnd}
 use Rattle.run_ledger.specs.declared.data.RunEnd.TheVariants.{Machine, Fuel, Pool}
 use Rattle.run_ledger.specs.declared.data.Report.{Report}

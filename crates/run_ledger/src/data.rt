@@ -1,7 +1,7 @@
 // The plain data of a journal's accounts: heaps, the ledger, how a run ends, why an entry is refused, the report and
 // the pace.
 
-use hh_model::{End, MachineState, Name, Strand};
+use path_laws::{End, MachineState, Name, Strand};
 use plain_vec::Listed;
 
 /// How a run ended.

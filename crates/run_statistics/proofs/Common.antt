@@ -1,10 +1,5 @@
 -- The names of lower crates and of the specifications that these proofs use. Declares nothing.
-pub use Rattle.entry_calls.specs.Calls.{GetsChunk, EndsForFuel, BeginsLeaf, EndsLeaf, BeginsMarking, MarksMore, PutsOff, EntersLeaving, EntersLent, EntersSteps, SweepsHeap, TakesTask}
-pub use Rattle.entry_calls.specs.Ran.{LentTo, RanTo, LeavesBy, LeavesPart}
-pub use Rattle.entry_calls.specs.declared.answers.Leaving.{Leaving}
-pub use Rattle.entry_calls.specs.declared.answers.Lent.TheVariants.{Goes, Leaves}
-pub use Rattle.entry_calls.specs.declared.answers.Lent.{Lent}
-pub use Rattle.entry_calls.specs.declared.answers.Ran.TheVariants.{Forked, Ended, Over, Done}
+pub use Rattle.shared_tree.specs.below.entry_calls.{GetsChunk, EndsForFuel, BeginsLeaf, EndsLeaf, BeginsMarking, MarksMore, PutsOff, EntersLeaving, EntersLent, EntersSteps, SweepsHeap, TakesTask, LentTo, RanTo, LeavesBy, LeavesPart, Leaving, Goes, Leaves, Lent, Forked, Ended, Over, Done}
 pub use Rattle.heap_reading.proofs.KeptNames.{counted_few, counted_more, task_slots_few, kept_before, kept_task_slots, kept_more, objects_few, words_few, none_of, nothing_kept, objects_are, runs_is, words_kept}
 pub use Rattle.heap_reading.proofs.below.core_invariant.{words_are}
 pub use Rattle.heap_reading.proofs.below.journal_laws.{waiters_are_free, idle_then}

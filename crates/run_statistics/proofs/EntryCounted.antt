@@ -1,7 +1,6 @@
 -- What is recorded of the entries of a journal, over one more entry.
 use Rattle.run_statistics.proofs.Common.{◌≡◌, ℕ, zero, suc, ◌+◌, ◌-◌, ◌<◌, ◌==◌, ◌^◌, Bool, true, false, cond, Some, None, List, [], ◌∷◌, ◌++◌, length, length-set, slice_get, slice_set, inl, inr, refl, ap, ap₂, sym, subst, ◌∙◌, is_some, arith, length-append, first_worker, cases_eq, eqb-true, ltb-true, same_Some, got_back, got_other, got_set, ProgramText, Kind, Took, Ran, Chunk, Begin, End as EndOf, PutOff, Mark, More, Sweep, Fuel, EntryValue, SettingsValue, MachineState, is_running, is_waiting, waiting_stops, Ledger, after, after_kind, collected, heap_of, held_in, in_use, swept_heap, with_heap, words_in, words_sum, ledger_of, opening, lost, begins, heap_machine, legal_then, held_words, saturating_words as counted64, SumsFit, cleared_words, entry_totals, totals_joined, no_totals, totals_from, legal_few, lost_is, totals_last, Private, NotEntered, NoMemory, Refuses, Enters, refused, WorkerPartFits, IsSharedValue, SharedValue, accounts, alone_entry, IsUnchanged, Forked as ForksInto, Ended as EndsWith, Over as IsOver, Done as IsDone, Leaving, Lent, Goes as GoesOn, Leaves, LentTo, RanTo, entered_accounts, held_unless_running, counted_few, JournalCounts, HasWords, IsMade, CountsJournal, begun_with, totals_of, counted}
-use Rattle.entry_calls.specs.declared.answers.Ran.{Ran as RanOf}
-use Rattle.entry_calls.specs.declared.answers.Lent.TheVariants.{Over as HasEnded}
+use Rattle.shared_tree.specs.below.entry_calls.{Ran as RanOf, HasEnded}
 use Rattle.run_statistics.proofs.BegunCollections.{WentOn, begin_apart, begin_words, begin_worker, end_begun, end_left, end_worker, entry_worker, sweep_waits, went_on}
 use Rattle.run_statistics.proofs.PartWords.{part_words, words_small}
 

@@ -3,10 +3,11 @@
 use crate::counted::Counted;
 use crate::counting::JournalCounts;
 use crate::held_words::words_held;
-use entry_calls::{BlockSource, Leaving, Lent, NotEnded, NotLeft, PartBlock, PartInBlock, Ran};
 use heap_reading::{Addr, Moved, Private, Program, Refused, Settings, ToChunks};
 use legal_calls::LegalCalls;
-use shared_tree::{NotEntered, Shared};
+use shared_tree::{
+    BlockSource, Leaving, Lent, NotEnded, NotEntered, NotLeft, PartBlock, PartInBlock, Ran, Shared,
+};
 use std::alloc::{AllocError, Global};
 
 impl LegalCalls for Counted {

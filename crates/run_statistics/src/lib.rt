@@ -14,6 +14,7 @@ pub use heap_reading::{
 pub use held_words::held;
 pub use legal_calls::LegalCalls;
 pub use shared_tree::{
-    Fork, Leaving, Lent, NotEnded, NotEntered, Pace, PreviousKind, Ran, Remains, Shared, fork_in,
-    is_joined, marking_cause, waiting_cause,
+    BlockSource, EntryCalls, Fork, Leaving, Lent, NotEnded, NotEntered, NotLeft, Pace, PartBlock,
+    PartInBlock, PreviousKind, Ran, Remains, Shared, fork_in, is_joined, marking_cause,
+    waiting_cause,
 };

@@ -2,16 +2,15 @@
 
 ghost use Rattle.std.specs.Prelude.{◌≡◌, ◌≤◌, ◌+◌, length, IfOk, IfErr, None};
 ghost use Rattle.run_trace.specs.Line.{trace_line};
-ghost use Rattle.run_trace.specs.Trace.{version_by, version_of_words, version_of, first_bad, entries_in, trace_fault, IsTraceText, NotesLine};
-ghost use Rattle.run_trace.specs.Trace.{trace_text as text_of};
+ghost use Rattle.run_trace.specs.Trace.{version_by, version_of_words, version_of, first_bad, entries_in, trace_fault, IsTraceText, NotesLine, trace_text as text_of};
 ghost use Rattle.text_lines.specs.Lines.{lines_of, words_of, most_bytes};
 ghost use Rattle.or_no_memory.specs.Refusals.{Reports};
 
 use crate::entry::Entry;
 use crate::line::{TraceLine, add_entry, read_line};
 use crate::settings::Version;
+use hh_lang::Listed;
 use or_no_memory::OrNoMemory;
-use plain_vec::Listed;
 use std::alloc::{AllocError, Global};
 use text_lines::{next_line, next_word};
 

@@ -1,8 +1,8 @@
 -- The one entry of a part's fresh steps and its next one, which isn't private: what that step is.
 use Rattle.std.specs.Prelude.{◌≡◌, ℕ, true, Option, Some, None}
-use Rattle.leaf_collections.specs.below.task_machine.{Private}
-use Rattle.leaf_collections.specs.below.core_invariant.{SharedValue, WorkerPartFits, refused, is_beyond}
-use Rattle.fork_join_commit.specs.below.step_commit.{IsBeyond, alone_entry, machine_after}
+use Rattle.entry_calls.specs.below.task_machine.{Private}
+use Rattle.entry_calls.specs.below.core_invariant.{SharedValue, WorkerPartFits, refused, is_beyond}
+use Rattle.entry_calls.specs.below.step_commit.{IsBeyond, alone_entry, machine_after}
 use Rattle.remote_access.specs.Other.{IsOther}
 use Rattle.entry_calls.specs.declared.answers.Leaving.{Leaving}
 use Rattle.entry_calls.specs.declared.answers.Lent.{Lent}

@@ -1,11 +1,11 @@
 // A part gets a chunk.
 
 ghost use Rattle.std.specs.Prelude.{◌≡◌, ◌<◌, OnErr, OnOk, None};
-ghost use Rattle.leaf_collections.specs.below.core_invariant.{refused, Enters, IsSamePart, WorkerPartFits, OthersFit};
+ghost use Rattle.entry_calls.specs.below.core_invariant.{refused, Enters, IsSamePart, WorkerPartFits, OthersFit};
 ghost use Rattle.entry_calls.specs.Calls.{GetsChunk};
 
 use crate::shared::Shared;
-use leaf_collections::{
+use entry_calls::{
     Entry, Kind, NotEntered, NotTaken, Private, Refused, RunEnd, cause_by, first_cause, units_for,
     words_asked,
 };

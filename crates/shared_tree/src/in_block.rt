@@ -2,22 +2,20 @@
 // it is parked or joined, and then the block is kept.
 
 ghost use Rattle.std.specs.Prelude.{◌≡◌, ◌≤◌, ◌<◌, ◌+◌, ◌-◌, ◌^◌, ◌++◌, ◌∷◌, [], IsSome, OnErr, OnOk, IfOk, None, Some, true, length, slice_get, slice_set};
-ghost use Rattle.leaf_collections.specs.below.run_trace.{private_limit, fuel_limit, worker_limit};
-ghost use Rattle.leaf_collections.specs.below.hh_model.{depth_limit};
-ghost use Rattle.leaf_collections.specs.below.heap_tree.{depth_of, forked, state_of};
-ghost use Rattle.leaf_collections.specs.below.core_invariant.{rest_at};
-ghost use Rattle.core_invariant.specs.WorkerPartFits.{taken_part, HasFrames};
-ghost use Rattle.leaf_collections.specs.below.task_frames.{FramesValue};
-ghost use Rattle.leaf_collections.specs.below.task_slots.{marks_at};
-ghost use Rattle.fork_join_commit.specs.below.step_commit.{alone_entry, ended_rest};
-ghost use Rattle.fork_join_commit.specs.Forks.{begun_rest, part_child, waiting_rest, SetsFork};
-ghost use Rattle.fork_join_commit.specs.Joins.{own_child, GetsPlaces, SameButPlacesOf};
+ghost use Rattle.entry_calls.specs.below.run_trace.{private_limit, fuel_limit, worker_limit};
+ghost use Rattle.entry_calls.specs.below.hh_model.{depth_limit};
+ghost use Rattle.entry_calls.specs.below.heap_tree.{depth_of, forked, state_of};
+ghost use Rattle.entry_calls.specs.below.core_invariant.{rest_at, taken_part, HasFrames};
+ghost use Rattle.entry_calls.specs.below.task_frames.{FramesValue};
+ghost use Rattle.entry_calls.specs.below.task_slots.{marks_at};
+ghost use Rattle.entry_calls.specs.below.step_commit.{alone_entry, ended_rest};
+ghost use Rattle.entry_calls.specs.below.fork_join_commit.{begun_rest, part_child, waiting_rest, SetsFork, own_child, GetsPlaces, SameButPlacesOf};
 
 use crate::steps_entered;
-use core_invariant::{Child, EndedChild, ParkedTask, TaskSlot, TaskSlots, Work};
-use entry_calls::{BlockSource, PartBlock, PartInBlock};
-use fork_join_commit::ForkBlocks;
-use leaf_collections::{BoxedSlot, Entry, Marking, ReservedVec, TaskState, Tree};
+use entry_calls::{
+    BlockSource, BoxedSlot, Child, EndedChild, Entry, ForkBlocks, Marking, ParkedTask, PartBlock,
+    PartInBlock, ReservedVec, TaskSlot, TaskSlots, TaskState, Tree, Work,
+};
 use std::alloc::AllocError;
 
 /// The part of a task that no worker held.
@@ -36,7 +34,7 @@ pub(crate) fn opened(
     ensures heap { result.heap ≡ rest.heap }
     ensures idle { result.begun ≡ None }
 {
-    block.fill(leaf_collections::opened(rest, task, leaf_limit, field_limit))
+    block.fill(entry_calls::opened(rest, task, leaf_limit, field_limit))
 }
 
 /// Counts the fresh steps of a part and its next one, and makes one entry of all of them.
@@ -78,7 +76,7 @@ pub(crate) fn grow(
     ensures right_child { IfOk result (λ two. two.1 ≡ part_child part.now (length tree.old + 1) right two.1.heap.slots two.1.heap.spare) }
     ensures same_tree { OnErr result (tree.new ≡ tree.old) }
 {
-    fork_join_commit::grow(tree, task_slots, part.get(), left, right)
+    entry_calls::grow(tree, task_slots, part.get(), left, right)
 }
 
 /// The slots after a task has forked, within the reserved capacity and blocks: its own has its parked state, keeps
@@ -103,7 +101,7 @@ pub(crate) fn fork_task_slots(
     ensures marks { task_slots.new.marks ≡ slice_set task_slots.old.marks part.task None ++ None ∷ (None ∷ []) }
     ensures marked { result ≡ marks_at task_slots.old.marks part.task }
 {
-    fork_join_commit::fork_task_slots(task_slots, blocks.unpack(part), left, right, two)
+    entry_calls::fork_task_slots(task_slots, blocks.unpack(part), left, right, two)
 }
 
 /// The parked state of a task whose last frame returned.
@@ -111,7 +109,7 @@ pub(crate) fn fork_task_slots(
 pub(crate) fn at_end(blocks: &mut BlockSource, part: PartInBlock) -> ParkedTask
     ensures { result ≡ ended_rest part }
 {
-    fork_join_commit::at_end(blocks.unpack(part))
+    entry_calls::at_end(blocks.unpack(part))
 }
 
 /// Reserves capacity in the slot of a task for all that two of its children bring: a part, and its sibling, which has
@@ -128,7 +126,7 @@ pub(crate) fn make_places(
     ensures same { SameButPlacesOf task_slots.old task_slots.new parent }
     ensures places { OnOk result (GetsPlaces task_slots.old task_slots.new part.now parent) }
 {
-    fork_join_commit::make_places(task_slots, part.get(), parent)
+    entry_calls::make_places(task_slots, part.get(), parent)
 }
 
 /// What a join takes of the worker's own child: its part, and what was left in its slot.
@@ -136,5 +134,5 @@ pub(crate) fn make_places(
 pub(crate) fn own_child(blocks: &mut BlockSource, part: PartInBlock, slot: TaskSlot) -> EndedChild
     ensures { result ≡ own_child part slot.set.remembered }
 {
-    fork_join_commit::own_child(blocks.unpack(part), slot)
+    entry_calls::own_child(blocks.unpack(part), slot)
 }

@@ -1,11 +1,11 @@
 // A leaf collection of a part begins.
 
 ghost use Rattle.std.specs.Prelude.{◌≡◌, ◌<◌, IfOk, OnErr, OnOk, None};
-ghost use Rattle.leaf_collections.specs.below.core_invariant.{refused, Enters, IsSamePart, WorkerPartFits, OthersFit, CopyingHasBegun};
+ghost use Rattle.entry_calls.specs.below.core_invariant.{refused, Enters, IsSamePart, WorkerPartFits, OthersFit, CopyingHasBegun};
 ghost use Rattle.entry_calls.specs.Calls.{BeginsLeaf};
 
 use crate::shared::Shared;
-use leaf_collections::{
+use entry_calls::{
     Addr, Entry, Kind, NotEntered, Private, Refused, ToChunks, begin_with, chunks_for, due_cause,
     first_cause, words_asked,
 };

@@ -1,13 +1,12 @@
 // The leaf collection of a part ends.
 
 ghost use Rattle.std.specs.Prelude.{◌≡◌, ◌<◌, None};
-ghost use Rattle.leaf_collections.specs.below.core_invariant.{refused, Enters, WorkerPartFits, OthersFit};
-ghost use Rattle.leaf_collections.specs.LeafEnd.{end_entry, without_collection, FitsCopied};
+ghost use Rattle.entry_calls.specs.below.core_invariant.{refused, Enters, WorkerPartFits, OthersFit};
+ghost use Rattle.entry_calls.specs.below.leaf_collections.{end_entry, without_collection, FitsCopied};
 ghost use Rattle.entry_calls.specs.Calls.{EndsLeaf};
 
 use crate::shared::Shared;
-use entry_calls::NotEnded;
-use leaf_collections::{Entry, Kind, Moved, Private, Refused, first_cause, give_all, lead};
+use entry_calls::{Entry, Kind, Moved, NotEnded, Private, Refused, first_cause, give_all, lead};
 
 impl Shared {
     // Makes the entry.

@@ -1,10 +1,10 @@
 // The contents of the shared value, to be read.
 
 ghost use Rattle.std.specs.Prelude.{◌≡◌, length};
-ghost use Rattle.leaf_collections.specs.below.core_invariant.{accounts};
+ghost use Rattle.entry_calls.specs.below.core_invariant.{accounts};
 
 use crate::shared::Shared;
-use leaf_collections::{Heaps, Pool, Tree};
+use entry_calls::{Heaps, Pool, Tree};
 
 impl Shared {
     /// The number of tasks made.

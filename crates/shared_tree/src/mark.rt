@@ -1,15 +1,15 @@
 // The marking of a heap begins.
 
 ghost use Rattle.std.specs.Prelude.{◌≡◌, ◌<◌, ℕ, IfOk, OnErr, OnOk, None};
-ghost use Rattle.leaf_collections.specs.below.run_ledger.{heap_of};
-ghost use Rattle.leaf_collections.specs.below.refinement.{CanGoOnMarking};
-ghost use Rattle.leaf_collections.specs.below.core_invariant.{refused, Enters, EachPartStillFits, accounts, value_of};
+ghost use Rattle.entry_calls.specs.below.run_ledger.{heap_of};
+ghost use Rattle.entry_calls.specs.below.refinement.{CanGoOnMarking};
+ghost use Rattle.entry_calls.specs.below.core_invariant.{refused, Enters, EachPartStillFits, accounts, value_of};
 ghost use Rattle.entry_calls.specs.Calls.{BeginsMarking};
 
 use crate::shared::Shared;
-use heap_marking::{begin_marking, waiting_cause, words_cause};
-use leaf_collections::{
-    BoxedSlot, Entry, Kind, Marking, MarkingRoom, NotEntered, Refused, first_cause,
+use entry_calls::{
+    BoxedSlot, Entry, Kind, Marking, MarkingRoom, NotEntered, Refused, begin_marking, first_cause,
+    waiting_cause, words_cause,
 };
 use std::alloc::AllocError;
 use std::mem;

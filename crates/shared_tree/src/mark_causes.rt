@@ -1,10 +1,10 @@
 // What is known of the heap of a waiting task, and what is left of it to mark.
 
 ghost use Rattle.std.specs.Prelude.{◌≡◌, ◌==◌, None};
-ghost use Rattle.leaf_collections.specs.below.run_ledger.{heap_of, left_in, words_in};
-ghost use Rattle.leaf_collections.specs.below.leaf_heap.{saturating_words};
-ghost use Rattle.leaf_collections.specs.below.core_invariant.{accounts};
-ghost use Rattle.heap_marking.specs.MarkCauses.{marking_cause, waiting_cause};
+ghost use Rattle.entry_calls.specs.below.run_ledger.{heap_of, left_in, words_in};
+ghost use Rattle.entry_calls.specs.below.leaf_heap.{saturating_words};
+ghost use Rattle.entry_calls.specs.below.core_invariant.{accounts};
+ghost use Rattle.entry_calls.specs.below.heap_marking.{marking_cause, waiting_cause};
 
 use crate::shared::Shared;
 

@@ -1,14 +1,13 @@
 // Objects of a heap are marked.
 
 ghost use Rattle.std.specs.Prelude.{◌≡◌, ◌<◌, ◌≤◌, ℕ, None, min};
-ghost use Rattle.leaf_collections.specs.below.run_trace.{mark_limit};
-ghost use Rattle.leaf_collections.specs.below.run_ledger.{heap_of, left_in};
-ghost use Rattle.leaf_collections.specs.below.core_invariant.{refused, Enters, EachPartStillFits, accounts};
+ghost use Rattle.entry_calls.specs.below.run_trace.{mark_limit};
+ghost use Rattle.entry_calls.specs.below.run_ledger.{heap_of, left_in};
+ghost use Rattle.entry_calls.specs.below.core_invariant.{refused, Enters, EachPartStillFits, accounts};
 ghost use Rattle.entry_calls.specs.Calls.{MarksMore};
 
 use crate::shared::Shared;
-use heap_marking::marking_cause;
-use leaf_collections::{Entry, Kind, Refused, first_cause};
+use entry_calls::{Entry, Kind, Refused, first_cause, marking_cause};
 
 impl Shared {
     // Why the entry is refused.

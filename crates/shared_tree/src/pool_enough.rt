@@ -1,11 +1,11 @@
 // Whether enough chunks are free for a leaf collection of a part.
 
 ghost use Rattle.std.specs.Prelude.{◌≡◌};
-ghost use Rattle.leaf_collections.specs.below.run_ledger.{is_pool_enough};
-ghost use Rattle.leaf_collections.specs.below.core_invariant.{IsOutPart, accounts};
+ghost use Rattle.entry_calls.specs.below.run_ledger.{is_pool_enough};
+ghost use Rattle.entry_calls.specs.below.core_invariant.{IsOutPart, accounts};
 
 use crate::shared::Shared;
-use leaf_collections::{Private, chunks_for};
+use entry_calls::{Private, chunks_for};
 
 impl Shared {
     /// Whether enough chunks are free for a leaf collection of a part.

@@ -1,11 +1,11 @@
 // A leaf collection is put off.
 
 ghost use Rattle.std.specs.Prelude.{◌≡◌, ◌<◌, None};
-ghost use Rattle.leaf_collections.specs.below.core_invariant.{refused, Enters, WorkerPartFits, OthersFit};
+ghost use Rattle.entry_calls.specs.below.core_invariant.{refused, Enters, WorkerPartFits, OthersFit};
 ghost use Rattle.entry_calls.specs.Calls.{PutsOff};
 
 use crate::shared::Shared;
-use leaf_collections::{Entry, Kind, Private, Refused, due_cause, first_cause, words_asked};
+use entry_calls::{Entry, Kind, Private, Refused, due_cause, first_cause, words_asked};
 
 impl Shared {
     // Why the entry is refused.

@@ -1,17 +1,16 @@
 // A part's steps are committed with one that isn't private and involves no other task.
 
 ghost use Rattle.std.specs.Prelude.{◌≡◌, ◌≢◌, ◌<◌, ℕ, OnErr, OnOk, IfErr, IfOk, None};
-ghost use Rattle.leaf_collections.specs.below.hh_model.{ended_by, step};
-ghost use Rattle.leaf_collections.specs.below.core_invariant.{refused, EntersOrRefuses, RanAnswers, WorkerPartFits};
-ghost use Rattle.fork_join_commit.specs.below.step_commit.{alone_entry, then_accounts, FinishesAlone, GoesAlone, HaltsAlone, IsShared, EndingTells};
+ghost use Rattle.entry_calls.specs.below.hh_model.{ended_by, step};
+ghost use Rattle.entry_calls.specs.below.core_invariant.{refused, EntersOrRefuses, RanAnswers, WorkerPartFits};
+ghost use Rattle.entry_calls.specs.below.step_commit.{alone_entry, then_accounts, FinishesAlone, GoesAlone, HaltsAlone, IsShared, EndingTells};
 ghost use Rattle.shared_tree.specs.StepEnd.{AloneTo, MayBeEntered};
 
 use crate::shared::Shared;
 use crate::steps_entered::enter_alone;
-use entry_calls::{Leaving, Lent};
-use fork_join_commit::at_end;
-use leaf_collections::{
-    End, Ending, NotEntered, NotRan, Private, Refused, RunEnd, TaskState, first_cause, last_step,
+use entry_calls::{
+    End, Ending, Leaving, Lent, NotEntered, NotRan, Private, Refused, RunEnd, TaskState, at_end,
+    first_cause, last_step,
 };
 use std::alloc::AllocError;
 

@@ -1,19 +1,19 @@
 // A part's steps are committed with the last return of a task that isn't the root.
 
 ghost use Rattle.std.specs.Prelude.{◌≡◌, ◌<◌, OnErr, OnOk, IfErr, IfOk, None, Some, slice_set};
-ghost use Rattle.leaf_collections.specs.below.heap_tree.{parent_of, state_of, sibling};
-ghost use Rattle.leaf_collections.specs.below.core_invariant.{refused, EachPartStillFits, WorkerPartFits};
-ghost use Rattle.fork_join_commit.specs.below.step_commit.{alone_entry};
-ghost use Rattle.fork_join_commit.specs.ChildEnds.{EndsChild, IsAtEnd};
-ghost use Rattle.fork_join_commit.specs.Joins.{HasPlaces, IsUnchanged, SameButPlaces};
+ghost use Rattle.entry_calls.specs.below.heap_tree.{parent_of, state_of, sibling};
+ghost use Rattle.entry_calls.specs.below.core_invariant.{refused, EachPartStillFits, WorkerPartFits};
+ghost use Rattle.entry_calls.specs.below.step_commit.{alone_entry};
+ghost use Rattle.entry_calls.specs.below.fork_join_commit.{EndsChild, IsAtEnd, HasPlaces, IsUnchanged, SameButPlaces};
 ghost use Rattle.entry_calls.specs.Ends.{LeavingAnswers};
 ghost use Rattle.shared_tree.specs.StepEnd.{MayBeEntered};
 
 use crate::in_block::{at_end, enter_alone, make_places, own_child};
 use crate::shared::Shared;
-use entry_calls::{BlockSource, NotLeft, PartInBlock};
-use fork_join_commit::{in_order, is_ended, join_children, other_child};
-use leaf_collections::{NotEntered, SetOf, TaskState, sibling_of};
+use entry_calls::{
+    BlockSource, NotEntered, NotLeft, PartInBlock, SetOf, TaskState, in_order, is_ended,
+    join_children, other_child, sibling_of,
+};
 use std::alloc::AllocError;
 
 impl Shared {

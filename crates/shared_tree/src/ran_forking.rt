@@ -1,20 +1,19 @@
 // A part's steps are committed with a fork.
 
 ghost use Rattle.std.specs.Prelude.{◌≡◌, ◌≤◌, ◌<◌, ℕ, OnErr, OnOk, IfErr, IfOk, None, slice_set};
-ghost use Rattle.leaf_collections.specs.below.hh_model.{depth_limit};
-ghost use Rattle.leaf_collections.specs.below.heap_tree.{depth_of};
-ghost use Rattle.leaf_collections.specs.below.core_invariant.{refused, WorkerPartFits};
-ghost use Rattle.fork_join_commit.specs.below.step_commit.{alone_entry, HaltsAlone};
-ghost use Rattle.fork_join_commit.specs.Forks.{ForksOn, ForksTo, IsAtFork};
+ghost use Rattle.entry_calls.specs.below.hh_model.{depth_limit};
+ghost use Rattle.entry_calls.specs.below.heap_tree.{depth_of};
+ghost use Rattle.entry_calls.specs.below.core_invariant.{refused, WorkerPartFits};
+ghost use Rattle.entry_calls.specs.below.step_commit.{alone_entry, HaltsAlone};
+ghost use Rattle.entry_calls.specs.below.fork_join_commit.{ForksOn, ForksTo, IsAtFork};
 ghost use Rattle.entry_calls.specs.Calls.{EntersLeaving};
 ghost use Rattle.shared_tree.specs.StepEnd.{MayBeEntered};
 
 use crate::in_block::{enter_alone, fork_task_slots, grow};
 use crate::shared::Shared;
-use entry_calls::{BlockSource, NotLeft, PartInBlock, Ran};
-use fork_join_commit::ForkBlocks;
-use leaf_collections::{
-    BoxedSlot, DEPTH_LIMIT, End, Instr, Marking, MarkingRoom, NotEntered, Private, Trap,
+use entry_calls::{
+    BlockSource, BoxedSlot, DEPTH_LIMIT, End, ForkBlocks, Instr, Marking, MarkingRoom, NotEntered,
+    NotLeft, PartInBlock, Private, Ran, Trap,
 };
 
 // Keeps the buffers of the marking that is abandoned, if there is one, for the next marking.

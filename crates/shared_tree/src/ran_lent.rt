@@ -1,16 +1,15 @@
 // A part's steps are committed with its next one, which isn't private, unless that one gives the part up.
 
 ghost use Rattle.std.specs.Prelude.{◌≡◌, ◌<◌, OnErr, IfErr, IfOk, None};
-ghost use Rattle.leaf_collections.specs.below.core_invariant.{refused, EntersOrRefuses, EachPartStillFits, WorkerPartFits};
-ghost use Rattle.fork_join_commit.specs.below.step_commit.{alone_entry, IsShared};
-ghost use Rattle.fork_join_commit.specs.Joins.{IsUnchanged};
+ghost use Rattle.entry_calls.specs.below.core_invariant.{refused, EntersOrRefuses, EachPartStillFits, WorkerPartFits};
+ghost use Rattle.entry_calls.specs.below.step_commit.{alone_entry, IsShared};
+ghost use Rattle.entry_calls.specs.below.fork_join_commit.{IsUnchanged};
 ghost use Rattle.entry_calls.specs.Calls.{EntersLent};
 ghost use Rattle.shared_tree.specs.StepEnd.{ComesTo, IsJoint, MayBeEntered};
 ghost use Rattle.entry_calls.specs.Ran.{LentTo};
 
 use crate::shared::Shared;
-use entry_calls::{Leaving, Lent};
-use leaf_collections::{Instr, NotEntered, Private};
+use entry_calls::{Instr, Leaving, Lent, NotEntered, Private};
 
 impl Shared {
     // How the part's next step, which involves other tasks, gives it up; None if it works on an object of another task.

@@ -1,17 +1,16 @@
 // A part's steps are committed with one that works on an object of another task.
 
 ghost use Rattle.std.specs.Prelude.{◌≡◌, ◌<◌, ℕ, OnErr, IfErr, IfOk, None};
-ghost use Rattle.leaf_collections.specs.below.core_invariant.{refused, EntersOrRefuses, EachPartStillFits, WorkerPartFits};
-ghost use Rattle.fork_join_commit.specs.below.step_commit.{alone_entry, GoesAlone, IsShared};
-ghost use Rattle.fork_join_commit.specs.Joins.{IsUnchanged};
+ghost use Rattle.entry_calls.specs.below.core_invariant.{refused, EntersOrRefuses, EachPartStillFits, WorkerPartFits};
+ghost use Rattle.entry_calls.specs.below.step_commit.{alone_entry, GoesAlone, IsShared};
+ghost use Rattle.entry_calls.specs.below.fork_join_commit.{IsUnchanged};
 ghost use Rattle.remote_access.specs.Other.{IsOther, SameButRoom, TellsOther};
 ghost use Rattle.shared_tree.specs.StepEnd.{MayBeEntered};
 ghost use Rattle.entry_calls.specs.Ran.{LentTo};
 
 use crate::shared::Shared;
 use crate::steps_entered::enter_alone;
-use entry_calls::Lent;
-use leaf_collections::{Addr, End, IntReg, NotEntered, Private, RefReg};
+use entry_calls::{Addr, End, IntReg, Lent, NotEntered, Private, RefReg};
 use remote_access::{OtherStep, named, step_on};
 
 impl Shared {

@@ -1,11 +1,11 @@
 // A part's private steps are committed.
 
 ghost use Rattle.std.specs.Prelude.{◌≡◌, ◌<◌, None};
-ghost use Rattle.leaf_collections.specs.below.core_invariant.{refused, Enters, WorkerPartFits, OthersFit};
+ghost use Rattle.entry_calls.specs.below.core_invariant.{refused, Enters, WorkerPartFits, OthersFit};
 ghost use Rattle.entry_calls.specs.Calls.{EntersSteps};
 
 use crate::shared::Shared;
-use leaf_collections::{Entry, Kind, Private, Refused, first_cause};
+use entry_calls::{Entry, Kind, Private, Refused, first_cause};
 
 impl Shared {
     // Makes the entry.

@@ -1,10 +1,10 @@
 // The program, and why an entry is refused whatever its kind.
 
 ghost use Rattle.std.specs.Prelude.{◌≡◌, false};
-ghost use Rattle.leaf_collections.specs.below.core_invariant.{first_cause};
+ghost use Rattle.entry_calls.specs.below.core_invariant.{first_cause};
 
 use crate::shared::Shared;
-use leaf_collections::{Program, Refused, first_cause};
+use entry_calls::{Program, Refused, first_cause};
 
 impl Shared {
     /// The program that is run.

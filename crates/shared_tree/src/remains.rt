@@ -1,10 +1,10 @@
 // What a run leaves, and its journal.
 
 ghost use Rattle.std.specs.Prelude.{◌≡◌};
-ghost use Rattle.leaf_collections.specs.below.core_invariant.{without_journal};
+ghost use Rattle.entry_calls.specs.below.core_invariant.{without_journal};
 
 use crate::shared::Shared;
-use leaf_collections::{Entry, Heaps, Listed, Program, RunEnd, Settings, Tree};
+use entry_calls::{Entry, Heaps, Listed, Program, RunEnd, Settings, Tree};
 use std::marker::Model;
 
 /// What a run leaves beside its journal: the slots of tasks, and the totals. No entry can be made any more.
@@ -23,7 +23,7 @@ pub struct Remains {
 
 impl Model for Remains {
     ghost use Rattle.std.specs.Prelude.{[]};
-    ghost use Rattle.leaf_collections.specs.below.core_invariant.{SharedValue};
+    ghost use Rattle.entry_calls.specs.below.core_invariant.{SharedValue};
 
     ghost Value = { SharedValue };
 

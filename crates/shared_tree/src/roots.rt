@@ -1,10 +1,10 @@
 // The roots of a part's heap.
 
 ghost use Rattle.std.specs.Prelude.{◌≡◌, ℕ, IfOk, None};
-ghost use Rattle.leaf_collections.specs.below.core_invariant.{WorkerPartFits, roots_of, accounts};
+ghost use Rattle.entry_calls.specs.below.core_invariant.{WorkerPartFits, roots_of, accounts};
 
 use crate::shared::Shared;
-use leaf_collections::{Addr, Private};
+use entry_calls::{Addr, Private};
 use std::alloc::AllocError;
 
 impl Shared {

@@ -1,10 +1,10 @@
 // A part's steps are committed, whatever the last of them does.
 
 ghost use Rattle.std.specs.Prelude.{◌≡◌, ◌≤◌, ◌<◌, ◌+◌, ◌-◌, ◌++◌, ◌∷◌, []};
-ghost use Rattle.leaf_collections.specs.below.run_trace.{private_limit, fuel_limit, worker_limit};
-ghost use Rattle.fork_join_commit.specs.below.step_commit.{alone_entry};
+ghost use Rattle.entry_calls.specs.below.run_trace.{private_limit, fuel_limit, worker_limit};
+ghost use Rattle.entry_calls.specs.below.step_commit.{alone_entry};
 
-use leaf_collections::{Entry, Kind, Private, ReservedVec};
+use entry_calls::{Entry, Kind, Private, ReservedVec};
 
 /// Counts the fresh steps of a part and its next one, and makes one entry of all of them.
 pub(crate) fn enter_alone(

@@ -1,15 +1,14 @@
 // A part's steps are committed with one that writes an object of another task.
 
 ghost use Rattle.std.specs.Prelude.{◌≡◌, ◌<◌, ℕ, OnErr, OnOk, IfOk, None};
-ghost use Rattle.leaf_collections.specs.below.core_invariant.{refused, EntersOrRefuses, WorkerPartFits};
-ghost use Rattle.fork_join_commit.specs.below.step_commit.{alone_entry, GoesAlone, IsShared};
+ghost use Rattle.entry_calls.specs.below.core_invariant.{refused, EntersOrRefuses, WorkerPartFits};
+ghost use Rattle.entry_calls.specs.below.step_commit.{alone_entry, GoesAlone, IsShared};
 ghost use Rattle.remote_access.specs.Other.{store_of, SameButRoom, TellsOther};
 ghost use Rattle.entry_calls.specs.Ran.{LentTo};
 
 use crate::shared::Shared;
 use crate::steps_entered::enter_alone;
-use entry_calls::Lent;
-use leaf_collections::{Addr, IntReg, NotEntered, Private};
+use entry_calls::{Addr, IntReg, Lent, NotEntered, Private};
 use remote_access::{OtherStep, go_on, write_number, write_reference};
 use std::alloc::AllocError;
 

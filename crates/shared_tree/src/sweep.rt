@@ -1,14 +1,13 @@
 // The heap of a waiting task is swept.
 
 ghost use Rattle.std.specs.Prelude.{◌≡◌, ◌==◌, ◌<◌, None};
-ghost use Rattle.leaf_collections.specs.below.run_ledger.{unless_wrong_number, refused_unless, heap_of, left_in, marked_in, sweep_number};
-ghost use Rattle.leaf_collections.specs.below.core_invariant.{refused, Enters, EachPartStillFits, accounts};
-ghost use Rattle.heap_marking.specs.MarkCauses.{marking_cause};
+ghost use Rattle.entry_calls.specs.below.run_ledger.{unless_wrong_number, refused_unless, heap_of, left_in, marked_in, sweep_number};
+ghost use Rattle.entry_calls.specs.below.core_invariant.{refused, Enters, EachPartStillFits, accounts};
+ghost use Rattle.entry_calls.specs.below.heap_marking.{marking_cause};
 ghost use Rattle.entry_calls.specs.Calls.{SweepsHeap};
 
 use crate::shared::Shared;
-use heap_marking::{drop_unmarked, forget_kept, marking_cause};
-use leaf_collections::{Entry, Kind, Refused, first_cause};
+use entry_calls::{Entry, Kind, Refused, drop_unmarked, first_cause, forget_kept, marking_cause};
 
 impl Shared {
     // Why a heap that is being marked isn't swept with this number of units released.

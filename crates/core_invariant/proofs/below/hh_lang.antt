@@ -1,2 +1,2 @@
 -- Re-exports from `hh_lang` for the crates above.
-pub use Rattle.refinement.proofs.below.hh_lang.ProgramSendSync as ProgramSendSync
+pub use Rattle.refinement_laws.proofs.below.hh_lang.ProgramSendSync as ProgramSendSync

@@ -1,2 +1,2 @@
 -- Re-exports from `hh_model` for the crates above.
-pub use Rattle.core_invariant.proofs.below.hh_model.{run_is_fork_join_state, start_is_fork_join_state, step_is_fork_join_state, steps_count}
+pub use Rattle.leaf_collections.proofs.below.hh_model.{run_is_fork_join_state, start_is_fork_join_state, step_is_fork_join_state, steps_count}

@@ -1,2 +1,2 @@
 -- Re-exports from `copying_gc` for the crates above.
-pub use Rattle.core_invariant.specs.below.copying_gc.{Moved, ToChunks}
+pub use Rattle.leaf_collections.specs.below.copying_gc.{Moved, ToChunks}

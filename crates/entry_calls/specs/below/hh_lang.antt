@@ -1,2 +1,3 @@
 -- Re-exports from `hh_lang` for the crates above.
-pub use Rattle.core_invariant.specs.below.hh_lang.{ProgramText}
+pub use Rattle.leaf_collections.specs.below.hh_lang.{ProgramText}
+pub use Rattle.heap_marking.specs.below.hh_lang.{Instr, Par, Ret, Line, line_at}

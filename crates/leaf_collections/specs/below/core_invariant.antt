@@ -1,5 +1,5 @@
 -- Re-exports from `core_invariant` for the crates above.
-pub use Rattle.core_invariant.specs.Causes.{chunk_cause, first_cause, is_state_ready, or_else, took_cause}
+pub use Rattle.core_invariant.specs.Causes.{chunk_cause, first_cause, is_state_ready, or_else, took_cause, need_cause}
 pub use Rattle.core_invariant.specs.Due.{IsOutPart, due_cause, take_by}
 pub use Rattle.core_invariant.specs.Entered.{EntersOrRefuses, Enters, IsCaused, IsSamePart, RanAnswers, refusal_of_result, refused}
 pub use Rattle.core_invariant.specs.WorkerPartFits.{EachPartStillFits, WorkerPartFits, OthersFit, belongings_of_part, taken_part}

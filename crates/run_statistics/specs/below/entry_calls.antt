@@ -1,5 +1,2 @@
 -- Re-exports from `entry_calls` for the crates above.
-pub use Rattle.entry_calls.specs.Ends.{end_cause}
-pub use Rattle.entry_calls.specs.Ran.{LeavesBy, LeavesPart, LentTo, RanTo}
-pub use Rattle.entry_calls.specs.declared.answers.Ran.TheVariants.{Done, Ended, Forked, Over}
-pub use Rattle.entry_calls.specs.declared.answers.Ran.{Ran}
+pub use Rattle.shared_tree.specs.below.entry_calls.{end_cause, GetsChunk, EndsForFuel, BeginsLeaf, EndsLeaf, BeginsMarking, MarksMore, PutsOff, EntersLeaving, EntersLent, EntersSteps, SweepsHeap, TakesTask, worker_pace, Pays, owed_by, LeavesBy, LeavesPart, LentTo, RanTo, Done, Ended, Forked, Over, Ran}

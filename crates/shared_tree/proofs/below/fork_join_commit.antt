@@ -1,2 +1,2 @@
 -- Re-exports from `fork_join_commit` for the crates above.
-pub use Rattle.fork_join_commit.proofs.JoinPlaces.{same_world}
+pub use Rattle.entry_calls.proofs.below.fork_join_commit.{same_world}

@@ -1,5 +1,2 @@
 -- Re-exports from `fork_join_commit` for the crates above.
-pub use Rattle.fork_join_commit.specs.ChildEnds.{EndsChild, running_parent}
-pub use Rattle.fork_join_commit.specs.Forks.{ForksOn}
-pub use Rattle.fork_join_commit.specs.Joins.{IsSameRest, IsUnchanged, SameButPlaces}
-pub use Rattle.fork_join_commit.specs.NoTask.{HoldsNone}
+pub use Rattle.entry_calls.specs.below.fork_join_commit.{EndsChild, running_parent, ForksOn, IsSameRest, IsUnchanged, SameButPlaces, HoldsNone}

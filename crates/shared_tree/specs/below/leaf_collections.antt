@@ -1,2 +1,2 @@
 -- Re-exports from `leaf_collections` for the crates above.
-pub use Rattle.leaf_collections.specs.LeafEnd.{FitsCopied, end_entry, without_collection}
+pub use Rattle.entry_calls.specs.below.leaf_collections.{FitsCopied, end_entry, without_collection}

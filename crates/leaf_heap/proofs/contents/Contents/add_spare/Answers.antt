@@ -1,5 +1,5 @@
 use Rattle.leaf_heap.proofs.Common.{◌≡◌, ◌<◌, arith, length, on_ok}
-use Rattle.frozen_views.proofs.PieceLists as lists
+use Rattle.chunk_list.proofs.below.frozen_views.PieceLists as lists
 use Rattle.leaf_heap.proofs.ChunkAdded as added
 use Rattle.leaf_heap.proofs.contents.Contents.add_spare.Goals as goal
 

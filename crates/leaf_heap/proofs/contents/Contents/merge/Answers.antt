@@ -1,5 +1,5 @@
 use Rattle.leaf_heap.proofs.Common.{◌≡◌, ◌+◌, ◌++◌, arith, length, refl, nat_eq, get, hash_map_len, chunk_at, one_each, small_part, saturating_words}
-use Rattle.frozen_views.proofs.PieceLists as lists
+use Rattle.chunk_list.proofs.below.frozen_views.PieceLists as lists
 use Rattle.leaf_heap.proofs.HeapLemmas as heap
 use Rattle.leaf_heap.proofs.ChunkAdded as added
 use Rattle.leaf_heap.proofs.contents.Contents.merge.Goals as goal

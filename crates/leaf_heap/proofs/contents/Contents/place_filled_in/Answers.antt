@@ -1,5 +1,5 @@
 use Rattle.leaf_heap.proofs.Common.{◌≡◌, ◌+◌, ◌∙◌, ap, arith, refl, small_part, ChunkValue, filled_cell, size_of, saturating_words, the_view}
-use Rattle.frozen_views.proofs.PieceLists as lists
+use Rattle.chunk_list.proofs.below.frozen_views.PieceLists as lists
 use Rattle.leaf_heap.proofs.HeapLemmas as heap
 use Rattle.leaf_heap.proofs.Settled as settled
 use Rattle.leaf_heap.proofs.contents.Contents.place_filled_in.Goals as goal

@@ -1,5 +1,5 @@
 use Rattle.leaf_heap.proofs.Common.{◌≡◌, ◌+◌, ◌∙◌, ap, arith, refl, small_part, new_cell, size_of, size_of-new, saturating_words, the_view}
-use Rattle.frozen_views.proofs.PieceLists as lists
+use Rattle.chunk_list.proofs.below.frozen_views.PieceLists as lists
 use Rattle.leaf_heap.proofs.HeapLemmas as heap
 use Rattle.leaf_heap.proofs.Settled as settled
 use Rattle.leaf_heap.proofs.contents.Contents.place_in_chunk.Goals as goal

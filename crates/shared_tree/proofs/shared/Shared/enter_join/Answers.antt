@@ -1,5 +1,5 @@
 use Rattle.shared_tree.proofs.Common.{◌≡◌, ◌<◌, ℕ, ◌+◌, ◌-◌, arith, Some, None, List, [], length, length-set, slice_get, slice_set, refl, ap, sym, subst, ◌∙◌, IsSome, ReservedVecValue, if_none, EntryValue, PoolValue, Ended, TaskNode, parent_of, state_of, with_state, sibling, EndedChild, joined_nodes, Private, TaskSlotsValue, SharedValue, rest_at, IsSharedValue, four_changed, alone_small, EndsChild, CanJoin, HasPlaces, parent_side, AsksEnd, asked_alone, asks_end, own_made, parent_low, few_tasks, other_made, left_by, Put, Taken, both_made, can_join, the_view}
-use Rattle.fork_join_commit.proofs.JoinEntries as entry
+use Rattle.entry_calls.proofs.below.fork_join_commit.JoinEntries as entry
 use Rattle.shared_tree.proofs.StepsEntered.{along, entered}
 use Rattle.shared_tree.proofs.shared.Shared.enter_join.Goals as goal
 use Rattle.shared_tree.proofs.shared.Shared.enter_join.Goals.{After-in_order-children, After-put_set, After-self}

@@ -1,5 +1,5 @@
 use Rattle.shared_tree.proofs.Common.{mark_enters, rest, journal_by, got_other, SharedValue, accounts, value_of, IsSharedValue, EachPartStillFits, MarkingValue, ReservedVecValue, CanGoOnMarking, heap_of, EntryValue, Mark, TaskSlotsValue, the_view, ◌≡◌, sym, subst, ℕ, Option, List, ◌∙◌, Some, slice_set, is_some, ap, ◌-◌, ◌++◌, [], ◌∷◌, ◌<◌, option_flatten, mark_asks}
-use Rattle.leaf_collections.specs.below.task_slots.{marks_at}
+use Rattle.entry_calls.specs.below.task_slots.{marks_at}
 use Rattle.shared_tree.proofs.Asked.{free_inside}
 use Rattle.shared_tree.proofs.shared.Shared.enter_mark.Goals as goal
 

@@ -1,5 +1,5 @@
 use Rattle.shared_tree.proofs.Common.{◌≡◌, ℕ, ◌-◌, ◌<◌, ◌++◌, ◌∷◌, [], All, List, Option, Some, None, min, is_some, option_copied, slice_get, slice_set, ap, sym, subst, ◌∙◌, ReservedVecValue, EntryValue, More, heap_of, left_in, Addr, HasObjectAt, IsAllMarked, IsMarking, IsOf, MarkingValue, ParkedTask, ChunkValue, Fork, IsSince, kept, TaskSlotsValue, kept_of, refused, EachPartStillFits, SharedValue, accounts, marks_at, rest_at, value_of, IsSharedValue, journal_by, Further, kept_noted, put_back, some_count, some_enters, further, marks_within, never_gone, never_unmarked, the_view, AsksMarked, some_asks}
-use Rattle.heap_marking.proofs.MarkedHeap.{rest}
+use Rattle.entry_calls.proofs.below.heap_marking.{marked_rest as rest}
 use Rattle.shared_tree.proofs.Asked.{free_inside}
 use Rattle.shared_tree.proofs.shared.Shared.enter_marking.Goals as goal
 use Rattle.shared_tree.proofs.shared.Shared.enter_marking.Goals.{After-get_mut, After-push_reserved}

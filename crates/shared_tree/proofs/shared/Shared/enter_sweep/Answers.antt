@@ -1,5 +1,5 @@
 use Rattle.shared_tree.proofs.Common.{◌≡◌, false, ℕ, None, length, option_map, slice_get, slice_set, ap, sym, subst, ◌∙◌, Sweep, content_at, TaskSlotsValue, keeping, SharedValue, IsSharedValue, EachPartStillFits, refused, journal_by, SweepsSlot, can_all, has_marking, m, marked, r, rest_is_there, the_view}
-use Rattle.heap_marking.proofs.SweepEntered.{fits_so, has_slot, world_so}
+use Rattle.entry_calls.proofs.below.heap_marking.{fits_so, has_slot, world_so}
 use Rattle.shared_tree.proofs.Asked.{free_inside}
 use Rattle.shared_tree.proofs.shared.Shared.enter_sweep.Goals as goal
 

@@ -1,5 +1,5 @@
 use Rattle.shared_tree.proofs.Common.{◌≡◌, ◌==◌, ◌↔◌, ◌≤◌, All, IsTrue, List, Some, ap, length, option_copied, slice_get, sym, subst, ◌∙◌, heap_of, left_in, Addr, ChunkValue, HasObjectAt, IsAllMarked, IsMarking, IsOf, Fork, IsSince, kept, SharedValue, accounts, marks_at, value_of, Further, kept_noted, further, never_unmarked, the_view, AsksMarked, asks_marked}
-use Rattle.heap_marking.proofs.MarkedHeap.{left_by, rest}
+use Rattle.entry_calls.proofs.below.heap_marking.{left_by, marked_rest as rest}
 use Rattle.shared_tree.proofs.shared.Shared.is_marked.Goals as goal
 use Rattle.shared_tree.proofs.shared.Shared.is_marked.Goals.{In-Some}
 

@@ -1,6 +1,6 @@
 use Rattle.shared_tree.proofs.Common.{false, true, ◌≡◌, ℕ, Option, Some, None, slice_set, ap, sym, ◌∙◌, ◌<◌, arith, refl, subst, OnErr, Result, Ok, Err, parent_of, state_of, TaskState, sibling, Private, NoMemory, NotLeft, SharedValue, refused, EachPartStillFits, WorkerPartFits, alone_entry, IsAtEnd, IsUnchanged, SameButPlaces, own_made, parent_low, tree_parent, few_tasks, places_ends, places_same, same_world}
 use Rattle.std.specs.Prelude.{IfErr}
-use Rattle.fork_join_commit.proofs.JoinPlaces.{places_fit}
+use Rattle.entry_calls.proofs.below.fork_join_commit.{places_fit}
 use Rattle.shared_tree.proofs.shared.Shared.ran_ending.Goals as goal
 
 -- if nothing has changed since an allocation failed, no capacity was reserved either

@@ -1,5 +1,5 @@
 use Rattle.shared_tree.proofs.Common.{◌≡◌, ℕ, None, ap, sym, subst, ◌∙◌, Private, SharedValue, accounts, WorkerPartFits, the_view}
-use Rattle.leaf_collections.proofs.below.core_invariant.{are_fields}
+use Rattle.entry_calls.proofs.below.core_invariant.{are_fields}
 use Rattle.shared_tree.proofs.shared.Shared.roots.Goals as goal
 
 pub targets-requires : goal.targets-requires

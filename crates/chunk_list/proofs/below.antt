@@ -1,0 +1,1 @@
+pub mod frozen_views

@@ -1,0 +1,2 @@
+-- Re-exports from `refinement` for the crates above.
+pub use Rattle.heap_marking.specs.below.refinement.{CanGoOnMarking, kept}

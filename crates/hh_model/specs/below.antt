@@ -1,0 +1,2 @@
+pub mod plain_vec
+pub mod hh_lang

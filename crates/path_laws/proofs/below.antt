@@ -1,0 +1,1 @@
+pub mod hh_model

@@ -1,0 +1,2 @@
+pub mod hh_model
+pub mod hh_lang

@@ -1,0 +1,2 @@
+-- Re-exports from `walk_laws` for the crates above.
+pub use Rattle.refinement.proofs.below.walk_laws.{reached_more, reached_start, reached_within}
