@@ -69,12 +69,7 @@ pub use Rattle.run_ledger.specs.declared.data.Refused.{Refused}
 pub use Rattle.run_ledger.specs.declared.data.Refused.TheVariants.{Over, Spent, NoWorker, NotOut, Collecting, Long}
 pub use Rattle.run_ledger.specs.declared.data.RunEnd.TheVariants.{Pool}
 pub use Rattle.run_ledger.specs.declared.data.WorkerPace.{WorkerPace}
-pub use Rattle.run_trace.specs.Entry.{EntryValue}
-pub use Rattle.run_trace.specs.Settings.{SettingsValue, field_limit}
-pub use Rattle.run_trace.specs.declared.entry.Kind.{Kind}
-pub use Rattle.run_trace.specs.declared.entry.Kind.TheVariants.{Took, Ran, Chunk, Begin, End, PutOff, Mark, More, Sweep, Fuel}
-pub use Rattle.run_trace.specs.declared.settings.Version.{Version}
-pub use Rattle.run_trace.specs.declared.settings.Version.TheVariants.{One, Two}
+pub use Rattle.run_ledger.specs.below.run_trace.{EntryValue, SettingsValue, field_limit, Kind, Took, Ran, Chunk, Begin, End, PutOff, Mark, More, Sweep, Fuel, Version, One, Two}
 pub use Rattle.std.proofs.Common.{◌≡◌, ℕ, zero, suc, ◌+◌, ◌<◌, ◌≤◌, ◌==◌, ◌&&◌, not, min, Bool, true, false, cond, Option, Some, None, List, [], ◌∷◌, slice_get, nat_le, nat_lt, ◌⊎◌, inl, inr, refl, ap, sym, ◌∙◌, is_none, is_some, arith, eqb-true, eq-eqb, ne_eqb, ℤ, pos, negsuc, subst, length, length-append, slice_set, Contains, ◌||◌, ◌++◌, filter, ap₂, sum_by, append_assoc, append-nil, replicate, ◌*◌, ◌-◌}
 pub use Rattle.std.proofs.Math.Bool.{and-false}
 pub use Rattle.std.proofs.Math.Path.{fun_ext}

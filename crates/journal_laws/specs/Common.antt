@@ -15,7 +15,4 @@ pub use Rattle.run_ledger.specs.declared.data.Ledger.{Ledger}
 pub use Rattle.run_ledger.specs.declared.data.Previous.{Previous}
 pub use Rattle.run_ledger.specs.declared.data.Previous.TheVariants.{Other, Forked}
 pub use Rattle.run_ledger.specs.declared.data.WorkerPace.{WorkerPace}
-pub use Rattle.run_trace.specs.Entry.{EntryValue}
-pub use Rattle.run_trace.specs.Settings.{SettingsValue}
-pub use Rattle.run_trace.specs.declared.entry.Kind.{Kind}
-pub use Rattle.run_trace.specs.declared.entry.Kind.TheVariants.{Took, Ran, Chunk, Begin, End, PutOff, Mark, More, Sweep, Fuel}
+pub use Rattle.run_ledger.specs.below.run_trace.{EntryValue, SettingsValue, Kind, Took, Ran, Chunk, Begin, End, PutOff, Mark, More, Sweep, Fuel}

@@ -4,4 +4,5 @@ pub mod Roots
 pub mod Tasks
 pub mod Deltas
 pub mod News
+pub mod below
 mod Common

@@ -1,8 +1,8 @@
 -- What the lines of a run tell, step by step.
 use Rattle.run_turn_laws.proofs.Common.{◌≡◌, ◌*◌, ℕ, zero, suc, Bool, true, false, List, [], ◌∷◌, ◌++◌, length, slice_get, replicate, Option, Some, None, IfSome, arith, refl, ap, sym, subst, ◌∙◌, cond, append-nil, append_assoc, GraphStrand, strand as graph_strand, Act, LogLine, Event, event, Spot, strand_behind, file_begin, ProgramText, Line, IsForkJoinState, run_is_fork_join_state, start_is_fork_join_state, run_push, waiting, joins_in, running_tells, can_task, step_idle, step_none, is_running, can_step, fetched, step, run, start, is_waiting, MachineState, Task, EntryValue, Kind, Took, Ran, Chunk, Begin, End, PutOff, Mark, More, Sweep, Fuel, tasks_in, tasks_of, act_of, act_by, step_act_of as act_at, deed, deed_of, machine_after, stepped, Deed, act_of_deed, deed_lines, moved_lines, lines_of_deed, step_lines, steps_lines, strand_lines, entry_lines, lines_from, turns_of, open_turns, run_rows, spot_after, events_told, turn_by, TellEdges, Edge, act_line}
 use Rattle.log_lines.specs.declared.line.Act.TheVariants as acts
-use Rattle.run_deltas.specs.declared.data.Deed.TheVariants as deeds
-use Rattle.run_deltas.specs.declared.data.Value.TheVariants as values
+use Rattle.run_log.specs.below.run_deltas.DeedVariants as deeds
+use Rattle.run_log.specs.below.run_deltas.ValueVariants as values
 use Rattle.run_turn_laws.proofs.Told.{spot, spot_both, after_on}
 use Rattle.run_turn_laws.proofs.Moves.{tell_plain, Moved, moved}
 

@@ -20,15 +20,10 @@ pub use Rattle.journal_laws.specs.Accepted.{Allows, IsAccepted}
 pub use Rattle.log_form.specs.Events.{Event, event, Spot, spot_behind, spot_behind_act, strand_behind, file_begin}
 pub use Rattle.log_lines.specs.declared.line.Act.{Act}
 pub use Rattle.log_lines.specs.declared.line.LogLine.{LogLine}
-pub use Rattle.run_deltas.proofs.Machines.{machine_moves}
-pub use Rattle.run_deltas.specs.Deeds.{act_of, act_by, step_act_of, deed, deed_of}
-pub use Rattle.run_deltas.specs.Deltas.{machine_after}
-pub use Rattle.run_deltas.specs.Steps.{stepped}
-pub use Rattle.run_deltas.specs.declared.data.Deed.{Deed}
-pub use Rattle.run_deltas.specs.declared.data.StepDeed.{StepDeed}
-pub use Rattle.run_deltas.specs.declared.data.Value.{Value}
-pub use Rattle.run_journal.specs.below.run_ledger.{tasks_in, tasks_of, Ledger, refusal, after, opening, is_legal_from, is_legal}
-pub use Rattle.run_journal.specs.below.run_trace.{EntryValue, SettingsValue, field_limit, Kind, Took, Ran, Chunk, Begin, End, PutOff, Mark, More, Sweep, Fuel}
+pub use Rattle.run_log.proofs.below.run_deltas.{machine_moves}
+pub use Rattle.run_log.specs.below.run_deltas.{act_of, act_by, step_act_of, deed, deed_of, machine_after, stepped, Deed, StepDeed, Value}
+pub use Rattle.run_log.specs.below.run_ledger.{tasks_in, tasks_of, Ledger, refusal, after, opening, is_legal_from, is_legal}
+pub use Rattle.run_log.specs.below.run_trace.{EntryValue, SettingsValue, field_limit, Kind, Took, Ran, Chunk, Begin, End, PutOff, Mark, More, Sweep, Fuel}
 pub use Rattle.run_log.specs.Acts.{act_of_deed}
 pub use Rattle.run_log.specs.Lines.{deed_lines, moved_lines, lines_of_deed, step_lines, steps_lines, strand_lines, entry_lines, lines_from, left_of, join_lines, turn_lines, act_line}
 pub use Rattle.run_log.specs.Log.{lines_of}

@@ -1,17 +1,14 @@
 -- The turns that a log tells.
 use Rattle.std.specs.Prelude.{◌≡◌, ◌==◌, ℕ, true, List, [], ◌∷◌, ◌++◌, length, if◌then◌else◌}
 use Rattle.std.specs.List.{flat_map}
-use Rattle.run_log_laws.specs.below.fork_graph.{GraphTurn}
-use Rattle.run_log_laws.specs.below.fork_graph.{Spawn, Join}
-use Rattle.run_log_laws.specs.below.fork_graph.{TaskTurns}
+use Rattle.run_log_laws.specs.below.fork_graph.{GraphTurn, Spawn, Join, TaskTurns}
 use Rattle.log_lines.specs.declared.line.Act.{Act}
 use Rattle.log_lines.specs.declared.line.Act.TheVariants as acts
 use Rattle.log_form.specs.Events.{Event}
 use Rattle.run_log_laws.specs.below.hh_lang.{ProgramText}
 use Rattle.hh_model.specs.declared.data.Edge.{Edge}
-use Rattle.run_journal.specs.below.run_trace.{EntryValue}
-use Rattle.run_journal.specs.below.run_trace.{SettingsValue}
-use Rattle.run_journal.specs.below.run_ledger.{is_legal, machine_of}
+use Rattle.run_log.specs.below.run_trace.{EntryValue, SettingsValue}
+use Rattle.run_log.specs.below.run_ledger.{is_legal, machine_of}
 use Rattle.run_log.specs.Log.{lines_of}
 use Rattle.run_log_laws.specs.Graph.{turns_of}
 use Rattle.run_turn_laws.specs.Events.{events_told}

@@ -5,3 +5,5 @@ pub use Rattle.run_trace.specs.declared.entry.Kind.{Kind}
 pub use Rattle.run_trace.specs.declared.entry.Kind.TheVariants.{Begin, Chunk, End, Fuel, Mark, More, PutOff, Ran, Sweep, Took}
 pub use Rattle.run_trace.specs.contracts.entry.Entry as EntryContracts
 pub use Rattle.run_trace.specs.contracts.settings.Settings as SettingsContracts
+pub use Rattle.run_trace.specs.declared.settings.Version.{Version}
+pub use Rattle.run_trace.specs.declared.settings.Version.TheVariants.{One, Two}

@@ -1,7 +1,2 @@
 -- Re-exports from `run_deltas` for the crates above.
-pub use Rattle.run_deltas.specs.Deeds.{act_by, act_of, deed, deed_of, if_there, number_in, number_place, reference_in, step_act_of}
-pub use Rattle.run_deltas.specs.Deltas.{machine_after}
-pub use Rattle.run_deltas.specs.Steps.{stepped}
-pub use Rattle.run_deltas.specs.declared.data.Deed.{Deed}
-pub use Rattle.run_deltas.specs.declared.data.Deed.TheVariants.{Allocates, Counts, Freezes, Prints, Reads, Swaps, Writes}
-pub use Rattle.run_deltas.specs.declared.data.Value.TheVariants.{Number, Reference}
+pub use Rattle.run_log.specs.below.run_deltas.{act_by, act_of, deed, deed_of, if_there, number_in, number_place, reference_in, step_act_of, machine_after, stepped, Deed, Allocates, Counts, Freezes, Prints, Reads, Swaps, Writes, Number, Reference}
