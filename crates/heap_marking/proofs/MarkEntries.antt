@@ -4,7 +4,7 @@ use Rattle.heap_marking.proofs.Common.{◌≡◌, ◌==◌, ◌↔◌, ℕ, ◌+
 use Rattle.heap_marking.proofs.MarkBegun.{chunks_at_rest, marks_begin, waiting_rests}
 use Rattle.heap_marking.proofs.MarkCauses.{marks_refuse}
 use Rattle.heap_marking.proofs.MarkCounts.{marks_count}
-use Rattle.heap_marking.proofs.MarkedHeap.{further, keeps, wait}
+use Rattle.heap_marking.proofs.MarkedHeap.{further, waits}
 use Rattle.heap_marking.proofs.MarkingEntered.{marks_enter}
 use Rattle.heap_marking.proofs.MarkingStarts.{fields_there, starts_are, starts_held}
 use Rattle.heap_marking.proofs.WaitingSlot as task_slots
@@ -134,7 +134,7 @@ module _ (w : SharedValue) (I : IsSharedValue w) (k t n : ℕ) (free : refused w
   goes = (further asked r m there at).further m' own marking
 
   counts : (count ≡ min n (left_in (heap_of (accounts w) t))) × ((heap_of (after w.program w.settings (accounts w) (record { worker = k; kind = More t n })) t).marked ≡ Some (length (marked_of m')))
-  counts = marks_count w k t r m m' n count I asked.on there (wait asked) (keeps asked) at goes sum most (λ lt f since is. left f since is lt)
+  counts = marks_count w k t r m m' n count I asked.on there (task_slots.wait (waits asked)) (task_slots.keeps (waits asked)) at goes sum most (λ lt f since is. left f since is lt)
 
   pub some_count : count ≡ min n (left_in (heap_of (accounts w) t))
   some_count = counts.0

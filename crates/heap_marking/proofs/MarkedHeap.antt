@@ -2,8 +2,7 @@
 use Rattle.heap_marking.proofs.Common.{◌≡◌, ◌==◌, ◌↔◌, ℕ, ◌<◌, Bool, true, false, IsTrue, Option, Some, None, List, is_some, length, slice_get, refl, sym, subst, option_flatten, eqb-true, got_within, is_waiting, Refused, NotMarking, refused_unless, heap_of, left_in, IsAllMarked, IsMarking, MarkingValue, Fork, IsSince, MarkedBy, kept, ParkedTask, or_else, SharedValue, marks_at, rest_at, value_of, stands_now, waiting_cause, Further, MarkedHeapStands}
 use Rattle.std.proofs.lemmas.Bool.{eq-eqb}
 use Rattle.heap_marking.proofs.MarkingGoesOn.{marks_go_further}
-use Rattle.heap_marking.proofs.WaitingSlot as task_slots
-use Rattle.heap_marking.proofs.WaitingSlot.{some_of}
+use Rattle.heap_marking.proofs.WaitingSlot.{keeps, rest, some_of, wait}
 use Rattle.heap_marking.proofs.HeapAsked.{AsksMarked, AsksWaiting, heap_names}
 
 -- there is no cause
@@ -19,23 +18,11 @@ module _ {w : SharedValue} {t : ℕ} (asks : AsksMarked w t) where
   tells : (waiting_cause w t ≡ None) × (is_some (marks_at w.marks t) ≡ true)
   tells = or_none (waiting_cause w t) (is_some (marks_at w.marks t)) free
 
-  abbrev waiting : AsksWaiting w t
-  waiting = record { I = I; on = on; free = tells.0 }
-
-  pub wait : is_waiting (slice_get l.machine.tasks t) ≡ true
-  wait = task_slots.wait waiting
-
-  pub keeps : ((value_of w).noted t).keeps ≡ true
-  keeps = task_slots.keeps waiting
-
-  pub rest : (r : ParkedTask) × (rest_at w.rests t ≡ Some r)
-  rest = task_slots.rest waiting
+  pub waits : AsksWaiting w t
+  waits = record { I = I; on = on; free = tells.0 }
 
   pub marks : (m : MarkingValue) × (marks_at w.marks t ≡ Some m)
   marks = some_of (marks_at w.marks t) tells.1
-
-  pub never_gone : rest_at w.rests t ≡ None → ⊥
-  never_gone = task_slots.never_gone waiting
 
   pub never_unmarked : marks_at w.marks t ≡ None → ⊥
   never_unmarked none = never_unmarked_by_cases (marks_at w.marks t) none tells.1
@@ -56,10 +43,10 @@ module _ {w : SharedValue} {t : ℕ} (asks : AsksMarked w t) where
 
   module _ (r : ParkedTask) (m : MarkingValue) (there : rest_at w.rests t ≡ Some r) (at : marks_at w.marks t ≡ Some m) where
     M : MarkedBy v l t (Some m)
-    M = subst (MarkedBy v l t) at ((stands_now w I on).marks t keeps)
+    M = subst (MarkedBy v l t) at ((stands_now w I on).marks t (keeps waits))
 
     pub further : Further w t r m
-    further = marks_go_further w t r m I on there wait keeps M.1
+    further = marks_go_further w t r m I on there (wait waits) (keeps waits) M.1
 
     ready_by : (b : Bool) (n : ℕ) → (IsTrue b ↔ (n ≡ 0)) → b ≡ (n == 0)
     ready_by true n e = sym (eq-eqb n 0 (e.0 refl))
@@ -83,6 +70,7 @@ module _ {w : SharedValue} {t : ℕ} (asks : AsksMarked w t) where
 pub marked_heap_stands : MarkedHeapStands
 marked_heap_stands w t I on free =
     let asks : AsksMarked w t = record { I = I; on = on; free = free } in
-    let r = rest asks in
+    let on_heap = waits asks in
+    let r = rest on_heap in
     let m = marks asks in
-    record { wait = wait asks; keeps = keeps asks; rest = r.0; there = r.1; marks = m.0; at = m.1; further = further asks r.0 m.0 r.1 m.1; left = left_by asks r.0 m.0 r.1 m.1 }
+    record { wait = wait on_heap; keeps = keeps on_heap; rest = r.0; there = r.1; marks = m.0; at = m.1; further = further asks r.0 m.0 r.1 m.1; left = left_by asks r.0 m.0 r.1 m.1 }

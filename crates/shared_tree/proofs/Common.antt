@@ -7,11 +7,11 @@ pub use Rattle.entry_calls.proofs.below.fork_join_commit.{alone_ends, AsksEnd, a
 pub use Rattle.entry_calls.proofs.below.step_commit.{runs_on, fits_machine, machine_same, alone_answer, alone_small, slot_there, next_small, set_there, AsksAlone, asks_alone, halt_world, halts_alone, printed_goes, printed_world, some_line, is_safe, tells, child_beyond, other_beyond, trap_is, finishes_alone, finished_world, node_there}
 pub use Rattle.entry_calls.specs.below.fork_join_commit.{IsAtEnd, is_last_return, is_last_by, is_last_line, EndsChild, IsAtFork, is_fork, is_fork_by, is_par, ForksOn, ForksTo, RestsFork, SetsFork, begun_rest, part_child, waiting_rest, IsUnchanged, SameButPlaces, CanJoin, HasPlaces, parent_side, HoldsNone}
 pub use Rattle.entry_calls.specs.below.step_commit.{IsShared, alone_entry, machine_after, HaltsAlone, then_accounts, GoesAlone, EndingTells, FinishesAlone, ended_rest, IsBeyond}
-pub use Rattle.entry_calls.proofs.below.heap_marking.{AsksMarked, AsksWaiting, asks_marked, asks_waiting, mark_asks, mark_enters, kept_noted, put_back, some_asks, some_count, some_enters, mark_answer, mark_begun, mark_fields, mark_starts, some_answer, words_now, further, marks_within, never_gone, never_unmarked, can_all, has_marking, m, marked, r, rest_is_there, sweep_answer, sweep_cause, few_at, would_be, rest}
+pub use Rattle.entry_calls.proofs.below.heap_marking.{AsksMarked, AsksWaiting, asks_marked, asks_waiting, mark_asks, mark_enters, kept_noted, put_back, some_asks, some_count, some_enters, mark_answer, mark_begun, mark_fields, mark_starts, some_answer, words_now, further, marks_within, never_gone, never_unmarked, can_all, has_marking, m, marked, r, rest_is_there, sweep_answer, sweep_cause, few_at, would_be, rest, waits}
 pub use Rattle.entry_calls.specs.below.heap_marking.{marking_cause, waiting_cause, words_cause, Further, MarkingHasBegun, starts_in, SweepsSlot}
 pub use Rattle.entry_calls.proofs.below.leaf_collections.{begin_count, begin_few, begin_free, begins, begins_with, places_fit, fresh, chunk_entered, full_entered, AsksLeafEnd, asks_leaf_end, are_fields, back_in_use, has_slot, leaf_ended, put_off_entered, reset, put_off_answer, AsksLeaf, LeafEntered, asks_leaf, without_fresh, chunk_answer, first_answer, begin_answer, begin_idle, end_answer}
 pub use Rattle.entry_calls.proofs.below.core_invariant.{same_length, worker_there, found_first, nothing_first, end_now, journal_by, four_changed, entry_on, steps_small, ran_world, ran_part, ran_others, fuel_all, fuel_world, at_work, calls, calls_of, has_node, some_calls, took_world, took_part, took_others, halted_fit, used_now, second_gives_first, first_by, outputs_now, enough_is, ran_answer, room_fit, room_world, steps_now, tree_long, took_answer}
-pub use Rattle.entry_calls.proofs.below.plain_vec.{or_false, got_set, if_none, all_from, got_other}
+pub use Rattle.entry_calls.proofs.below.plain_vec.{or_false, got_set, if_none, all_from, got_other, none_some}
 pub use Rattle.entry_calls.proofs.below.task_machine.{same_line}
 pub use Rattle.entry_calls.specs.below.leaf_collections.{FitsCopied, end_entry, without_collection}
 pub use Rattle.entry_calls.specs.below.chunk_pool.{PoolValue, TakesAll, slot_at, NotTaken, Full, units_in_use}

@@ -1,5 +1,4 @@
-use Rattle.shared_tree.proofs.Common.{◌≡◌, ℕ, ◌-◌, ◌<◌, ◌++◌, ◌∷◌, [], All, List, Option, Some, None, min, is_some, option_copied, slice_get, slice_set, ap, sym, subst, ◌∙◌, ReservedVecValue, EntryValue, More, heap_of, left_in, Addr, HasObjectAt, IsAllMarked, IsMarking, IsOf, MarkingValue, ParkedTask, ChunkValue, Fork, IsSince, kept, TaskSlotsValue, kept_of, refused, EachPartStillFits, SharedValue, accounts, marks_at, rest_at, value_of, IsSharedValue, journal_by, Further, kept_noted, put_back, some_count, some_enters, further, marks_within, never_gone, never_unmarked, the_view, AsksMarked, some_asks}
-use Rattle.entry_calls.proofs.below.heap_marking.{marked_rest as rest}
+use Rattle.shared_tree.proofs.Common.{◌≡◌, ℕ, ◌-◌, ◌<◌, ◌++◌, ◌∷◌, [], All, List, Option, Some, None, min, is_some, option_copied, slice_get, slice_set, ap, sym, subst, ◌∙◌, ReservedVecValue, EntryValue, More, heap_of, left_in, Addr, HasObjectAt, IsAllMarked, IsMarking, IsOf, MarkingValue, ParkedTask, ChunkValue, Fork, IsSince, kept, TaskSlotsValue, kept_of, refused, EachPartStillFits, SharedValue, accounts, marks_at, rest_at, value_of, IsSharedValue, journal_by, Further, kept_noted, put_back, some_count, some_enters, further, marks_within, never_gone, never_unmarked, the_view, AsksMarked, some_asks, rest, waits}
 use Rattle.shared_tree.proofs.Asked.{free_inside}
 use Rattle.shared_tree.proofs.shared.Shared.enter_marking.Goals as goal
 use Rattle.shared_tree.proofs.shared.Shared.enter_marking.Goals.{After-get_mut, After-push_reserved}
@@ -9,14 +8,14 @@ asked : {w old : SharedValue} (k t n : ℕ) → w ≡ old → IsSharedValue w �
 asked k t n same I free = some_asks _ I k t n (free_inside (record { worker = k; kind = More t n }) same free)
 
 pub take_marking-requires : goal.take_marking-requires
-take_marking-requires c = record { there = ap is_some (rest (asked c.args.worker c.args.t c.args.n c.self.view_is c.self.invariant c.requires.free)).1 }
+take_marking-requires c = record { there = ap is_some (rest (waits (asked c.args.worker c.args.t c.args.n c.self.view_is c.self.invariant c.requires.free))).1 }
 
 pub unreachable-requires : goal.unreachable-requires
 unreachable-requires c = never_unmarked (asked c.args.worker c.args.t c.args.n c.self.view_is c.self.invariant c.requires.free) (sym c.take_marking.ensures.marking ∙ c.in_default.is)
 
 pub unreachable-requires-in_default-rest : goal.unreachable-requires-in_default-rest
 unreachable-requires-in_default-rest c =
-    never_gone (asked c.args.worker c.args.t c.args.n c.self.view_is c.self.invariant c.requires.free) (ap (λ (h : TaskSlotsValue). rest_at h.rests c.args.t) (sym c.take_marking.ensures.task_slots) ∙ (sym c.rest.ensures ∙ ap option_copied c.in_default-rest.is))
+    never_gone (waits (asked c.args.worker c.args.t c.args.n c.self.view_is c.self.invariant c.requires.free)) (ap (λ (h : TaskSlotsValue). rest_at h.rests c.args.t) (sym c.take_marking.ensures.task_slots) ∙ (sym c.rest.ensures ∙ ap option_copied c.in_default-rest.is))
 
 pub put_marking-requires : goal.put_marking-requires
 put_marking-requires c = record { there = ap is_some (sym c.rest.ensures ∙ ap option_copied c.in-Some-rest.is) }

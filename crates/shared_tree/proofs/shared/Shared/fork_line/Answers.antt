@@ -1,8 +1,5 @@
-use Rattle.shared_tree.proofs.Common.{◌≡◌, ℕ, Option, Some, None, ap₂, sym, subst, ◌∙◌, Line, line_at, Private, SharedValue, WorkerPartFits, refused, next_line, alone_entry, runs_on, some_line, ForksTo, IsAtFork, fork_shared, forks_to, is_par_line, par_is, MayBeEntered, the_view}
+use Rattle.shared_tree.proofs.Common.{◌≡◌, ℕ, Some, None, ap₂, sym, subst, ◌∙◌, line_at, Private, SharedValue, WorkerPartFits, refused, next_line, alone_entry, runs_on, some_line, ForksTo, IsAtFork, fork_shared, forks_to, is_par_line, par_is, MayBeEntered, the_view, none_some}
 use Rattle.shared_tree.proofs.shared.Shared.fork_line.Goals as goal
-
-none_some : (line : Line) → ◌≡◌ {A = Option Line} None (Some line) → ⊥
-none_some line e = cc
 
 pub unreachable-requires : goal.unreachable-requires
 unreachable-requires c =
@@ -14,7 +11,7 @@ unreachable-requires c =
     let at : IsAtFork w p = subst (λ (z : SharedValue). IsAtFork z p) (sym c.self.view_is) c.requires.forks in
     let free : refused w (alone_entry k p) ≡ None = held.free in
     let line = some_line w k p c.self.invariant F (fork_shared w p at) (runs_on (record { I = c.self.invariant; F = F; shared = (fork_shared w p at); free = free })) in
-    none_some line.0 (sym c.in_default.is ∙ (c.line.ensures ∙ (ap₂ (line_at w.program) c.fun.ensures c.next.ensures ∙ line.1)))
+    none_some (sym c.in_default.is ∙ (c.line.ensures ∙ (ap₂ (line_at w.program) c.fun.ensures c.next.ensures ∙ line.1)))
 
 pub unreachable-requires-in_default-instr : goal.unreachable-requires-in_default-instr
 unreachable-requires-in_default-instr c =

@@ -1,5 +1,5 @@
-use Rattle.shared_tree.proofs.Common.{◌≡◌, ◌==◌, ◌↔◌, ◌≤◌, All, IsTrue, List, Some, ap, length, option_copied, slice_get, sym, subst, ◌∙◌, heap_of, left_in, Addr, ChunkValue, HasObjectAt, IsAllMarked, IsMarking, IsOf, Fork, IsSince, kept, SharedValue, accounts, marks_at, value_of, Further, kept_noted, further, never_unmarked, the_view, AsksMarked, asks_marked}
-use Rattle.entry_calls.proofs.below.heap_marking.{left_by, marked_rest as rest}
+use Rattle.shared_tree.proofs.Common.{◌≡◌, ◌==◌, ◌↔◌, ◌≤◌, All, IsTrue, List, Some, ap, length, option_copied, slice_get, sym, subst, ◌∙◌, heap_of, left_in, Addr, ChunkValue, HasObjectAt, IsAllMarked, IsMarking, IsOf, Fork, IsSince, kept, SharedValue, accounts, marks_at, value_of, Further, kept_noted, further, never_unmarked, the_view, AsksMarked, asks_marked, rest, waits}
+use Rattle.entry_calls.proofs.below.heap_marking.{left_by}
 use Rattle.shared_tree.proofs.shared.Shared.is_marked.Goals as goal
 use Rattle.shared_tree.proofs.shared.Shared.is_marked.Goals.{In-Some}
 
@@ -21,8 +21,8 @@ module _ (c : In-Some) where
   same : c.kept-kept.result.now ≡ kept (value_of w) c.args.t
   same = c.kept-kept.ensures ∙ kept_noted (slice_get w.sets c.args.t)
 
-  F : Further w c.args.t (rest asks).0 c.in-Some.marking.now
-  F = further asks (rest asks).0 c.in-Some.marking.now (rest asks).1 at
+  F : Further w c.args.t (rest (waits asks)).0 c.in-Some.marking.now
+  F = further asks (rest (waits asks)).0 c.in-Some.marking.now (rest (waits asks)).1 at
 
 pub ready-requires : goal.ready-requires
 ready-requires c = subst (λ (xs : List Addr). c.in-Some.marking.now.followed ≤ length xs) (sym (same c)) (F c).own.followed
@@ -30,7 +30,7 @@ ready-requires c = subst (λ (xs : List Addr). c.in-Some.marking.now.followed �
 pub returns : goal.returns
 returns c =
     let b = (goal.at.returns c).In-Some in
-    let slot = rest (asks b) in
+    let slot = rest (waits (asks b)) in
     left_by (asks b) slot.0 c.in-Some.marking.now slot.1 (at b) c.ready.result
     (λ f. subst (λ (xs : List Addr). (g : Fork) (h : List ChunkValue) → All (HasObjectAt h) xs → IsOf h xs c.in-Some.marking.now → IsSince g xs h → IsMarking g xs c.in-Some.marking.now → IsTrue c.ready.result ↔ IsAllMarked g xs c.in-Some.marking.now) (same b) c.ready.ensures.ready
     f slot.0.heap.chunks (F b).kept (F b).own)

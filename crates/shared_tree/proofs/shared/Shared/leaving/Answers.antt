@@ -1,9 +1,6 @@
-use Rattle.shared_tree.proofs.Common.{◌≡◌, ℕ, Option, Some, None, ap₂, sym, subst, ◌∙◌, Line, line_at, Private, SharedValue, next_line, IsShared, AsksAlone, runs_on, some_line, IsAtEnd, IsAtFork, IsOther, IsJoint, MayBeEntered, the_view}
+use Rattle.shared_tree.proofs.Common.{◌≡◌, ℕ, Some, ap₂, sym, subst, ◌∙◌, line_at, Private, SharedValue, next_line, IsShared, AsksAlone, runs_on, some_line, IsAtEnd, IsAtFork, IsOther, IsJoint, MayBeEntered, the_view, none_some}
 use Rattle.shared_tree.proofs.Joints.{at_end, at_fork, at_other}
 use Rattle.shared_tree.proofs.shared.Shared.leaving.Goals as goal
-
-none_some : (line : Line) → ◌≡◌ {A = Option Line} None (Some line) → ⊥
-none_some line e = cc
 
 pub unreachable-requires : goal.unreachable-requires
 unreachable-requires c =
@@ -13,7 +10,7 @@ unreachable-requires c =
     let k : ℕ = held.worker in
     let asks : AsksAlone w k p = record { I = c.self.invariant; F = held.fits; shared = subst (λ (z : SharedValue). IsShared z p) (sym c.self.view_is) c.requires.shared; free = held.free } in
     let line = some_line w k p c.self.invariant asks.F asks.shared (runs_on asks) in
-    none_some line.0 (sym c.in_default.is ∙ (c.line.ensures ∙ (ap₂ (line_at w.program) c.fun.ensures c.next.ensures ∙ line.1)))
+    none_some (sym c.in_default.is ∙ (c.line.ensures ∙ (ap₂ (line_at w.program) c.fun.ensures c.next.ensures ∙ line.1)))
 
 pub returns-in-Par : goal.returns-in-Par
 returns-in-Par c =

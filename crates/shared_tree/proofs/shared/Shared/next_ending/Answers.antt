@@ -1,8 +1,5 @@
-use Rattle.shared_tree.proofs.Common.{◌≡◌, ℕ, Option, Some, None, ap₂, sym, subst, ◌∙◌, Line, line_at, Private, Ending, SharedValue, next_line, IsShared, EndingTells, AsksAlone, is_safe, runs_on, some_line, tells, MayBeEntered, the_view}
+use Rattle.shared_tree.proofs.Common.{◌≡◌, ℕ, Some, None, ap₂, sym, subst, ◌∙◌, line_at, Private, Ending, SharedValue, next_line, IsShared, EndingTells, AsksAlone, is_safe, runs_on, some_line, tells, MayBeEntered, the_view, none_some}
 use Rattle.shared_tree.proofs.shared.Shared.next_ending.Goals as goal
-
-none_some : (line : Line) → ◌≡◌ {A = Option Line} None (Some line) → ⊥
-none_some line e = cc
 
 pub last_step-requires : goal.last_step-requires
 last_step-requires c =
@@ -21,7 +18,7 @@ unreachable-requires c =
     let k : ℕ = held.worker in
     let asks : AsksAlone w k p = record { I = c.self.invariant; F = held.fits; shared = subst (λ (z : SharedValue). IsShared z p) (sym c.self.view_is) c.requires.shared; free = held.free } in
     let line = some_line w k p c.self.invariant asks.F asks.shared (runs_on asks) in
-    none_some line.0 (sym c.in-None.is ∙ (c.line.ensures ∙ (ap₂ (line_at w.program) c.fun.ensures c.next.ensures ∙ line.1)))
+    none_some (sym c.in-None.is ∙ (c.line.ensures ∙ (ap₂ (line_at w.program) c.fun.ensures c.next.ensures ∙ line.1)))
 
 pub returns : goal.returns
 returns c =

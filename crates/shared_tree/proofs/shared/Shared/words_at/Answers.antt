@@ -1,5 +1,4 @@
-use Rattle.shared_tree.proofs.Common.{option_copied, ap, sym, ◌∙◌, heap_of, words_in, saturating_words, SharedValue, accounts, words_now, asks_waiting}
-use Rattle.entry_calls.proofs.below.heap_marking.{never_given_up as never_gone}
+use Rattle.shared_tree.proofs.Common.{option_copied, ap, sym, ◌∙◌, heap_of, words_in, saturating_words, SharedValue, accounts, words_now, asks_waiting, never_gone}
 use Rattle.shared_tree.proofs.shared.Shared.words_at.Goals as goal
 
 pub unreachable-requires : goal.unreachable-requires

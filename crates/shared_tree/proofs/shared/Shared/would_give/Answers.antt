@@ -1,8 +1,8 @@
-use Rattle.shared_tree.proofs.Common.{◌≡◌, option_copied, ap, sym, ◌∙◌, heap_of, left_in, sweep_number, SharedValue, accounts, never_gone, would_be, the_view, asks_marked}
+use Rattle.shared_tree.proofs.Common.{◌≡◌, option_copied, ap, sym, ◌∙◌, heap_of, left_in, sweep_number, SharedValue, accounts, never_gone, would_be, the_view, asks_marked, waits}
 use Rattle.shared_tree.proofs.shared.Shared.would_give.Goals as goal
 
 pub unreachable-requires : goal.unreachable-requires
-unreachable-requires c = never_gone (asks_marked c.args.t c.self.view_is c.self.invariant c.requires.goes c.requires.marked) (sym c.rest.ensures ∙ ap option_copied c.in_default.is)
+unreachable-requires c = never_gone (waits (asks_marked c.args.t c.self.view_is c.self.invariant c.requires.goes c.requires.marked)) (sym c.rest.ensures ∙ ap option_copied c.in_default.is)
 
 pub would_give-requires : goal.would_give-requires
 would_give-requires c =
