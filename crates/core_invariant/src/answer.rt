@@ -13,7 +13,8 @@ pub enum NotEntered {
 }
 
 impl From<AllocError> for NotEntered {
-    ghost use Rattle.core_invariant.specs.declared.answer.NotEntered.TheVariants.{NoMemory, Refuses};
+    ghost use Rattle.std.specs.Prelude.{◌≡◌};
+    ghost use Rattle.core_invariant.specs.declared.answer.NotEntered.TheVariants.{NoMemory};
 
     ghost from_gives = { λ _ e. e ≡ NoMemory };
 
@@ -24,6 +25,7 @@ impl From<AllocError> for NotEntered {
 
 impl From<Refused> for NotEntered {
     ghost use Rattle.std.specs.Prelude.{◌≡◌};
+    ghost use Rattle.core_invariant.specs.declared.answer.NotEntered.TheVariants.{Refuses};
 
     ghost from_gives = { λ cause e. e ≡ Refuses cause };
 

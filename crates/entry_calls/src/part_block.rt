@@ -57,6 +57,8 @@ pub struct BlockSource {
 }
 
 impl BlockSource {
+    ghost use Rattle.std.specs.Prelude.{◌≡◌};
+
     /// Nothing but the allocator.
     pub fn new(alloc: Global) -> BlockSource {
         BlockSource { alloc, spare: None }
@@ -91,6 +93,7 @@ impl BlockSource {
 }
 
 impl PartInBlock {
+    ghost use Rattle.std.specs.Prelude.{◌≡◌};
     ghost use Rattle.std.specs.Borrow.{sem};
     ghost use Rattle.entry_calls.specs.PartLends.{lends_part};
 

@@ -27,7 +27,7 @@ pub struct Machine<'p> {
 }
 
 impl<'p> Model for Machine<'p> {
-    ghost use Rattle.hh_model.specs.Machine.{MachineValue, IsOfRun, begun, advanced};
+    ghost use Rattle.hh_model.specs.Machine.{MachineValue, IsOfRun};
 
     ghost Value = { MachineValue };
 
@@ -40,6 +40,7 @@ impl<'p> Machine<'p> {
     ghost use Rattle.std.specs.Prelude.{◌≡◌, ◌≤◌, ◌<◌, ◌+◌, ◌^◌, ◌↔◌, ℕ, slice_get, IfOk, IfSome, OnOk, OnErr, Err, true, false};
     ghost use Rattle.hh_model.specs.Calculations.{advanced_by, calculates};
     ghost use Rattle.hh_model.specs.Step.{can_step, fetched};
+    ghost use Rattle.hh_model.specs.Machine.{begun, advanced, IsOfRun};
 
     /// A machine before its first step, with this limit of fields.
     pub fn start(
