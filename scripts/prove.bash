@@ -1,6 +1,6 @@
-# Proves and builds the program, in a copy of its crates, by the gate's own command. So nothing that a run of the gate
-# or of this has proved on the machine is proved again, even if that run was stopped or in another copy of the
-# repository.
+# Proves and builds the program, in a copy of its crates, by the gate's own command. So a kit that keeps proofs between
+# runs proves nothing again that a run of the gate or of this has proved on the machine, even if that run was stopped or
+# in another copy of the repository.
 
 # By crate: its line in crates.txt, and the libraries that it names.
 declare -A line_of=() libraries_of=()
@@ -167,7 +167,7 @@ prove_copy() {
   : >"$top/out/proof.log"
   copy_to "$room" || exit 1
   program=$top/out/$crate-$(sum_of "$room")
-  parting="stopped; what was proved is kept, and $called prove goes on from there"
+  parting="stopped; $called prove goes on from there if the kit keeps proofs between runs"
   if ! run_apart prove_in "$room" </dev/null >&2 9>&-; then
     grep -E '^rt: .*(NOT PROVED|FAILED|refused)|error' "$top/out/proof.log" | tail -n 20 >&2
     say "the program could not be proved and built; the whole output is in $top/out/proof.log"
