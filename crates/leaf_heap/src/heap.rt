@@ -14,9 +14,14 @@ use std::mem;
 
 /// The chunks of a task. No object in them was moved, a large one, of more than 1,024 words, has its chunk to itself,
 /// and the numbers of the chunks are distinct.
-#[derive(Drop)]
 pub struct LeafHeap {
     pub(crate) space: Space,
+}
+
+impl Drop for LeafHeap {
+    fn drop(self) {
+        let LeafHeap { space: _ } = self;
+    }
 }
 
 impl Model for LeafHeap {
@@ -233,7 +238,9 @@ impl LeafHeap {
         requires spare { length left.chunks + length right.chunks ≤ self.old.spare }
         ensures merged { self.new ≡ with_places (merged self.old left right) self.new.slots self.new.spare }
     {
-        self.space.merge(left.space, right.space);
+        let LeafHeap { space: left } = left;
+        let LeafHeap { space: right } = right;
+        self.space.merge(left, right);
     }
 
     /// Takes the chunks out, for a collection or a sweep; the heap is left without chunks.
