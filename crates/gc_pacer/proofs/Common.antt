@@ -1,6 +1,7 @@
 -- The names of lower crates and of the specifications that these proofs use. Declares nothing.
 pub use Rattle.run_statistics.specs.below.entry_calls.{GetsChunk, EndsForFuel, BeginsLeaf, EndsLeaf, BeginsMarking, MarksMore, PutsOff, EntersLeaving, EntersLent, EntersSteps, SweepsHeap, TakesTask, worker_pace, Pays, owed_by, LeavesBy, LeavesPart, LentTo}
 pub use Rattle.gc_pacer.specs.Paces.{AreIdle, KeepsPaces, NotesAt, SameMarks, KeepsNoted, NotesOther}
+pub use Rattle.gc_pacer.specs.declared.paced.Pacer.{Pacer}
 pub use Rattle.run_statistics.proofs.EntryCounted.{ran_enters, lent_enters}
 pub use Rattle.run_statistics.proofs.below.core_invariant.{entry_on}
 pub use Rattle.run_statistics.proofs.below.heap_marking.{keeps_items, entered_accounts, mark_kept, steps_kept, paces_stay, fork_is, goes_free, joined_is, joined_stops, begin_stops, begin_counted, begin_marked, drop_keeps, owed_is, owed_marks, marked_free}

@@ -1,5 +1,5 @@
 -- The records before the first entry, and if no entry is made.
-use Rattle.gc_pacer.proofs.Common.{◌≡◌, ℕ, List, [], slice_get, inl, inr, ap, sym, subst, ◌∙◌, cases_eq, SettingsValue, ledger_of, idle, is_paced, pace_at_end, pace_of, Ledger, idle_at, NotEntered, NoMemory, Refuses, SharedValue, accounts, IsUnchanged, Pace, Other, KeepsPace, KeepsPrevious, keeps_items, worker_pace, AreIdle, KeepsPaces, NotesAt, SameMarks}
+use Rattle.gc_pacer.proofs.Common.{◌≡◌, ℕ, List, [], slice_get, inl, inr, ap, sym, subst, ◌∙◌, cases_eq, SettingsValue, ledger_of, idle, is_paced, pace_at_end, pace_of, Ledger, idle_at, NotEntered, NoMemory, Refuses, SharedValue, accounts, IsUnchanged, Pace, Other, KeepsPace, KeepsPrevious, keeps_items, worker_pace, AreIdle, KeepsPaces, NotesAt, SameMarks, Pacer}
 
 idle_kept : (l : Ledger) (q : Pace) → q.previous ≡ Other → q.marks.items ≡ [] → KeepsPace l q idle
 idle_kept l q p m = record { previous = subst (λ a. KeepsPrevious l a idle.previous) (sym p) tt; marks = m }
@@ -25,6 +25,10 @@ same_kept w w' paces ep es ej K =
           subst (λ l. KeepsPace l q (worker_pace w' k)) (sym ledger)
           (subst (λ ps. KeepsPace (accounts w) q (pace_of ps k)) (sym paces_at) (K.keeps (ap (λ (l : Ledger). l.end) (sym ledger) ∙ on) k q at));
     }
+
+-- of what its box lends
+pub lent_kept : (lent boxed : Pacer) → lent ≡ boxed → KeepsPaces boxed.counted boxed.paces → KeepsPaces lent.counted lent.paces
+lent_kept lent boxed same K = subst (λ (z : Pacer). KeepsPaces z.counted z.paces) (sym same) K
 
 -- with more capacity in one of the lists
 pub marks_kept : (w : SharedValue) (old new : List Pace) (j : ℕ) → NotesAt old new j SameMarks → KeepsPaces w old → KeepsPaces w new

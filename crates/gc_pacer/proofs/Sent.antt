@@ -20,6 +20,7 @@ use Rattle.leaf_collections.specs.below.task_slots.TaskSlotContracts as TaskSlot
 use Rattle.leaf_collections.specs.below.task_slots.TaskSlotsContracts as TaskSlots
 use Rattle.run_statistics.specs.below.shared_tree.SharedContracts as Shared
 use Rattle.run_statistics.specs.contracts.counted.Counted as Counted
+use Rattle.gc_pacer.specs.contracts.paced.Pacer as Pacer
 use Rattle.gc_pacer.specs.contracts.paced.Paced as Paced
 
 pub shelf_send : IsSend Shelf.the_row
@@ -46,5 +47,8 @@ shared_send = search (task_slots_send, program.the_send, tree.the_send, pool.the
 pub counted_send : IsSend Counted.the_row
 counted_send = search (shared_send, listed.the_send, sendable, std.crosses, maps.crosses) depth 300 fits 1000000
 
+pub pacer_send : IsSend Pacer.the_row
+pacer_send = search (counted_send, listed.the_send, roomy.the_send, sendable, std.crosses, maps.crosses) depth 300 fits 1000000
+
 pub paced_send : IsSend Paced.the_row
-paced_send = search (counted_send, listed.the_send, roomy.the_send, apart.the_send, sendable, std.crosses, maps.crosses) depth 300 fits 1000000
+paced_send = search (pacer_send, apart.the_send, sendable, std.crosses, maps.crosses) depth 300 fits 1000000

@@ -5,7 +5,7 @@ ghost use Rattle.run_statistics.specs.below.core_invariant.{refused, IsCaused};
 
 use crate::noting::{idle_paces, note_mark, note_other, note_ran, reserve_mark};
 use crate::owing::owed;
-use crate::paced::{Paced, put_apart};
+use crate::paced::{Paced, Pacer};
 use run_statistics::{
     Addr, BlockSource, Counted, EntryCalls, Kind, Leaving, LegalCalls, Lent, Moved, NotEnded,
     NotEntered, NotLeft, Owed, PartBlock, PartInBlock, Private, Program, Ran, Refused, RunEnd,
@@ -35,52 +35,47 @@ impl EntryCalls for Paced {
     ghost value = { λ p. p };
 
     fn new(alloc: Global, program: &Program, settings: Settings) -> Result<Paced, AllocError> {
-        let shared = Counted::new(alloc, program, settings)?;
+        let counted = Counted::new(alloc, program, settings)?;
         let paces = idle_paces(alloc, settings.workers())?;
-        let apart = put_apart(alloc, shared)?;
-        Ok(Paced {
-            shared: apart,
-            paces,
-        })
+        let pacer = Pacer { counted, paces }.boxed(alloc)?;
+        Ok(Paced { pacer })
     }
 
     fn reserve(&mut self) -> Result<(), AllocError> {
-        self.shared.get_mut().reserve()
+        self.pacer.get_mut().counted.reserve()
     }
 
     fn halt(&mut self) {
-        self.shared.get_mut().halt();
+        self.pacer.get_mut().counted.halt();
     }
 
     fn took(&mut self, worker: u32, t: u32, block: PartBlock) -> Result<PartInBlock, Refused> {
-        let shared = self.shared.get_mut();
-        shared.stands();
-        let part = shared.took(worker, t, block)?;
-        note_other(&mut self.paces, worker);
+        let pacer = self.pacer.get_mut();
+        pacer.counted.stands();
+        let part = pacer.counted.took(worker, t, block)?;
+        note_other(&mut pacer.paces, worker);
         Ok(part)
     }
 
     fn ran_private(&mut self, worker: u32, part: &mut Private) -> Result<(), Refused> {
-        let shared = self.shared.get_mut();
-        shared.stands();
+        let pacer = self.pacer.get_mut();
+        pacer.counted.stands();
         let task = part.task;
-        shared.ran_private(worker, part)?;
-        note_ran(shared.shared(), &mut self.paces, worker, task, 0);
+        pacer.counted.ran_private(worker, part)?;
+        note_ran(pacer.counted.shared(), &mut pacer.paces, worker, task, 0);
         Ok(())
     }
 
     fn ran_lent(&mut self, worker: u32, part: &mut Private) -> Result<Lent, NotEntered> {
-        let shared = self.shared.get_mut();
-        shared.stands();
+        let pacer = self.pacer.get_mut();
+        pacer.counted.stands();
         let task = part.task;
-        let lent = shared.ran_lent(worker, part)?;
+        let lent = pacer.counted.ran_lent(worker, part)?;
         match lent {
-            Lent::Leaves(_) => Ok(lent),
-            _ => {
-                note_ran(shared.shared(), &mut self.paces, worker, task, 0);
-                Ok(lent)
-            }
+            Lent::Leaves(_) => return Ok(lent),
+            _ => note_ran(pacer.counted.shared(), &mut pacer.paces, worker, task, 0),
         }
+        Ok(lent)
     }
 
     fn ran_leaving(
@@ -90,26 +85,26 @@ impl EntryCalls for Paced {
         part: PartInBlock,
         leaving: Leaving,
     ) -> Result<Ran, NotLeft> {
-        let shared = self.shared.get_mut();
-        shared.stands();
+        let pacer = self.pacer.get_mut();
+        pacer.counted.stands();
         let task = part.task();
-        let ran = shared.ran_leaving(blocks, worker, part, leaving)?;
+        let ran = pacer.counted.ran_leaving(blocks, worker, part, leaving)?;
         let left = left_in(&ran);
-        note_ran(shared.shared(), &mut self.paces, worker, task, left);
+        note_ran(pacer.counted.shared(), &mut pacer.paces, worker, task, left);
         Ok(ran)
     }
 
     fn fuel(&mut self, worker: u32) -> Result<(), Refused> {
-        let shared = self.shared.get_mut();
-        shared.stands();
-        shared.fuel(worker)
+        let pacer = self.pacer.get_mut();
+        pacer.counted.stands();
+        pacer.counted.fuel(worker)
     }
 
     fn chunk(&mut self, worker: u32, part: &mut Private) -> Result<(), NotEntered> {
-        let shared = self.shared.get_mut();
-        shared.stands();
-        shared.chunk(worker, part)?;
-        note_other(&mut self.paces, worker);
+        let pacer = self.pacer.get_mut();
+        pacer.counted.stands();
+        pacer.counted.chunk(worker, part)?;
+        note_other(&mut pacer.paces, worker);
         Ok(())
     }
 
@@ -118,58 +113,58 @@ impl EntryCalls for Paced {
         worker: u32,
         part: &mut Private,
     ) -> Result<(Vec<Addr>, ToChunks), NotEntered> {
-        let shared = self.shared.get_mut();
-        shared.stands();
-        let begun = shared.leaf_begin(worker, part)?;
-        note_other(&mut self.paces, worker);
+        let pacer = self.pacer.get_mut();
+        pacer.counted.stands();
+        let begun = pacer.counted.leaf_begin(worker, part)?;
+        note_other(&mut pacer.paces, worker);
         Ok(begun)
     }
 
     fn leaf_end(&mut self, worker: u32, part: &mut Private, moved: Moved) -> Result<(), NotEnded> {
-        let shared = self.shared.get_mut();
-        shared.stands();
-        shared.leaf_end(worker, part, moved)?;
-        note_other(&mut self.paces, worker);
+        let pacer = self.pacer.get_mut();
+        pacer.counted.stands();
+        pacer.counted.leaf_end(worker, part, moved)?;
+        note_other(&mut pacer.paces, worker);
         Ok(())
     }
 
     fn put_off(&mut self, worker: u32, part: &mut Private) -> Result<(), Refused> {
-        let shared = self.shared.get_mut();
-        shared.stands();
-        shared.put_off(worker, part)?;
-        note_other(&mut self.paces, worker);
+        let pacer = self.pacer.get_mut();
+        pacer.counted.stands();
+        pacer.counted.put_off(worker, part)?;
+        note_other(&mut pacer.paces, worker);
         Ok(())
     }
 
     fn mark(&mut self, worker: u32, t: u32) -> Result<(), NotEntered> {
-        let shared = self.shared.get_mut();
-        shared.stands();
-        if reserve_mark(&mut self.paces, worker).is_err() {
-            return Err(no_place(shared.shared(), worker, t));
+        let pacer = self.pacer.get_mut();
+        pacer.counted.stands();
+        if reserve_mark(&mut pacer.paces, worker).is_err() {
+            return Err(no_place(pacer.counted.shared(), worker, t));
         }
-        shared.mark(worker, t)?;
-        note_mark(shared.shared(), &mut self.paces, worker, t);
+        pacer.counted.mark(worker, t)?;
+        note_mark(pacer.counted.shared(), &mut pacer.paces, worker, t);
         Ok(())
     }
 
     fn mark_objects(&mut self, worker: u32, t: u32, n: u32) -> Result<u32, Refused> {
-        let shared = self.shared.get_mut();
-        shared.stands();
-        let count = shared.mark_objects(worker, t, n)?;
-        note_other(&mut self.paces, worker);
+        let pacer = self.pacer.get_mut();
+        pacer.counted.stands();
+        let count = pacer.counted.mark_objects(worker, t, n)?;
+        note_other(&mut pacer.paces, worker);
         Ok(count)
     }
 
     fn sweep(&mut self, worker: u32, t: u32, given: u32) -> Result<(), Refused> {
-        let shared = self.shared.get_mut();
-        shared.stands();
-        shared.sweep(worker, t, given)?;
-        note_other(&mut self.paces, worker);
+        let pacer = self.pacer.get_mut();
+        pacer.counted.stands();
+        pacer.counted.sweep(worker, t, given)?;
+        note_other(&mut pacer.paces, worker);
         Ok(())
     }
 
     fn owed(&self, worker: u32) -> Owed {
-        owed(self.shared(), self.paces.at(worker as usize))
+        owed(self.shared(), self.pacer.get().paces.at(worker as usize))
     }
 
     fn refused_first(&self, worker: u32) -> Option<Refused> {
@@ -201,6 +196,6 @@ impl EntryCalls for Paced {
     }
 
     fn stands(&self) {
-        self.shared.get().stands();
+        self.pacer.get().counted.stands();
     }
 }

@@ -10,18 +10,28 @@ use std::marker::Model;
 /// The shared value whose journal is paced: each entry gives what its worker owes to the collections of the heaps of
 /// waiting tasks, or ends the run because the fuel is used up.
 pub struct Paced {
-    /// Boxed, since it is moved out of the turn and back at each entry.
-    pub(crate) shared: BoxedSlot<Counted>,
-    /// The record of each worker's entries.
+    /// All of it is boxed, since it is moved out of the turn and back at each entry.
+    pub(crate) pacer: BoxedSlot<Pacer>,
+}
+
+/// The shared value with the totals of its journal, and the record of each worker's entries.
+pub(crate) struct Pacer {
+    pub(crate) counted: Counted,
     pub(crate) paces: Listed<Pace>,
+}
+
+impl Drop for Pacer {
+    fn drop(self) {
+        let Pacer {
+            counted: _,
+            paces: _,
+        } = self;
+    }
 }
 
 impl Drop for Paced {
     fn drop(self) {
-        let Paced {
-            shared: _,
-            paces: _,
-        } = self;
+        let Paced { pacer: _ } = self;
     }
 }
 
@@ -31,16 +41,26 @@ impl Model for Paced {
 
     ghost Value = { SharedValue };
 
-    ghost view = { λ p. p.shared };
+    ghost view = { λ p. p.pacer.counted };
 
-    ghost invariant = { λ p. KeepsPaces p.shared p.paces };
+    ghost invariant = { λ p. KeepsPaces p.pacer.counted p.pacer.paces };
 }
 
-/// Boxes the shared value. If the allocation fails it is dropped.
-pub(crate) fn put_apart(alloc: Global, shared: Counted) -> Result<BoxedSlot<Counted>, AllocError>
-    ensures { IfOk result (λ s. s ≡ shared) }
-{
-    Ok(BoxedSlot::new(alloc, shared)?)
+impl Pacer {
+    /// Boxes it. If the allocation fails it is dropped.
+    pub(crate) fn boxed(self, alloc: Global) -> Result<BoxedSlot<Pacer>, AllocError>
+        ensures { IfOk result (λ p. p ≡ self) }
+    {
+        Ok(BoxedSlot::new(alloc, self)?)
+    }
+
+    // The shared value alone, with the totals of its journal.
+    fn into_counted(self) -> Counted
+        ensures { result ≡ self.counted }
+    {
+        let Pacer { counted, paces: _ } = self;
+        counted
+    }
 }
 
 impl Paced {
@@ -49,14 +69,14 @@ impl Paced {
         ensures same { result ≡ self }
         ensures paced { is_paced result.program result.settings result.journal.items ≡ true }
     {
-        let Paced { shared, paces: _ } = self;
-        shared.into_inner()
+        let Paced { pacer } = self;
+        pacer.into_inner().into_counted()
     }
 
     /// The shared value, to be read.
     pub fn shared(&self) -> &Shared
         ensures { result.now ≡ self.now }
     {
-        self.shared.get().shared()
+        self.pacer.get().counted.shared()
     }
 }
