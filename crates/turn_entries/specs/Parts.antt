@@ -40,7 +40,7 @@ pub record MayCopy (w : SharedValue) (k : ℕ) (c : Collecting) : Type 0 where
   pub fits : WorkerPartFits w k c.part
   pub fresh : c.part.fresh ≡ 0
   pub before : Private
-  pub begun : CopyingHasBegun before c.part c.roots.items c.to_chunks
+  pub begun : CopyingHasBegun before c.part c.lists.roots.items c.lists.to_chunks
 
 -- ---- WHATEVER THE VALUE IS
 

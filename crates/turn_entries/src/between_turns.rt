@@ -5,14 +5,20 @@ ghost use Rattle.turn_entries.specs.Next.{is_out_of_memory};
 use entry_calls::{Addr, BoxedSlot, Moved, PartInBlock, Paused, Private, ToChunks};
 use std::snapshot::Snapshot;
 
-/// A part whose leaf collection has begun, with its roots, and the new chunks with all that copying needs.
+/// What a leaf collection takes along: the roots, and the new chunks with all that copying needs.
+#[derive(Drop)]
+pub struct CollectionLists {
+    pub roots: Vec<Addr>,
+    pub to_chunks: ToChunks,
+    /// A block for the result of copying.
+    pub block: BoxedSlot<Moved>,
+}
+
+/// A part whose leaf collection has begun, with what that takes along.
 #[derive(Drop)]
 pub struct Collecting {
     pub part: PartInBlock,
-    pub roots: BoxedSlot<Vec<Addr>>,
-    pub to_chunks: BoxedSlot<ToChunks>,
-    /// A block for the result of copying.
-    pub block: BoxedSlot<Moved>,
+    pub lists: BoxedSlot<CollectionLists>,
 }
 
 /// A part whose heap was copied, with the result of copying.

@@ -10,18 +10,10 @@ ghost use Rattle.turn_entries.specs.Parts.{IsPaused};
 ghost use Rattle.turn_entries.specs.Values.{MayEnter};
 
 use crate::act::TurnOutcome;
-use crate::between_turns::{Collecting, Copied, Next};
+use crate::between_turns::{Collecting, CollectionLists, Copied, Next};
 use crate::run::Run;
 use entry_calls::{Addr, BlockSource, BoxedSlot, EntryCalls, Moved, PartInBlock, Paused, ToChunks};
 use std::alloc::{AllocError, Global};
-
-// Blocks for what a collection takes along, and for its result.
-#[derive(Drop)]
-struct CollectionBlocks {
-    roots: BoxedSlot<Vec<Addr>>,
-    to_chunks: BoxedSlot<ToChunks>,
-    moved: BoxedSlot<Moved>,
-}
 
 // No lists.
 fn no_lists(alloc: Global) -> Moved {
@@ -34,46 +26,51 @@ fn no_lists(alloc: Global) -> Moved {
     }
 }
 
-// A block for new chunks and lists, without any.
-fn chunks_block(alloc: Global) -> Result<BoxedSlot<ToChunks>, AllocError> {
-    let none = ToChunks {
+// No new chunks, and no lists for copying.
+fn no_chunks(alloc: Global) -> ToChunks {
+    ToChunks {
         chunks: Vec::new(alloc),
         lists: no_lists(alloc),
         found: Vec::new(alloc),
         laid: Vec::new(alloc),
+    }
+}
+
+// A block for what a collection takes along, without any of it yet, and one for its result.
+fn lists_block(alloc: Global) -> Result<BoxedSlot<CollectionLists>, AllocError> {
+    let block = BoxedSlot::new(alloc, no_lists(alloc))?;
+    let none = CollectionLists {
+        roots: Vec::new(alloc),
+        to_chunks: no_chunks(alloc),
+        block,
     };
     Ok(BoxedSlot::new(alloc, none)?)
 }
 
-impl CollectionBlocks {
-    // Allocates all three.
-    fn new(alloc: Global) -> Result<CollectionBlocks, AllocError> {
-        let roots = BoxedSlot::new(alloc, Vec::new(alloc))?;
-        let to_chunks = chunks_block(alloc)?;
-        let moved = BoxedSlot::new(alloc, no_lists(alloc))?;
-        Ok(CollectionBlocks {
-            roots,
-            to_chunks,
-            moved,
-        })
-    }
-
-    // What a collection takes along, in these blocks.
-    fn fill(self, part: PartInBlock, roots: Vec<Addr>, to_chunks: ToChunks) -> Collecting
-        ensures { result ≡ record { part = part; roots = roots; to_chunks = to_chunks; block = result.block } }
-    {
-        Collecting {
-            part,
-            roots: self.roots.put(roots),
-            to_chunks: self.to_chunks.put(to_chunks),
-            block: self.moved,
-        }
-    }
+// What a collection takes along, in this block.
+fn filled(
+    lists: BoxedSlot<CollectionLists>,
+    part: PartInBlock,
+    roots: Vec<Addr>,
+    to_chunks: ToChunks,
+) -> Collecting
+    ensures { result ≡ record { part = part; lists = record { roots = roots; to_chunks = to_chunks; block = result.lists.block } } }
+{
+    let mut lists = lists;
+    let inside = lists.get_mut();
+    inside.roots = roots;
+    inside.to_chunks = to_chunks;
+    Collecting { part, lists }
 }
 
 impl<P: EntryCalls + Drop> Run<P> {
-    // The collection of the part begins. There are blocks for what it takes along.
-    fn begin_in(&mut self, worker: u32, part: PartInBlock, blocks: CollectionBlocks) -> TurnOutcome
+    // The collection of the part begins. There is a block for what it takes along.
+    fn begin_in(
+        &mut self,
+        worker: u32,
+        part: PartInBlock,
+        lists: BoxedSlot<CollectionLists>,
+    ) -> TurnOutcome
         requires enter { MayEnter (P.value self.old.paced) worker OwedOf.Nothing }
         requires paused { IsPaused (P.value self.old.paced) worker part Paused.Due }
         requires enough { is_pool_enough (P.value self.old.paced).settings (accounts (P.value self.old.paced)) part.task ≡ true }
@@ -84,7 +81,7 @@ impl<P: EntryCalls + Drop> Run<P> {
         let mut part = part;
         match self.paced.leaf_begin(worker, part.get_mut()) {
             Ok((roots, to_chunks)) => {
-                self.entered(Next::Collecting(blocks.fill(part, roots, to_chunks)))
+                self.entered(Next::Collecting(filled(lists, part, roots, to_chunks)))
             }
             Err(cause) => self.out_of_memory(cause),
         }
@@ -103,8 +100,8 @@ impl<P: EntryCalls + Drop> Run<P> {
         requires fresh { part.fresh ≡ 0 }
         ensures { ActsAnyhow (P.value self.old.paced) (P.value self.new.paced) worker (KindOf.Begin part.task) result }
     {
-        match CollectionBlocks::new(blocks.alloc()) {
-            Ok(blocks) => self.begin_in(worker, part, blocks),
+        match lists_block(blocks.alloc()) {
+            Ok(lists) => self.begin_in(worker, part, lists),
             Err(_) => self.halted(),
         }
     }

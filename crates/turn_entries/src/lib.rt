@@ -10,7 +10,7 @@ mod run;
 mod steps;
 
 pub use act::TurnOutcome;
-pub use between_turns::{Collecting, Copied, Next, Ready};
+pub use between_turns::{Collecting, CollectionLists, Copied, Next, Ready};
 pub use entry_calls::{
     BlockSource, EntryCalls, PRIVATE_LIMIT, PartBlock, PartInBlock, Paused, Private, Program,
     RunEnd, Settings, copy, run_local,

@@ -8,7 +8,7 @@ pub use Rattle.copied_part_laws.proofs.below.core_invariant.{status}
 pub use Rattle.copied_part_laws.proofs.below.plain_vec.{got_map, map_got}
 pub use Rattle.copied_part_laws.specs.Copied.{CanCopy}
 pub use Rattle.copied_part_laws.specs.Handed.{IsCopying}
-pub use Rattle.copied_part_laws.specs.below.copying_gc.{Moved, ToChunks, CanTake, IsCollected, IsSoundReference, as_reference, outside}
+pub use Rattle.copied_part_laws.specs.below.copying_gc.{Moved, CanTake, IsCollected, IsSoundReference, as_reference, outside}
 pub use Rattle.copied_part_laws.specs.below.core_invariant.{WorkerPartFits, CopyingHasBegun, SharedValue, accounts, value_of, IsSharedValue}
 pub use Rattle.copied_part_laws.specs.below.hh_lang.{ProgramText}
 pub use Rattle.copied_part_laws.specs.below.leaf_collections.{FitsCopied}
@@ -25,7 +25,7 @@ pub use Rattle.std.proofs.lemmas.Bool.{cases_order, or_right}
 pub use Rattle.std.proofs.lemmas.List.{map-append, length-map}
 pub use Rattle.std.proofs.lemmas.Option.{slice_get_within, slice_get-get_or, same_Some, none-some, slice_get_read, get_or_from_slice_get}
 pub use Rattle.std.proofs.lemmas.Result.{IfErr-weaker, on_ok_weaker}
-pub use Rattle.std.specs.Prelude.{is_some, Vec}
+pub use Rattle.std.specs.Prelude.{is_some}
 pub use Rattle.std.specs.declared.snapshot.Snapshot.{Snapshot}
 pub use Rattle.steal_scheduler.specs.Hands.{AreNewHands, ChangesAt, KeepsOwn, SameHand, TookNone, empty_pops, thefts}
 pub use Rattle.steal_scheduler.specs.Thefts.{SameTheft, StoleNone}
@@ -41,6 +41,7 @@ pub use Rattle.turn_entries.specs.below.turn_lock.{entries_by, view, Extends, Ha
 pub use Rattle.turn_entries.specs.contracts.run.RunKept.TheImpl.{ghosts}
 pub use Rattle.turn_entries.specs.declared.act.TurnOutcome.TheVariants.{Entered}
 pub use Rattle.turn_entries.specs.declared.between_turns.Collecting.{Collecting}
+pub use Rattle.turn_entries.specs.declared.between_turns.CollectionLists.{CollectionLists}
 pub use Rattle.turn_entries.specs.declared.between_turns.Next.{Next}
 pub use Rattle.turn_entries.specs.declared.between_turns.Next.TheVariants.{Running, Forked, Resumed, Idle, Waits, Stop}
 pub use Rattle.turn_entries.specs.declared.between_turns.Ready.{Ready}

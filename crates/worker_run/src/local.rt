@@ -7,8 +7,8 @@ use io_traits::Gate;
 use std::alloc::AllocError;
 use std::snapshot::Snapshot;
 use turn_entries::{
-    Collecting, Copied, PRIVATE_LIMIT, PartInBlock, Paused, Private, Program, Ready, copy,
-    run_local,
+    Collecting, CollectionLists, Copied, PRIVATE_LIMIT, PartInBlock, Paused, Private, Program,
+    Ready, copy, run_local,
 };
 
 // Takes steps of a part until they pause, at most as many as one entry holds, and settles its heap if a fork comes
@@ -46,20 +46,21 @@ pub fn copy_part<G: Gate>(collecting: Collecting, gate: &G, worker: u32) -> Copi
     ensures begun { result.begun.value ≡ collecting.part }
     ensures copied { (p : ProgramText) → WasCopied p worker result }
 {
-    let Collecting {
-        part,
+    let Collecting { part, lists } = collecting;
+    let lists = lists.into_inner();
+    let CollectionLists {
         roots,
         to_chunks,
         block: result,
-    } = collecting;
+    } = lists;
     let (mut part, block) = part.take_out();
     let begun = Snapshot::of(&part);
     let task = part.task;
     let moved = copy(
         &mut part.heap,
         &mut part.frames,
-        roots.get(),
-        to_chunks.into_inner(),
+        &roots,
+        to_chunks,
         gate,
         worker,
         task,

@@ -22,7 +22,7 @@ returns-in-Ok g c = λ ready.
     c.requires.enter.on
     (λ on. (
       on,
-      subst (MayCopy (g.P.EntryCalls.value c.leaf_begin.new.self) c.args.worker) (sym c.fill.ensures) (record {
+      subst (MayCopy (g.P.EntryCalls.value c.leaf_begin.new.self) c.args.worker) (sym c.filled.ensures) (record {
         fits = c.leaf_begin.ensures.fits;
         fresh = ap (λ (p : Private). p.fresh) c.in-Ok.ensures.begun.part ∙ (ap (λ (p : Private). p.fresh) c.get_mut.ensures.value ∙ c.requires.fresh);
         before = c.get_mut.result.now;
