@@ -22,6 +22,10 @@ stack_of s AtomicWrite = s.atomic_writes
 abbrev pub no_stacks : Stacks
 no_stacks = record { plain_reads = []; plain_write = None; atomic_reads = []; atomic_writes = [] }
 
+-- a plain write and plain reads alone
+abbrev pub with_reads : Option CellEntry → List CellEntry → Stacks
+with_reads write reads = record no_stacks { plain_reads = reads; plain_write = write }
+
 -- the race of v with a stack of this kind: with the first from the bottom that doesn't happen before v
 abbrev pub race_in : StrandOrder → CellAccess → CellAccessKind → List CellEntry → Option CellRace
 race_in o v kind stack = if clash kind v.kind then option_map (race_of kind v) (lowest_unordered o v.strand stack) else None

@@ -1,15 +1,16 @@
 // The cell of a location.
 
-ghost use Rattle.std.specs.Prelude.{◌≡◌, ◌≢◌, ◌↔◌, [], Some, IfOk, IsTrue, option_to_list};
+ghost use Rattle.std.specs.Prelude.{◌≡◌, ◌≢◌, [], ◌∷◌, Some, IfOk, IfSome, option_to_list};
 ghost use Rattle.race_cells.specs.declared.access.CellAccessKind.TheVariants.{PlainWrite};
 ghost use Rattle.race_cells.specs.CellAccess.{entry_of};
-ghost use Rattle.race_cells.specs.AccessStack.{without_earlier};
-ghost use Rattle.race_cells.specs.Scan.{keep, no_stacks};
+ghost use Rattle.race_cells.specs.AccessStack.{settled};
+ghost use Rattle.race_cells.specs.Scan.{keep, no_stacks, with_reads};
 ghost use Rattle.race_cells.specs.Cell.{few_stacks, kept_stacks};
 
 use crate::access::{CellAccess, CellAccessKind, CellEntry, CellRace};
 use crate::order::Strands;
-use crate::stacks::{Stacks, race_with_one, stacks_of};
+use crate::stack::{is_low, last_to_leave};
+use crate::stacks::{Stacks, race_with_one, race_with_two, stacks_of, stacks_of_two};
 use boxed::BoxedSlot;
 use std::alloc::{AllocError, Global};
 use std::marker::Model;
@@ -18,7 +19,7 @@ use std::mem::size_of;
 // Most locations take a cell and nothing else.
 const _: () = prove!(size_of::<Cell>() == 32);
 
-// What a cell keeps: most locations have a plain write and a plain read to keep at most.
+// What a cell keeps: most locations have a plain write and two plain reads to keep at most.
 #[derive(Drop)]
 enum KeptAccesses {
     // A race was reported.
@@ -26,6 +27,12 @@ enum KeptAccesses {
     Few {
         write: Option<CellEntry>,
         read: Option<CellEntry>,
+    },
+    // Two plain reads, the lower one of the stack first.
+    Two {
+        write: Option<CellEntry>,
+        below: CellEntry,
+        top: CellEntry,
     },
     Many(BoxedSlot<Stacks>),
 }
@@ -107,6 +114,11 @@ impl Cell {
                 let with_write = race_with_one(strands, access, CellAccessKind::PlainWrite, *write);
                 with_read.or(with_write)
             }
+            KeptAccesses::Two { write, below, top } => {
+                let with_reads = race_with_two(strands, access, *below, *top);
+                let with_write = race_with_one(strands, access, CellAccessKind::PlainWrite, *write);
+                with_reads.or(with_write)
+            }
             KeptAccesses::Many(stacks) => stacks.get().race(strands, access),
         }
     }
@@ -128,6 +140,12 @@ impl Cell {
                 let write = *write;
                 let read = *read;
                 self.kept = few_and_next(alloc, strands, write, read, access)?;
+                Ok(())
+            }
+            KeptAccesses::Two { write, below, top } => {
+                let write = *write;
+                let reads = (*below, *top);
+                self.kept = two_and_next(alloc, strands, write, reads, access)?;
                 Ok(())
             }
             KeptAccesses::Many(stacks) => {
@@ -164,37 +182,95 @@ fn few_and_next<S: Strands>(
 {
     match access.kind {
         CellAccessKind::PlainWrite => Ok(only_written(access)),
-        CellAccessKind::PlainRead if is_none_or_earlier(strands, read, access.strand) => {
-            let read = Some(access.entry());
-            Ok(KeptAccesses::Few { write, read })
-        }
-        _ => many_and_next(alloc, strands, write, read, access),
+        CellAccessKind::PlainRead => Ok(few_and_read(strands, write, read, access.entry())),
+        _ => many_and_next(alloc, strands, stacks_of(alloc, write, read)?, access),
     }
 }
 
-// Whether what there is of an access happens before a strand.
-fn is_none_or_earlier<S: Strands>(strands: &S, entry: Option<CellEntry>, strand: u32) -> bool
-    ensures { IsTrue result ↔ (without_earlier (S.order strands.now) strand (option_to_list entry) ≡ []) }
-{
-    match entry {
-        None => true,
-        Some(earlier) => strands.happens_before(earlier.strand, strand),
-    }
-}
-
-// The stacks of a plain write, a plain read and the next access.
-fn many_and_next<S: Strands>(
-    alloc: Global,
+// What is kept of a plain write, a plain read and the next plain read.
+fn few_and_read<S: Strands>(
     strands: &S,
     write: Option<CellEntry>,
     read: Option<CellEntry>,
+    next: CellEntry,
+) -> KeptAccesses
+    ensures { kept_stacks result ≡ Some (with_reads write (settled (S.order strands.now) next (option_to_list read))) }
+{
+    match read {
+        Some(earlier) if !strands.happens_before(earlier.strand, next.strand) => {
+            KeptAccesses::Two {
+                write,
+                below: earlier,
+                top: next,
+            }
+        }
+        _ => KeptAccesses::Few {
+            write,
+            read: Some(next),
+        },
+    }
+}
+
+// What is kept of a plain write, two plain reads and the next access.
+fn two_and_next<S: Strands>(
+    alloc: Global,
+    strands: &S,
+    write: Option<CellEntry>,
+    reads: (CellEntry, CellEntry),
+    access: CellAccess,
+) -> Result<KeptAccesses, AllocError>
+    ensures { IfOk result (λ kept. kept_stacks kept
+        ≡ Some (keep (S.order strands.now) access (with_reads write (reads.1 ∷ (reads.0 ∷ []))))) }
+{
+    match access.kind {
+        CellAccessKind::PlainWrite => {
+            let kept = only_written(access);
+            Ok(kept)
+        }
+        CellAccessKind::PlainRead => match two_and_read(strands, write, reads, access.entry()) {
+            Some(kept) => Ok(kept),
+            None => many_and_next(alloc, strands, stacks_of_two(alloc, write, reads)?, access),
+        },
+        _ => many_and_next(alloc, strands, stacks_of_two(alloc, write, reads)?, access),
+    }
+}
+
+// What is kept of a plain write, two plain reads and the next plain read, unless it is three plain reads.
+fn two_and_read<S: Strands>(
+    strands: &S,
+    write: Option<CellEntry>,
+    reads: (CellEntry, CellEntry),
+    next: CellEntry,
+) -> Option<KeptAccesses>
+    ensures { IfSome result (λ kept. kept_stacks kept
+        ≡ Some (with_reads write (settled (S.order strands.now) next (reads.1 ∷ (reads.0 ∷ []))))) }
+{
+    let (below, top) = reads;
+    if strands.happens_before(top.strand, next.strand) {
+        return Some(few_and_read(strands, write, Some(below), next));
+    }
+    if is_low(strands, next.strand, below, top) {
+        let below = last_to_leave(strands, below, top);
+        return Some(KeptAccesses::Two {
+            write,
+            below,
+            top: next,
+        });
+    }
+    None
+}
+
+// The stacks of a cell, with the next access.
+fn many_and_next<S: Strands>(
+    alloc: Global,
+    strands: &S,
+    stacks: Stacks,
     access: CellAccess,
 ) -> Result<KeptAccesses, AllocError>
     requires { access.kind ≢ PlainWrite }
-    ensures { IfOk result (λ kept. kept_stacks kept
-        ≡ Some (keep (S.order strands.now) access (few_stacks write read))) }
+    ensures { IfOk result (λ kept. kept_stacks kept ≡ Some (keep (S.order strands.now) access stacks)) }
 {
-    let mut stacks = stacks_of(alloc, strands, write, read)?;
+    let mut stacks = stacks;
     stacks.keep(strands, access)?;
     Ok(KeptAccesses::Many(BoxedSlot::new(alloc, stacks)?))
 }

@@ -24,7 +24,7 @@ impl Model for AccessStack {
 }
 
 impl AccessStack {
-    ghost use Rattle.std.specs.Prelude.{◌≡◌, [], ◌∷◌, OnOk, OnErr};
+    ghost use Rattle.std.specs.Prelude.{◌≡◌, [], ◌∷◌, OnOk, OnErr, IfOk, option_to_list};
     ghost use Rattle.race_cells.specs.AccessStack.{lowest_unordered, settled};
 
     /// An empty stack, which takes no memory yet.
@@ -34,6 +34,39 @@ impl AccessStack {
         AccessStack {
             entries: Vec::new(alloc),
         }
+    }
+
+    // Pushes an access, whatever it is.
+    fn push(&mut self, entry: CellEntry) -> Result<(), AllocError>
+        ensures { OnOk result (self.new ≡ entry ∷ self.old) }
+    {
+        self.entries.push(entry)?;
+        Ok(())
+    }
+
+    /// A stack of at most one access.
+    pub(crate) fn of_one(alloc: Global, entry: Option<CellEntry>) -> Result<AccessStack, AllocError>
+        ensures { IfOk result (λ s. s ≡ option_to_list entry) }
+    {
+        let mut stack = AccessStack::new(alloc);
+        if let Some(entry) = entry {
+            stack.push(entry)?;
+        }
+        Ok(stack)
+    }
+
+    /// A stack of two accesses.
+    pub(crate) fn of_two(
+        alloc: Global,
+        below: CellEntry,
+        top: CellEntry,
+    ) -> Result<AccessStack, AllocError>
+        ensures { IfOk result (λ s. s ≡ top ∷ (below ∷ [])) }
+    {
+        let mut stack = AccessStack::new(alloc);
+        stack.push(below)?;
+        stack.push(top)?;
+        Ok(stack)
     }
 
     /// The first from the bottom that doesn't happen before a strand.
@@ -102,15 +135,16 @@ fn two_topmost(entries: &Vec<CellEntry>) -> Option<(CellEntry, CellEntry)>
     }
 }
 
-// Whether two meet no higher than the upper one meets a strand.
-fn is_low<S: Strands>(strands: &S, strand: u32, below: CellEntry, top: CellEntry) -> bool
+/// Whether two meet no higher than the upper one meets a strand.
+pub(crate) fn is_low<S: Strands>(strands: &S, strand: u32, below: CellEntry, top: CellEntry) -> bool
     ensures { result ≡ is_low (S.order strands.now) strand below top }
 {
-    strands.meeting(top.strand, strand) <= strands.meeting(below.strand, top.strand)
+    let upper = strands.meeting(top.strand, strand);
+    upper == 0 || upper <= strands.meeting(below.strand, top.strand)
 }
 
-// Of two the one that leaves their meeting later.
-fn last_to_leave<S: Strands>(strands: &S, below: CellEntry, top: CellEntry) -> CellEntry
+/// Of two the one that leaves their meeting later.
+pub(crate) fn last_to_leave<S: Strands>(strands: &S, below: CellEntry, top: CellEntry) -> CellEntry
     ensures { result ≡ last_to_leave (S.order strands.now) below top }
 {
     if strands.leaves_first(below.strand, top.strand) {

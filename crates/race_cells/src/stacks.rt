@@ -1,8 +1,9 @@
 // What a cell keeps of the accesses of a location: a stack for each kind.
 
-ghost use Rattle.std.specs.Prelude.{◌≡◌, ◌≢◌, IfOk, OnOk, OnErr, Some, None, option_to_list};
-ghost use Rattle.race_cells.specs.declared.access.CellAccessKind.TheVariants.{PlainWrite};
-ghost use Rattle.race_cells.specs.Scan.{keep, no_stacks, race_among, race_in};
+ghost use Rattle.std.specs.Prelude.{◌≡◌, ◌≢◌, [], ◌∷◌, IfOk, OnOk, OnErr, Some, None, option_to_list};
+ghost use Rattle.race_cells.specs.declared.access.CellAccessKind.TheVariants.{PlainRead, PlainWrite};
+ghost use Rattle.race_cells.specs.AccessStack.{lowest_unordered};
+ghost use Rattle.race_cells.specs.Scan.{keep, race_among, race_in, with_reads};
 
 use crate::access::{CellAccess, CellAccessKind, CellEntry, CellRace};
 use crate::order::Strands;
@@ -20,27 +21,40 @@ pub struct Stacks {
 }
 
 /// The stacks of a plain write and a plain read.
-pub fn stacks_of<S: Strands>(
+pub fn stacks_of(
     alloc: Global,
-    strands: &S,
     plain_write: Option<CellEntry>,
     plain_read: Option<CellEntry>,
 ) -> Result<Stacks, AllocError>
-    ensures { IfOk result (λ s. s ≡ record no_stacks {
-      plain_reads = option_to_list plain_read;
-      plain_write = plain_write;
-    }) }
+    ensures { IfOk result (λ s. s ≡ with_reads plain_write (option_to_list plain_read)) }
 {
-    let mut plain_reads = AccessStack::new(alloc);
-    if let Some(read) = plain_read {
-        plain_reads.settle(strands, read)?;
-    }
-    Ok(Stacks {
+    let plain_reads = AccessStack::of_one(alloc, plain_read)?;
+    Ok(with_reads(alloc, plain_write, plain_reads))
+}
+
+/// The stacks of a plain write and two plain reads, the lower one of their stack first.
+pub fn stacks_of_two(
+    alloc: Global,
+    plain_write: Option<CellEntry>,
+    plain_reads: (CellEntry, CellEntry),
+) -> Result<Stacks, AllocError>
+    ensures { IfOk result (λ s. s ≡ with_reads plain_write (plain_reads.1 ∷ (plain_reads.0 ∷ []))) }
+{
+    let (below, top) = plain_reads;
+    let plain_reads = AccessStack::of_two(alloc, below, top)?;
+    Ok(with_reads(alloc, plain_write, plain_reads))
+}
+
+// The stacks of a plain write and plain reads.
+fn with_reads(alloc: Global, plain_write: Option<CellEntry>, plain_reads: AccessStack) -> Stacks
+    ensures { result ≡ with_reads plain_write plain_reads }
+{
+    Stacks {
         plain_reads,
         plain_write,
         atomic_reads: AccessStack::new(alloc),
         atomic_writes: AccessStack::new(alloc),
-    })
+    }
 }
 
 /// The race of an access with a stack of a kind: with the first from the bottom that doesn't happen before it.
@@ -71,6 +85,40 @@ pub fn race_with_one<S: Strands>(
     let entry = entry?;
     if kind.clashes_with(access.kind) && !strands.happens_before(entry.strand, access.strand) {
         return Some(entry.race_with(kind, access));
+    }
+    None
+}
+
+/// The race of an access with two plain reads, the lower one of their stack first.
+pub fn race_with_two<S: Strands>(
+    strands: &S,
+    access: CellAccess,
+    below: CellEntry,
+    top: CellEntry,
+) -> Option<CellRace>
+    ensures { result ≡ race_in (S.order strands.now) access PlainRead (top ∷ (below ∷ [])) }
+{
+    if !CellAccessKind::PlainRead.clashes_with(access.kind) {
+        return None;
+    }
+    let entry = lowest_of_two(strands, below, top, access.strand)?;
+    Some(entry.race_with(CellAccessKind::PlainRead, access))
+}
+
+// The first of two from the bottom that doesn't happen before a strand.
+fn lowest_of_two<S: Strands>(
+    strands: &S,
+    below: CellEntry,
+    top: CellEntry,
+    strand: u32,
+) -> Option<CellEntry>
+    ensures { result ≡ lowest_unordered (S.order strands.now) strand (top ∷ (below ∷ [])) }
+{
+    if !strands.happens_before(below.strand, strand) {
+        return Some(below);
+    }
+    if !strands.happens_before(top.strand, strand) {
+        return Some(top);
     }
     None
 }
