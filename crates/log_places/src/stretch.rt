@@ -4,6 +4,7 @@ ghost use Rattle.std.specs.Prelude.{◌≡◌, ◌≤◌, ◌<◌, ◌++◌, ℕ
 ghost use Rattle.log_places.specs.Stretches.{marked, piece, pieces, rest_from, tiles, is_gap, Ascending, Has};
 ghost use Rattle.plain_vec.specs.Members.{In};
 
+use crate::page::PAGE_SIZE;
 use std::alloc::AllocError;
 
 /// Locations of a page, from `start` up to `end`, which isn't one of them.
@@ -73,6 +74,57 @@ fn tiles(stretches: &[Stretch], start: u16, end: u16) -> bool
     end <= from
 }
 
+/// A stretch is looked for among so many ones before and behind the place that it has if stretches lie evenly.
+const NEAR: usize = 16;
+
+// The place of the stretch that has a location, if stretches lie evenly over the page.
+fn even_place(count: usize, location: u16) -> usize {
+    count.saturating_mul(location as usize) / PAGE_SIZE as usize
+}
+
+// So many stretches, if the one behind them ends no later than a location; else none.
+fn ended_first(stretches: &[Stretch], count: usize, location: u16) -> usize
+    requires { Ascending 0 stretches.now }
+    ensures fewer { result ≤ count }
+    ensures within { result ≤ length stretches.now }
+    ensures ended { (k : ℕ) (d : Stretch) → k < result → (slice_index_or stretches.now k d).end ≤ location }
+{
+    if count < stretches.len() && stretches[count].end <= location {
+        count
+    } else {
+        0
+    }
+}
+
+// A place from `low` on whose stretch ends behind a location: the given one, or that behind all stretches.
+fn place_behind(stretches: &[Stretch], low: usize, place: usize, location: u16) -> usize
+    requires order { low ≤ place }
+    requires within { low ≤ length stretches.now }
+    ensures order { low ≤ result }
+    ensures within { result ≤ length stretches.now }
+    ensures next { (d : Stretch) → result < length stretches.now → location < (slice_index_or stretches.now result d).end }
+{
+    if place < stretches.len() && location < stretches[place].end {
+        place
+    } else {
+        stretches.len()
+    }
+}
+
+// Places between which the first stretch lies that ends behind a location: near ones, if stretches lie about evenly.
+fn bounds(stretches: &[Stretch], location: u16) -> (usize, usize)
+    requires { Ascending 0 stretches.now }
+    ensures order { result.0 ≤ result.1 }
+    ensures within { result.1 ≤ length stretches.now }
+    ensures ended { (k : ℕ) (d : Stretch) → k < result.0 → (slice_index_or stretches.now k d).end ≤ location }
+    ensures next { (d : Stretch) → result.1 < length stretches.now → location < (slice_index_or stretches.now result.1 d).end }
+{
+    let place = even_place(stretches.len(), location);
+    let low = ended_first(stretches, place.saturating_sub(NEAR), location);
+    let high = place_behind(stretches, low, place.saturating_add(NEAR), location);
+    (low, high)
+}
+
 /// How many of the stretches end no later than a location.
 pub(crate) fn ended(stretches: &[Stretch], location: u16) -> usize
     requires { Ascending 0 stretches.now }
@@ -80,8 +132,9 @@ pub(crate) fn ended(stretches: &[Stretch], location: u16) -> usize
     ensures ended { (k : ℕ) (d : Stretch) → k < result → (slice_index_or stretches.now k d).end ≤ location }
     ensures next { (d : Stretch) → result < length stretches.now → location < (slice_index_or stretches.now result d).end }
 {
-    let mut low = 0;
-    let mut high = stretches.len();
+    let (first, last) = bounds(stretches, location);
+    let mut low = first;
+    let mut high = last;
     while low < high {
         let middle = low + (high - low) / 2;
         if stretches[middle].end <= location {
