@@ -21,7 +21,7 @@ pub(crate) struct Claims {
     /// Strands that have ended, by task and number.
     pub(crate) ended: HashSet<(u32, u32), BuildHasherDefault<StrandHasher>>,
     /// Tasks that were spawned.
-    pub(crate) spawned: HashSet<u32>,
+    pub(crate) spawned: HashSet<u32, BuildHasherDefault<StrandHasher>>,
     /// Blocks that were born.
     pub(crate) born: HashSet<u64>,
     /// Blocks that were released.
@@ -50,7 +50,7 @@ impl Claims {
     {
         Claims {
             ended: HashSet::with_hasher(alloc, BuildHasherDefault::new()),
-            spawned: HashSet::new(alloc),
+            spawned: HashSet::with_hasher(alloc, BuildHasherDefault::new()),
             born: HashSet::new(alloc),
             released: HashSet::new(alloc),
         }

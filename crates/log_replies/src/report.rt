@@ -59,6 +59,21 @@ fn view_text(
     }
 }
 
+// The names of sites by which a report is written. Where nothing was found no site is named, and the texts aren't read.
+fn names_for(
+    alloc: Global,
+    texts: &[Listed<u8>],
+    view: &LogView,
+    report: &LogReport,
+) -> Result<SiteNames, AllocError>
+    ensures { IfOk result (λ names. view_text (name_of names) view.now report.now ≡ view_text (site_name texts.now) view.now report.now) }
+{
+    if is_quiet(report) {
+        return site_names(alloc, &[]);
+    }
+    site_names(alloc, texts)
+}
+
 /// What is shown of the report of a log, whose files have these texts.
 pub(crate) fn show_report(
     alloc: Global,
@@ -69,7 +84,7 @@ pub(crate) fn show_report(
     ensures { IfOk result (Says (status_of (of_blocks view.now.blocks report)) (view_text (site_name texts.now) view.now (of_blocks view.now.blocks report))) }
 {
     let report = of_blocks(report, view.blocks.as_slice());
-    let names = site_names(alloc, texts)?;
+    let names = names_for(alloc, texts, view, &report)?;
     let text = view_text(alloc, &names, view, &report)?;
     Ok(Reply::of_bytes(status_of(&report), text))
 }

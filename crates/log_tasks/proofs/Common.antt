@@ -45,7 +45,7 @@ pub use Rattle.log_tasks.specs.declared.fault.TaskCause.TheVariants.{JoinsNoOpen
 pub use Rattle.log_tasks.specs.declared.fault.TaskFault.{TaskFault}
 pub use Rattle.log_tasks.specs.declared.tasks.LogTasks.{LogTasks}
 pub use Rattle.log_tasks.specs.declared.told.Told.{Told}
-pub use Rattle.plain_vec.proofs.Members.{got_in, any_from_in, in_from_any, got_within, got_front, got_past}
+pub use Rattle.plain_vec.proofs.Members.{got_in, in_from_contains, contains_from_in, any_from_in, in_from_any, got_within, got_front, got_past}
 pub use Rattle.plain_vec.proofs.Numbers.{below_next}
 pub use Rattle.plain_vec.proofs.Places.{got_more, each_in, got_last}
 pub use Rattle.plain_vec.specs.Members.{In}
@@ -66,11 +66,9 @@ pub use Rattle.std.proofs.lemmas.List.Sorted.{searched}
 pub use Rattle.std.proofs.lemmas.List.Sums.{position_or_len_is}
 pub use Rattle.std.proofs.lemmas.Map.Keys.{sorted_from_strictly_increasing, IsStrictlyIncreasing-from_sorted}
 pub use Rattle.std.proofs.lemmas.Option.{same_Some}
-pub use Rattle.std.specs.BTreeMap.{is_at}
-pub use Rattle.std.specs.BTreeSet.{keys}
 pub use Rattle.std.specs.HashSet.{contains}
 pub use Rattle.std.specs.List.{list_any, position_or_len, AllByRecursion, flat_map}
 pub use Rattle.std.specs.List.Sorted.{IsStrictlyIncreasing, IsBinarySearchResult}
-pub use Rattle.std.specs.Prelude.{◌||◌, ◌&&◌, max, filter, if◌then◌else◌, IsTrue, MatchOption, option_map, nat_le, OnOk, ◌↔◌, is_some, codes}
+pub use Rattle.std.specs.Prelude.{◌||◌, ◌&&◌, max, filter, if◌then◌else◌, IsTrue, MatchOption, option_map, nat_le, OnOk, Contains, ◌↔◌, is_some, codes}
 pub use Rattle.std.specs.declared.alloc.AllocError.{AllocError}
 pub use Rattle.text_lines.specs.Lines.{lines_of}

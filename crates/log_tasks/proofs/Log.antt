@@ -1,8 +1,7 @@
 -- The tasks of a log, or why there are none.
-use Rattle.log_tasks.proofs.Common.{◌≡◌, ◌<◌, ◌≤◌, ◌==◌, ◌^◌, ◌∙◌, ℕ, Bool, true, List, length, get_or, map, refl, sym, ap, subst, Option, Some, None, arith, nat_cmp, IsTrue, ◌↔◌, MatchOption, is_at, keys, list_any, IsStrictlyIncreasing, nat_tests, In, any_from_in, in_from_any, GraphTurn, Extent, AreSmall, IsSoundRun, Event, events_of, log_fault, TaskFault, LogTasks, Told, is_task, AreNumbers, graph_of, AreRows, AreNestedTasks, KnowsEvents, task_told, HasSmallTurns, AreToldRows, SpawnsWell, HasNoneBelow, IsFirstOf, IsFirstTaskFault, in_log, IsLog}
-use Rattle.std.specs.BTreeSet.{contains}
+use Rattle.log_tasks.proofs.Common.{◌≡◌, ◌<◌, ◌≤◌, ◌==◌, ◌^◌, ◌∙◌, ℕ, Bool, true, List, length, get_or, map, refl, sym, ap, subst, Option, Some, None, arith, Contains, IsTrue, ◌↔◌, MatchOption, list_any, IsStrictlyIncreasing, nat_tests, In, in_from_contains, contains_from_in, any_from_in, in_from_any, GraphTurn, Extent, AreSmall, IsSoundRun, Event, events_of, log_fault, TaskFault, LogTasks, Told, is_task, AreNumbers, graph_of, AreRows, AreNestedTasks, KnowsEvents, task_told, HasSmallTurns, AreToldRows, SpawnsWell, HasNoneBelow, IsFirstOf, IsFirstTaskFault, in_log, IsLog}
 use Rattle.log_tasks.proofs.Ascending.{place_below, in_at}
-use Rattle.log_tasks.proofs.Puts.{at_is_same, number_same}
+use Rattle.log_tasks.proofs.Puts.{number_same}
 use Rattle.log_tasks.proofs.Sane.{sane_log}
 use Rattle.log_tasks.proofs.ToldRows.{rows_are, small_turns, spawns_well}
 use Rattle.log_tasks.proofs.Nested.{graph_nested}
@@ -10,23 +9,29 @@ use Rattle.log_tasks.proofs.Nested.{graph_nested}
 pub true_is : (b : Bool) → IsTrue b → b ≡ true
 true_is b t = t
 
+-- the same numbers are in both lists
+abbrev pub HaveTheSame : List ℕ → List ℕ → Type 0
+HaveTheSame tasks numbers = ((n : ℕ) → Contains tasks n → Contains numbers n) × ((n : ℕ) → Contains numbers n → Contains tasks n)
+
 -- the numbers that are known are those of all tasks
-pub numbers_are : (told : Told) (events : List Event) (numbers : List ℕ) → KnowsEvents told events → numbers ≡ keys told.tasks → IsStrictlyIncreasing numbers → AreNumbers events numbers
-numbers_are told events numbers k e up = record {
+pub numbers_are : (told : Told) (events : List Event) (numbers : List ℕ) → KnowsEvents told events → HaveTheSame told.tasks numbers → IsStrictlyIncreasing numbers → AreNumbers events numbers
+numbers_are told events numbers k same up = record {
   ascending = up;
   are = λ t. (into t, out t);
 }
   where
     into : (t : ℕ) → In numbers t → IsTrue (is_task events t)
     into t h =
-        let has : task_told told t ≡ true = any_from_in (is_at (nat_cmp t)) (keys told.tasks) t (subst (λ (ns : List ℕ). In ns t) e h) (at_is_same t t ∙ grind (arith, nat_tests)) in
+        let there : In told.tasks t = in_from_contains told.tasks t (same.1 t (contains_from_in numbers t h)) in
+        let has : task_told told t ≡ true = any_from_in (λ (m : ℕ). m == t) told.tasks t there (grind (arith, nat_tests)) in
         sym (k.tasks t) ∙ has
 
     out : (t : ℕ) → IsTrue (is_task events t) → In numbers t
     out t h =
-        let r = in_from_any (is_at (nat_cmp t)) (keys told.tasks) (k.tasks t ∙ true_is (is_task events t) h) in
-        let same : t ≡ r.0 = number_same t r.0 (sym (at_is_same t r.0) ∙ r.2) in
-        subst (λ (ns : List ℕ). In ns t) (sym e) (subst (λ (n : ℕ). In (keys told.tasks) n) (sym same) r.1)
+        let r = in_from_any (λ (m : ℕ). m == t) told.tasks (k.tasks t ∙ true_is (is_task events t) h) in
+        let is : r.0 ≡ t = number_same r.0 t r.2 in
+        let there : In told.tasks t = subst (λ (n : ℕ). In told.tasks n) is r.1 in
+        in_from_contains numbers t (same.0 t (contains_from_in told.tasks t there))
 
 module _ (told : Told) (events : List Event) (extent : Extent) (numbers : List ℕ) (rows : List (List GraphTurn)) (knows : KnowsEvents told events) (named : AreNumbers events numbers) (are : AreToldRows told numbers rows) where
   some_rows : 0 < length rows
@@ -58,7 +63,7 @@ module _ (told : Told) (events : List Event) (extent : Extent) (numbers : List �
 
 -- A LOG'S PIECES
 
-module _ (told : Told) (texts : List (List ℕ)) (es : List Event) (is : es ≡ events_of texts) (whole : log_fault texts ≡ None) (knows : KnowsEvents told es) (numbers slice : List ℕ) (same : slice ≡ numbers) (ks : numbers ≡ keys told.tasks) (up : IsStrictlyIncreasing numbers) where
+module _ (told : Told) (texts : List (List ℕ)) (es : List Event) (is : es ≡ events_of texts) (whole : log_fault texts ≡ None) (knows : KnowsEvents told es) (numbers slice : List ℕ) (same : slice ≡ numbers) (ks : HaveTheSame told.tasks numbers) (up : IsStrictlyIncreasing numbers) where
   known_log : KnowsEvents told (events_of texts)
   known_log = subst (λ (e : List Event). KnowsEvents told e) is knows
 

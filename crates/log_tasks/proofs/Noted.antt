@@ -1,5 +1,6 @@
 -- A task of which a strand did something is there.
-use Rattle.log_tasks.proofs.Common.{◌≡◌, ◌==◌, ◌∙◌, ◌||◌, ℕ, Bool, true, false, List, [], ◌∷◌, refl, sym, ap, subst, Option, list_any, is_some, Event, spawns, Told, greater, number_if, top_of, top_told, task_told, tells, is_task, KnowsEvents}
+use Rattle.log_tasks.proofs.Common.{◌≡◌, ◌==◌, ◌∙◌, ◌||◌, ◌<◌, ℕ, Bool, true, false, List, [], ◌∷◌, length, get_or, refl, sym, ap, subst, arith, nat_tests, In, any_from_in, Option, list_any, is_some, Event, spawns, Told, greater, number_if, top_of, top_told, task_told, tells, is_task, KnowsEvents}
+use Rattle.log_tasks.proofs.Ascending.{at_in}
 use Rattle.log_tasks.proofs.Puts.{number_same}
 
 or_true : (a : Bool) → (a || true) ≡ true
@@ -22,10 +23,7 @@ some_told (e ∷ rest) t some = told_by (e.strand.task == t) e.strand.index (spa
 some_task : (events : List Event) (t : ℕ) → is_some (top_of events t) ≡ true → is_task events t ≡ true
 some_task events t some = ap (λ (b : Bool). (t == 0) || b) (some_told events t some) ∙ or_true (t == 0)
 
-module _ (told : Told) (events : List Event) (knows : KnowsEvents told events) (task : ℕ) (some : is_some (top_told told task) ≡ true) where
-  there : task_told told task ≡ true
-  there = knows.tasks task ∙ some_task events task (ap is_some (sym (knows.tops task)) ∙ some)
-
+module _ (told : Told) (task : ℕ) (there : task_told told task ≡ true) where
   noted_by : (t : ℕ) (same : Bool) → (task == t) ≡ same → task_told told t ≡ (task_told told t || same)
   noted_by t false e = or_false (task_told told t)
   noted_by t true e =
@@ -33,5 +31,15 @@ module _ (told : Told) (events : List Event) (knows : KnowsEvents told events) (
       is ∙ sym (or_true (task_told told t))
 
   -- it needn't be noted
-  pub noted_before : (t : ℕ) → task_told told t ≡ (task_told told t || (task == t))
-  noted_before t = noted_by t (task == t) refl
+  noted_there : (t : ℕ) → task_told told t ≡ (task_told told t || (task == t))
+  noted_there t = noted_by t (task == t) refl
+
+-- one of which a strand did something
+pub noted_before : (told : Told) (events : List Event) → KnowsEvents told events → (task : ℕ) → is_some (top_told told task) ≡ true → (t : ℕ) → task_told told t ≡ (task_told told t || (task == t))
+noted_before told events knows task some = noted_there told task (knows.tasks task ∙ some_task events task (ap is_some (sym (knows.tops task)) ∙ some))
+
+-- one that stands at its own place
+pub noted_at : (told : Told) (task : ℕ) → task < length told.tasks → get_or told.tasks task 0 ≡ task → (t : ℕ) → task_told told t ≡ (task_told told t || (task == t))
+noted_at told task lt e =
+    noted_there told task
+    (any_from_in (λ (m : ℕ). m == task) told.tasks task (subst (λ (n : ℕ). In told.tasks n) e (at_in told.tasks task lt)) (grind (arith, nat_tests)))

@@ -1,5 +1,5 @@
 -- What is known when a strand ends, a number is noted, or a task is there.
-use Rattle.log_tasks.proofs.Common.{◌≡◌, ◌==◌, ◌<◌, ◌≤◌, ◌∙◌, ℕ, Bool, true, false, cond, refl, sym, ap, subst, Option, Some, None, arith, nat_eq, nat_lt, Ordering, Less, Equal, Greater, nat_cmp, is_eq, ◌||◌, ◌&&◌, max, is_some, if◌then◌else◌, is_at, nat_tests, GraphStrand, is_that, StrandEnd, Told, greater, is_below, number_if, index_of, end_told, end_after}
+use Rattle.log_tasks.proofs.Common.{◌≡◌, ◌==◌, ◌<◌, ◌≤◌, ◌∙◌, ℕ, Bool, true, false, cond, refl, sym, ap, subst, Option, Some, None, List, [], ◌∷◌, ◌++◌, arith, nat_eq, nat_lt, ◌||◌, ◌&&◌, max, is_some, if◌then◌else◌, list_any, list_any-append, nat_tests, GraphStrand, is_that, StrandEnd, Told, greater, is_below, number_if, index_of, end_told, end_after}
 use Rattle.log_tasks.specs.Ends.{or_later}
 use Rattle.log_tasks.proofs.Acts.{later_none}
 
@@ -110,17 +110,9 @@ or_or_by true false = refl
 or_or_by false true = refl
 or_or_by false false = refl
 
-same_by : (lt eq : Bool) → (lt ≡ true → eq ≡ false) → is_eq (cond lt Less (cond eq Equal Greater)) ≡ eq
-same_by true eq h = sym (h refl)
-same_by false true h = refl
-same_by false false h = refl
-
-pub at_is_same : (c t : ℕ) → is_at (nat_cmp c) t ≡ (c == t)
-at_is_same c t = same_by (nat_lt c t) (c == t) (λ h. grind (arith, nat_tests, h))
-
 -- a task is there
-pub task_put : (c t : ℕ) (b : Bool) → cond (is_at (nat_cmp c) t) true b ≡ (b || (c == t))
-task_put c t b = ap (λ (x : Bool). cond x true b) (at_is_same c t) ∙ or_or_by (c == t) b
+pub task_put : (tasks : List ℕ) (c t : ℕ) → list_any (λ (m : ℕ). m == t) (tasks ++ c ∷ []) ≡ (list_any (λ (m : ℕ). m == t) tasks || (c == t))
+task_put tasks c t = list_any-append (λ (m : ℕ). m == t) tasks (c ∷ []) ∙ ap (λ (b : Bool). list_any (λ (m : ℕ). m == t) tasks || b) (sym (or_false (c == t)))
 
 -- a child is joined
 pub join_put : (d c : ℕ) (b : Bool) → cond (d == c) true b ≡ (b || ((d == c) || false))

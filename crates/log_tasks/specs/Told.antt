@@ -1,8 +1,7 @@
 -- What is known of strands and tasks, as pieces are read.
 use Rattle.std.specs.Prelude.{◌≡◌, ◌<◌, ◌≤◌, ◌+◌, ◌==◌, ℕ, Bool, true, false, Option, Some, None, List, [], ◌∷◌, length, slice_get, get_or, nat_eq, nat_lt, max, if◌then◌else◌}
-use Rattle.std.specs.Ordering.{nat_cmp}
 use Rattle.std.specs.HashMap.{get}
-use Rattle.std.specs.BTreeSet.{contains}
+use Rattle.std.specs.List.{list_any}
 use Rattle.log_tasks.specs.Common.{Act, strand_limit, GraphTurn, GraphStrand, strand, tasks_in, Event, is_pair, is_that}
 use Rattle.log_tasks.specs.declared.ending.StrandEnd.{StrandEnd}
 use Rattle.log_tasks.specs.declared.ending.StrandEnd.TheVariants.{Turns}
@@ -54,7 +53,7 @@ abbrev pub top_told : Told → ℕ → Option ℕ
 top_told told t = get nat_eq told.tops t
 
 abbrev pub task_told : Told → ℕ → Bool
-task_told told t = contains nat_cmp told.tasks t
+task_told told t = list_any (λ m. m == t) told.tasks
 
 -- how the strand (t, i) ends, if u does so unless it did before
 abbrev pub end_after : Told → GraphStrand → Option StrandEnd → ℕ → ℕ → Option StrandEnd

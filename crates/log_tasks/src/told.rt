@@ -10,12 +10,13 @@ ghost use Rattle.log_tasks.specs.Ends.{end_by, first_end};
 ghost use Rattle.log_tasks.specs.Told.{KnowsEvents, is_told, greater, is_below, index_of, index_if, end_told, top_told, task_told, end_after};
 
 use crate::ending::StrandEnd;
+use crate::numbers::is_own_place;
 use fork_graph::{GraphStrand, GraphTurn};
 use log_lines::{Act, LogLine, begins_with, next_line, read_line};
 use log_pieces::{LogPiece, StrandHasher, act_in, piece_lines};
 use plain_vec::Listed;
 use std::alloc::{AllocError, Global};
-use std::collections::{BTreeSet, HashMap};
+use std::collections::HashMap;
 use std::hash::BuildHasherDefault;
 
 /// What the pieces so far tell.
@@ -24,9 +25,9 @@ pub(crate) struct Told {
     /// How strands end, by task and number.
     pub(crate) ends: HashMap<(u32, u32), StrandEnd, BuildHasherDefault<StrandHasher>>,
     /// The greatest number of a strand that does something, by task.
-    pub(crate) tops: HashMap<u32, u32>,
-    /// The root, the tasks that do something, and those that are spawned.
-    pub(crate) tasks: BTreeSet<u32>,
+    pub(crate) tops: HashMap<u32, u32, BuildHasherDefault<StrandHasher>>,
+    /// The root, the tasks that do something, and those that are spawned, some of them more than once.
+    pub(crate) tasks: Listed<u32>,
 }
 
 // Whether a line is an act.
@@ -68,11 +69,11 @@ impl Told {
     pub(crate) fn new(alloc: Global, strands: usize) -> Result<Told, AllocError>
         ensures { IfOk result (λ told. KnowsEvents told []) }
     {
-        let mut tasks = BTreeSet::new(alloc);
-        tasks.insert(0)?;
+        let mut tasks = Listed::new(alloc);
+        tasks.push(0)?;
         Ok(Told {
             ends: HashMap::with_capacity_and_hasher(alloc, strands, BuildHasherDefault::new())?,
-            tops: HashMap::new(alloc),
+            tops: HashMap::with_hasher(alloc, BuildHasherDefault::new()),
             tasks,
         })
     }
@@ -96,7 +97,7 @@ impl Told {
         ensures tasks { OnOk result ((t : ℕ) → task_told self.new t ≡ (task_told self.old t || (child == t))) }
         ensures tops { self.new.tops ≡ self.old.tops }
     {
-        self.tasks.insert(child)?;
+        self.tasks.push(child)?;
         self.end(strand, StrandEnd::Turns(GraphTurn::Spawn(child)))
     }
 
@@ -181,8 +182,10 @@ impl Told {
         if top.is_some() {
             return Ok(());
         }
-        self.tasks.insert(task)?;
-        Ok(())
+        if is_own_place(self.tasks.as_slice(), task) {
+            return Ok(());
+        }
+        self.tasks.push(task)
     }
 
     // A strand does something.

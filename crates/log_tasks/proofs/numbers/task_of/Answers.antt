@@ -16,3 +16,8 @@ returns-in-Ok c =
 
 pub returns-in-Err : goal.returns-in-Err
 returns-in-Err c = sym (none_is c.args.numbers.now c.requires c.args.number (not_found c.args.numbers.now c.requires c.args.number _ c.in-Err.ensures.position))
+
+pub returns-then-is_own_place : goal.returns-then-is_own_place
+returns-then-is_own_place c =
+    let at = c.is_own_place.ensures c.if-is_own_place.true in
+    sym (task_is c.args.numbers.now c.requires c.args.number c.args.number at.0 at.1)
