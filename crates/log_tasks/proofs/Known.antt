@@ -25,17 +25,27 @@ same_ends one other e t i = rw e refl
 same_tops : (one other : Told) → one.tops ≡ other.tops → (t : ℕ) → top_told one t ≡ top_told other t
 same_tops one other e t = rw e refl
 
--- a piece was noted, and its lines were taken
-pub piece_taken : (r : Result (Unit {0}) AllocError) (old mid new : Told) (u : GraphStrand) (acts : List Act)
-    → ((t : ℕ) → top_told mid t ≡ greater (top_told old t) (index_if (is_told acts) u t)) → ((t : ℕ) → task_told mid t ≡ (task_told old t || (is_told acts && (u.task == t)))) → mid.ends ≡ old.ends
-    → OnOk r ((t i : ℕ) → end_told new t i ≡ end_after mid u (first_end acts) t i) → OnOk r ((t : ℕ) → task_told new t ≡ (task_told mid t || list_any (spawns t) acts)) → new.tops ≡ mid.tops
+or_swap : (a b c : Bool) → ((a || b) || c) ≡ ((a || c) || b)
+or_swap true b c = refl
+or_swap false true true = refl
+or_swap false true false = refl
+or_swap false false true = refl
+or_swap false false false = refl
+
+-- the lines of a piece were taken, and its strand was noted
+pub piece_taken : (r : Result (Unit {0}) AllocError) (old mid new : Told) (u : GraphStrand) (acts : List Act) (told : Bool) → told ≡ is_told acts
+    → ((t i : ℕ) → end_told mid t i ≡ end_after old u (first_end acts) t i) → ((t : ℕ) → task_told mid t ≡ (task_told old t || list_any (spawns t) acts)) → mid.tops ≡ old.tops
+    → OnOk r ((t : ℕ) → top_told new t ≡ greater (top_told mid t) (index_if told u t)) → OnOk r ((t : ℕ) → task_told new t ≡ (task_told mid t || (told && (u.task == t)))) → new.ends ≡ mid.ends
     → OnOk r ((events : List Event) → KnowsEvents old events → KnowsEvents new (events ++ on_strand u acts))
-piece_taken (Ok x) old mid new u acts tops tasks ends new_ends new_tasks new_tops = λ events k.
+piece_taken (Ok x) old mid new u acts told is ends tasks tops new_tops new_tasks new_ends = λ events k.
     known_more old new u acts events
     (record {
-      ends = λ t i. new_ends t i ∙ ap (λ (o : Option StrandEnd). if is_that u t i then or_later o (first_end acts) else o) (same_ends mid old ends t i);
-      tops = λ t. same_tops new mid new_tops t ∙ tops t;
-      tasks = λ t. new_tasks t ∙ ap (λ (b : Bool). b || list_any (spawns t) acts) (tasks t);
+      ends = λ t i. same_ends new mid new_ends t i ∙ ends t i;
+      tops = λ t. new_tops t ∙ ap (λ (b : Bool). greater (top_told mid t) (index_if b u t)) is ∙ ap (λ (o : Option ℕ). greater o (index_if (is_told acts) u t)) (same_tops mid old tops t);
+      tasks = λ t.
+          new_tasks t ∙ ap (λ (b : Bool). task_told mid t || (b && (u.task == t))) is
+          ∙ ap (λ (b : Bool). b || (is_told acts && (u.task == t))) (tasks t)
+          ∙ or_swap (task_told old t) (list_any (spawns t) acts) (is_told acts && (u.task == t));
     })
     k
-piece_taken (Err e) old mid new u acts tops tasks ends new_ends new_tasks new_tops = tt
+piece_taken (Err e) old mid new u acts told is ends tasks tops new_tops new_tasks new_ends = tt

@@ -11,6 +11,10 @@ told_left : (xs ys : List Act) → is_told xs ≡ true → is_told (xs ++ ys) �
 told_left [] ys e = absurd (let z : false ≡ true = e in cc)
 told_left (x ∷ xs) ys e = refl
 
+told_behind : (xs ys : List Act) → is_told ys ≡ true → is_told (xs ++ ys) ≡ true
+told_behind [] ys e = e
+told_behind (x ∷ xs) ys e = refl
+
 told_right : (xs ys : List Act) → is_told xs ≡ false → is_told (xs ++ ys) ≡ is_told ys
 told_right [] ys e = refl
 told_right (x ∷ xs) ys e = absurd (let z : true ≡ false = e in cc)
@@ -26,6 +30,10 @@ next_told left line rest e f = sym (ap is_told (line_more left line rest e) ∙ 
 
 pub last_told : (left line : List ℕ) → lines_of left ≡ line ∷ [] → is_told (act_said (line_of line)) ≡ false → is_told (acts_in left) ≡ false
 last_told left line e f = ap is_told (line_last left line e) ∙ f
+
+-- what follows the next line is told
+pub rest_told : (left line rest : List ℕ) → lines_of left ≡ line ∷ lines_of rest → is_told (acts_in rest) ≡ true → is_told (acts_in left) ≡ true
+rest_told left line rest e t = ap is_told (line_more left line rest e) ∙ told_behind (act_said (line_of line)) (acts_in rest) t
 
 -- NO ACT
 

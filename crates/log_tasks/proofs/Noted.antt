@@ -1,5 +1,5 @@
 -- A task of which a strand did something is there.
-use Rattle.log_tasks.proofs.Common.{◌≡◌, ◌==◌, ◌∙◌, ◌||◌, ◌<◌, ℕ, Bool, true, false, List, [], ◌∷◌, length, get_or, refl, sym, ap, subst, arith, nat_tests, In, any_from_in, Option, list_any, is_some, Event, spawns, Told, greater, number_if, top_of, top_told, task_told, tells, is_task, KnowsEvents}
+use Rattle.log_tasks.proofs.Common.{◌≡◌, ◌==◌, ◌∙◌, ◌||◌, ◌<◌, ℕ, Bool, true, false, List, [], ◌∷◌, length, get_or, refl, sym, ap, subst, arith, nat_tests, In, any_from_in, Option, list_any, is_some, Event, spawns, Told, greater, number_if, top_of, top_told, task_told, tells, is_task, KnowsEvents, NotesTasks}
 use Rattle.log_tasks.proofs.Ascending.{at_in}
 use Rattle.log_tasks.proofs.Puts.{number_same}
 
@@ -35,11 +35,23 @@ module _ (told : Told) (task : ℕ) (there : task_told told task ≡ true) where
   noted_there t = noted_by t (task == t) refl
 
 -- one of which a strand did something
-pub noted_before : (told : Told) (events : List Event) → KnowsEvents told events → (task : ℕ) → is_some (top_told told task) ≡ true → (t : ℕ) → task_told told t ≡ (task_told told t || (task == t))
-noted_before told events knows task some = noted_there told task (knows.tasks task ∙ some_task events task (ap is_some (sym (knows.tops task)) ∙ some))
+pub noted_before : (told : Told) → NotesTasks told → (task : ℕ) → is_some (top_told told task) ≡ true → (t : ℕ) → task_told told t ≡ (task_told told t || (task == t))
+noted_before told notes task some = noted_there told task (notes task some)
 
 -- one that stands at its own place
 pub noted_at : (told : Told) (task : ℕ) → task < length told.tasks → get_or told.tasks task 0 ≡ task → (t : ℕ) → task_told told t ≡ (task_told told t || (task == t))
 noted_at told task lt e =
     noted_there told task
     (any_from_in (λ (m : ℕ). m == task) told.tasks task (subst (λ (n : ℕ). In told.tasks n) e (at_in told.tasks task lt)) (grind (arith, nat_tests)))
+
+pub notes_tasks : (told : Told) (events : List Event) → KnowsEvents told events → NotesTasks told
+notes_tasks told events knows task some = knows.tasks task ∙ some_task events task (ap is_some (sym (knows.tops task)) ∙ some)
+
+-- others came in
+pub notes_more : (old new : Told) (more : ℕ → Bool) → new.tops ≡ old.tops → ((t : ℕ) → task_told new t ≡ (task_told old t || more t)) → NotesTasks old → NotesTasks new
+notes_more old new more tops tasks notes t some =
+    let before : is_some (top_told old t) ≡ true = ap is_some (same_tops new old tops t) ∙ some in
+    tasks t ∙ ap (λ (b : Bool). b || more t) (notes t before)
+  where
+    same_tops : (one other : Told) → one.tops ≡ other.tops → (t : ℕ) → top_told other t ≡ top_told one t
+    same_tops one other e t = rw e refl

@@ -1,5 +1,5 @@
 -- What is known of strands and tasks, as pieces are read.
-use Rattle.std.specs.Prelude.{◌≡◌, ◌<◌, ◌≤◌, ◌+◌, ◌==◌, ℕ, Bool, true, false, Option, Some, None, List, [], ◌∷◌, length, slice_get, get_or, nat_eq, nat_lt, max, if◌then◌else◌}
+use Rattle.std.specs.Prelude.{◌≡◌, ◌<◌, ◌≤◌, ◌+◌, ◌==◌, ℕ, Bool, true, false, Option, Some, None, List, [], ◌∷◌, length, slice_get, get_or, nat_eq, nat_lt, max, is_some, if◌then◌else◌}
 use Rattle.std.specs.HashMap.{get}
 use Rattle.std.specs.List.{list_any}
 use Rattle.log_tasks.specs.Common.{Act, strand_limit, GraphTurn, GraphStrand, strand, tasks_in, Event, is_pair, is_that}
@@ -54,6 +54,10 @@ top_told told t = get nat_eq told.tops t
 
 abbrev pub task_told : Told → ℕ → Bool
 task_told told t = list_any (λ m. m == t) told.tasks
+
+-- a task of which a strand did something is there
+abbrev pub NotesTasks : Told → Type 0
+NotesTasks told = (t : ℕ) → is_some (top_told told t) ≡ true → task_told told t ≡ true
 
 -- how the strand (t, i) ends, if u does so unless it did before
 abbrev pub end_after : Told → GraphStrand → Option StrandEnd → ℕ → ℕ → Option StrandEnd

@@ -1,13 +1,13 @@
 // What the pieces of a log tell of its strands and tasks.
 
-ghost use Rattle.std.specs.Prelude.{◌≡◌, ◌==◌, ◌||◌, ◌&&◌, ◌++◌, ℕ, [], List, Some, OnOk, IfOk};
+ghost use Rattle.std.specs.Prelude.{◌≡◌, ◌==◌, ◌||◌, ◌&&◌, ◌++◌, ℕ, [], List, Some, OnOk, IfOk, true};
 ghost use Rattle.std.specs.List.{list_any};
 ghost use Rattle.log_lines.specs.Grammar.{line_of};
 ghost use Rattle.log_form.specs.Events.{Event};
 ghost use Rattle.log_form.specs.Faults.{spawns};
 ghost use Rattle.log_pieces.specs.Pieces.{act_said, acts_in, on_strand, events_of_pieces};
 ghost use Rattle.log_tasks.specs.Ends.{end_by, first_end};
-ghost use Rattle.log_tasks.specs.Told.{KnowsEvents, is_told, greater, is_below, index_of, index_if, end_told, top_told, task_told, end_after};
+ghost use Rattle.log_tasks.specs.Told.{KnowsEvents, NotesTasks, is_told, greater, is_below, index_of, index_if, end_told, top_told, task_told, end_after};
 
 use crate::ending::StrandEnd;
 use crate::numbers::is_own_place;
@@ -52,6 +52,23 @@ fn is_told(text: &[u8]) -> bool
             Some(rest) => left = rest,
         }
     }
+}
+
+// The same of a text of which it is known that it does, or nothing.
+fn is_told_if(known: bool, text: &[u8]) -> bool
+    requires { known ≡ true → is_told (acts_in text.now) ≡ true }
+    ensures { result ≡ is_told (acts_in text.now) }
+{
+    if known {
+        return true;
+    }
+    is_told(text)
+}
+
+fn either(one: bool, other: bool) -> bool
+    ensures { result ≡ (one || other) }
+{
+    one || other
 }
 
 // Whether a number is above the greatest one so far.
@@ -120,33 +137,40 @@ impl Told {
         }
     }
 
-    // A line of a piece.
-    fn take_line(&mut self, strand: GraphStrand, line: &[u8]) -> Result<(), AllocError>
+    // A line of a piece; whether it ends the strand.
+    fn take_line(&mut self, strand: GraphStrand, line: &[u8]) -> Result<bool, AllocError>
         ensures ends { OnOk result ((t i : ℕ) → end_told self.new t i ≡ end_after self.old strand (first_end (act_said (line_of line.now))) t i) }
         ensures tasks { OnOk result ((t : ℕ) → task_told self.new t ≡ (task_told self.old t || list_any (spawns t) (act_said (line_of line.now)))) }
         ensures tops { self.new.tops ≡ self.old.tops }
+        ensures told { IfOk result (λ ends. ends ≡ true → is_told (act_said (line_of line.now)) ≡ true) }
     {
         if !begins_with(line, b"+-.") {
-            return Ok(());
+            return Ok(false);
         }
         match act_in(line) {
-            Some(act) => self.take_act(strand, act),
-            None => Ok(()),
+            Some(act) => {
+                self.take_act(strand, act)?;
+                Ok(true)
+            }
+            None => Ok(false),
         }
     }
 
-    // The lines of a piece.
-    fn take_lines(&mut self, strand: GraphStrand, text: &[u8]) -> Result<(), AllocError>
+    // The lines of a piece; whether one of them ends the strand.
+    fn take_lines(&mut self, strand: GraphStrand, text: &[u8]) -> Result<bool, AllocError>
         ensures ends { OnOk result ((t i : ℕ) → end_told self.new t i ≡ end_after self.old strand (first_end (acts_in text.now)) t i) }
         ensures tasks { OnOk result ((t : ℕ) → task_told self.new t ≡ (task_told self.old t || list_any (spawns t) (acts_in text.now))) }
         ensures tops { self.new.tops ≡ self.old.tops }
+        ensures told { IfOk result (λ ends. ends ≡ true → is_told (acts_in text.now) ≡ true) }
     {
         let mut left = text;
+        let mut ends = false;
         'lines: loop {
             let (line, rest) = next_line(left);
-            self.take_line(strand, line)?;
+            let here = self.take_line(strand, line)?;
+            ends = either(ends, here);
             match rest {
-                None => return Ok(()),
+                None => return Ok(ends),
                 Some(rest) => left = rest,
             }
         }
@@ -174,7 +198,7 @@ impl Told {
 
     // A task does something; one that did so before is there already.
     fn note_task(&mut self, task: u32, top: Option<u32>) -> Result<(), AllocError>
-        requires knows { (events : List Event) × KnowsEvents self.old events }
+        requires noted { NotesTasks self.old }
         requires top { top ≡ top_told self.old task }
         ensures tasks { OnOk result ((t : ℕ) → task_told self.new t ≡ (task_told self.old t || (task == t))) }
         ensures rest { self.new ≡ record self.old { tasks = self.new.tasks } }
@@ -190,7 +214,7 @@ impl Told {
 
     // A strand does something.
     fn note(&mut self, strand: GraphStrand) -> Result<(), AllocError>
-        requires { (events : List Event) × KnowsEvents self.old events }
+        requires { NotesTasks self.old }
         ensures tops { OnOk result ((t : ℕ) → top_told self.new t ≡ greater (top_told self.old t) (index_of strand t)) }
         ensures tasks { OnOk result ((t : ℕ) → task_told self.new t ≡ (task_told self.old t || (strand.task == t))) }
         ensures ends { self.new.ends ≡ self.old.ends }
@@ -200,14 +224,14 @@ impl Told {
         self.raise(strand, top)
     }
 
-    // A strand has a piece with this text.
-    fn note_piece(&mut self, strand: GraphStrand, text: &[u8]) -> Result<(), AllocError>
-        requires { (events : List Event) × KnowsEvents self.old events }
-        ensures tops { OnOk result ((t : ℕ) → top_told self.new t ≡ greater (top_told self.old t) (index_if (is_told (acts_in text.now)) strand t)) }
-        ensures tasks { OnOk result ((t : ℕ) → task_told self.new t ≡ (task_told self.old t || (is_told (acts_in text.now) && (strand.task == t)))) }
+    // A strand does something, or nothing.
+    fn note_if(&mut self, strand: GraphStrand, told: bool) -> Result<(), AllocError>
+        requires { NotesTasks self.old }
+        ensures tops { OnOk result ((t : ℕ) → top_told self.new t ≡ greater (top_told self.old t) (index_if told strand t)) }
+        ensures tasks { OnOk result ((t : ℕ) → task_told self.new t ≡ (task_told self.old t || (told && (strand.task == t)))) }
         ensures ends { self.new.ends ≡ self.old.ends }
     {
-        if is_told(text) {
+        if told {
             self.note(strand)?;
         }
         Ok(())
@@ -218,8 +242,9 @@ impl Told {
         requires { (events : List Event) × KnowsEvents self.old events }
         ensures { OnOk result ((events : List Event) → KnowsEvents self.old events → KnowsEvents self.new (events ++ on_strand strand (acts_in text.now))) }
     {
-        self.note_piece(strand, text)?;
-        self.take_lines(strand, text)
+        let ends = self.take_lines(strand, text)?;
+        let told = is_told_if(ends, text);
+        self.note_if(strand, told)
     }
 
     /// All pieces of texts.

@@ -1,8 +1,14 @@
+use Rattle.log_tasks.proofs.Common.{list_any, spawns, acts_in, ℕ}
 use Rattle.log_tasks.proofs.Known.{piece_taken}
-use Rattle.log_pieces.specs.Pieces.{acts_in}
+use Rattle.log_tasks.proofs.Noted.{notes_tasks, notes_more}
 use Rattle.log_tasks.proofs.told.Told.take_piece.Goals as goal
+
+pub note_if-requires : goal.note_if-requires
+note_if-requires c =
+    notes_more c.args.self.now c.take_lines-ends.new.self (λ (t : ℕ). list_any (spawns t) (acts_in c.args.text.now)) c.in_ok-ends.ensures.tops c.in_ok-ends.ensures.tasks
+    (notes_tasks c.args.self.now c.requires.0 c.requires.1)
 
 pub returns : goal.returns
 returns c =
-    piece_taken c.take_lines.result c.args.self.now c.note_piece.new.self c.take_lines.new.self c.args.strand (acts_in c.args.text.now) c.in_ok-note_piece.ensures.tops c.in_ok-note_piece.ensures.tasks c.in_ok-note_piece.ensures.ends
-    c.take_lines.ensures.ends c.take_lines.ensures.tasks c.take_lines.ensures.tops
+    piece_taken c.note_if.result c.args.self.now c.take_lines-ends.new.self c.note_if.new.self c.args.strand (acts_in c.args.text.now) c.is_told_if-told.result c.is_told_if-told.ensures
+    c.in_ok-ends.ensures.ends c.in_ok-ends.ensures.tasks c.in_ok-ends.ensures.tops c.note_if.ensures.tops c.note_if.ensures.tasks c.note_if.ensures.ends
