@@ -1,5 +1,5 @@
 -- What every act of a log without a faulty line keeps holds of all that happens in it.
-use Rattle.log_tasks.proofs.Common.{◌≡◌, ◌+◌, ◌++◌, ◌∷◌, ◌⊎◌, inl, inr, ℕ, Bool, true, false, List, [], length, refl, sym, ap, subst, ◌∙◌, Option, Some, None, Result, Ok, Err, slice_get, arith, list_any, nat_tests, same_Some, In, got_in, any_from_in, got_more, LogCause, Act, LogLine, line_of, GraphStrand, LogFault, LocatedFault, lines_in, Event, event, Spot, has_ended, spot_behind_act, spot_behind_said, spot_behind_all, file_begin, file_end, events_behind, events_of, bears, releases, is_born, is_released, where_true, claim_fault, act_fault, said_fault, line_fault, first_fault, found_at, fault_from, fault_of_lines, or_later, fault_behind, log_fault}
+use Rattle.log_tasks.proofs.Common.{◌≡◌, ◌+◌, ◌++◌, ◌∷◌, ◌⊎◌, inl, inr, ℕ, Bool, true, false, List, [], length, refl, sym, ap, subst, ◌∙◌, Option, Some, None, Result, Ok, Err, slice_get, arith, list_any, nat_tests, got_in, any_from_in, got_more, LogCause, Act, LogLine, line_of, GraphStrand, LogFault, LocatedFault, lines_in, Event, event, Spot, has_ended, spot_behind_act, spot_behind_said, spot_behind_all, file_begin, file_end, events_behind, events_of, bears, releases, is_born, is_released, where_true, claim_fault, act_fault, said_fault, line_fault, first_fault, found_at, fault_from, fault_of_lines, or_later, fault_behind, log_fault}
 use Rattle.log_lines.specs.declared.line.Act.TheVariants as acts
 use Rattle.log_lines.specs.declared.line.LogLine.TheVariants as lines
 use Rattle.log_form.specs.declared.fault.LogFault.TheVariants as faults

@@ -1,5 +1,5 @@
 -- What events tell of strands and tasks, one part after another.
-use Rattle.log_tasks.proofs.Common.{◌≡◌, ◌==◌, ◌++◌, ◌∷◌, ◌∙◌, ℕ, Bool, true, false, List, [], map, refl, sym, ap, Option, Some, None, arith, ◌||◌, ◌&&◌, max, filter, if◌then◌else◌, list_any, map-append, filter-append, list_any-append, Act, GraphStrand, strand, Event, event, is_on, acts_on, spawns, is_that, on_strand, StrandEnd, end_by, first_end, end_of, tells, is_task, is_told, greater, index_of, index_if, top_of}
+use Rattle.log_tasks.proofs.Common.{◌≡◌, ◌==◌, ◌++◌, ◌∷◌, ◌∙◌, ℕ, Bool, true, false, List, [], map, refl, sym, ap, Option, Some, None, arith, ◌||◌, ◌&&◌, max, filter, if◌then◌else◌, list_any, map-append, filter-append, list_any-append, Act, GraphStrand, strand, Event, is_on, acts_on, spawns, is_that, on_strand, StrandEnd, end_by, first_end, end_of, tells, is_task, is_told, greater, index_of, index_if, top_of}
 use Rattle.log_tasks.specs.Ends.{or_later}
 
 -- ENDS

@@ -1,5 +1,5 @@
 -- Numbers in ascending order, and the places at which they stand.
-use Rattle.log_tasks.proofs.Common.{◌≡◌, ◌<◌, ◌≤◌, ◌+◌, ◌-◌, ◌==◌, ◌∷◌, ◌∙◌, ◌⊎◌, inl, inr, ℕ, zero, suc, Bool, true, false, List, [], length, get_or, cond, refl, sym, ap, subst, arith, Result, Ok, Err, nat_cmp, nat_lt, if◌then◌else◌, position_or_len, IsStrictlyIncreasing, IsBinarySearchResult, searched, nat_tests, cases_lt, position_or_len_is, In, place_or_root, task_of}
+use Rattle.log_tasks.proofs.Common.{◌≡◌, ◌<◌, ◌≤◌, ◌+◌, ◌-◌, ◌==◌, ◌∷◌, ◌∙◌, ◌⊎◌, inl, inr, ℕ, zero, suc, Bool, true, false, List, [], length, get_or, refl, sym, ap, subst, arith, Ok, Err, nat_cmp, nat_lt, if◌then◌else◌, position_or_len, IsStrictlyIncreasing, IsBinarySearchResult, searched, nat_tests, cases_lt, position_or_len_is, In, place_or_root, task_of}
 
 -- where an item stands
 pub in_at : (numbers : List ℕ) (n : ℕ) → In numbers n → (k : ℕ) × (k < length numbers) × (get_or numbers k 0 ≡ n)

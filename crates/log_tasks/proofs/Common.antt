@@ -37,7 +37,7 @@ pub use Rattle.log_tasks.specs.Numbers.{tells, is_task, place_or_root, task_of, 
 pub use Rattle.log_tasks.specs.Rows.{turn_at, AreRows, graph_of, AreNestedTasks}
 pub use Rattle.log_tasks.specs.Sane.{TurnsWithin, EventsAreWithin, SpawnsOnce, AreSane}
 pub use Rattle.log_tasks.specs.Spawning.{SpawnsWell}
-pub use Rattle.log_tasks.specs.Told.{NotesTasks, is_told, greater, index_of, index_if, top_of, KnowsEvents, end_told, top_told, task_told, end_after, HasSmallTurns, AreToldRows, is_below, number_if, turn_told, IsToldRow, AreFirstRows}
+pub use Rattle.log_tasks.specs.Told.{NotesTasks, is_told, greater, index_of, index_if, top_of, KnowsEvents, end_told, top_told, task_told, end_after, HasSmallTurns, AreToldRows, number_if, turn_told, IsToldRow, AreFirstRows}
 pub use Rattle.log_tasks.specs.declared.ending.StrandEnd.{StrandEnd}
 pub use Rattle.log_tasks.specs.declared.ending.StrandEnd.TheVariants.{Turns, Finishes}
 pub use Rattle.log_tasks.specs.declared.fault.TaskCause.{TaskCause}

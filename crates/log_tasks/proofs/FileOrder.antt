@@ -1,9 +1,8 @@
 -- What the order of files is to a log's graph: nothing.
-use Rattle.log_tasks.proofs.Common.{◌≡◌, ◌<◌, ◌≤◌, ◌==◌, ◌++◌, ◌∷◌, ◌∙◌, ◌⊎◌, inl, inr, ℕ, zero, suc, Bool, true, false, List, [], length, get_or, refl, sym, ap, ap₂, subst, Option, Some, None, Result, Ok, Err, arith, append_assoc, append-nil, nat_cmp, Less, IsTrue, ◌||◌, ◌&&◌, slice_get, list_any, AllByRecursion, IsStrictlyIncreasing, nat_tests, sorted_from_strictly_increasing, In, any_from_in, in_from_any, each_in, LogCause, Act, LogLine, line_of, GraphTurn, GraphStrand, tasks_in, strand, lines_in, Event, event, Spot, is_on, acts_on, spot_behind_act, spot_behind_said, spot_behind_all, file_begin, file_end, events_behind, events_of, first_end, end_of, tells, is_task, AreNumbers, log_strand, turn_at, AreRows, DoTheSame, FileOrderIsNothing, ShareNoStrand, FilesMayChangePlaces}
+use Rattle.log_tasks.proofs.Common.{◌≡◌, ◌<◌, ◌≤◌, ◌==◌, ◌++◌, ◌∷◌, ◌∙◌, ◌⊎◌, inl, inr, ℕ, suc, Bool, true, false, List, [], length, refl, sym, ap, ap₂, subst, Option, Some, None, Result, Ok, Err, arith, append_assoc, append-nil, nat_cmp, Less, IsTrue, ◌||◌, ◌&&◌, slice_get, list_any, nat_tests, sorted_from_strictly_increasing, In, any_from_in, in_from_any, each_in, LogCause, Act, LogLine, line_of, GraphTurn, GraphStrand, tasks_in, strand, lines_in, Event, event, Spot, is_on, acts_on, spot_behind_act, spot_behind_said, spot_behind_all, file_begin, file_end, events_behind, events_of, first_end, end_of, tells, is_task, log_strand, turn_at, DoTheSame, FileOrderIsNothing, FilesMayChangePlaces}
 use Rattle.std.specs.List.Sorted.{IsStrictlySortedBy}
 use Rattle.log_lines.specs.declared.line.LogLine.TheVariants as lines
 use Rattle.log_tasks.proofs.Acts.{acts_append}
-use Rattle.log_tasks.proofs.Log.{true_is}
 use Rattle.log_tasks.proofs.Spawning.{in_events, same_number}
 
 -- FILES ONE AFTER ANOTHER

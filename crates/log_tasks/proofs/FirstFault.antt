@@ -1,5 +1,5 @@
 -- The first fault of a task, of the graph's faults and those of tasks' ends.
-use Rattle.log_tasks.proofs.Common.{◌≡◌, ◌<◌, ◌≤◌, ◌∙◌, ◌⊎◌, ◌==◌, inl, inr, ℕ, Bool, true, false, List, length, refl, sym, ap, subst, Option, Some, None, arith, ◌||◌, ◌&&◌, MatchOption, option_map, slice_get, nat_lt, nat_le, if◌then◌else◌, eq-or-lt_of_le, nat_tests, cases_lt, got_within, GraphTurn, Spawn, Join, GraphStrand, Extent, Whole, Cut, StrandCause, StrandFault, tasks_in, strand, last_of, IsEarlier, IsFault, IsSoundRun, IsFirstFault, IsSpawnedBefore, sound_runs_have_no_fault, Event, TaskCause, JoinsNoOpenChild, HasNoEnd, LeavesUnjoined, IsUnreached, GoesOnAfterEnd, TaskFault, Told, KnowsEvents, SpawnsWell, HasCause, HasNoneBelow, IsFirstOf, rank_of, end_cause_of, NoneEndsBelow, IsFirstEndFault, of_graph, task_cause, is_sooner, sooner, sooner_of}
+use Rattle.log_tasks.proofs.Common.{◌≡◌, ◌<◌, ◌≤◌, ◌∙◌, ◌⊎◌, inl, inr, ℕ, Bool, true, false, List, length, refl, sym, ap, subst, Option, Some, None, arith, MatchOption, option_map, if◌then◌else◌, nat_tests, cases_lt, got_within, GraphTurn, Join, GraphStrand, Extent, Whole, Cut, StrandCause, StrandFault, tasks_in, strand, last_of, IsEarlier, IsFault, IsSoundRun, IsFirstFault, sound_runs_have_no_fault, Event, TaskCause, JoinsNoOpenChild, HasNoEnd, LeavesUnjoined, IsUnreached, GoesOnAfterEnd, TaskFault, Told, KnowsEvents, SpawnsWell, HasCause, HasNoneBelow, IsFirstOf, rank_of, NoneEndsBelow, IsFirstEndFault, of_graph, task_cause, is_sooner, sooner, sooner_of}
 use Rattle.fork_graph.specs.declared.fault.StrandCause.TheVariants as graph
 use Rattle.log_tasks.proofs.TaskEnds.{cause_has, no_cause_no_end, no_cause_past, goes_on_has_end, end_causes}
 

@@ -1,5 +1,5 @@
 -- Joins of what is unjoined.
-use Rattle.log_tasks.proofs.Common.{◌≡◌, ◌<◌, ◌≤◌, ◌+◌, ◌-◌, ◌==◌, ◌++◌, ◌∷◌, ◌∙◌, ℕ, zero, suc, Bool, true, false, not, List, [], length, drop, take, get_or, map, reverse, refl, sym, ap, Option, Some, None, arith, append_assoc, append-nil, drop-cons, nat_eq, ◌||◌, filter, slice_get, if◌then◌else◌, fun_ext, reverse_onto, map-append, take_more, filter-append, got_front, GraphTurn, Spawn, Join, spawned_by, joins, completed, left_by, joins_of, joins_for}
+use Rattle.log_tasks.proofs.Common.{◌≡◌, ◌<◌, ◌+◌, ◌-◌, ◌==◌, ◌++◌, ◌∷◌, ◌∙◌, ℕ, zero, suc, Bool, true, false, not, List, [], length, drop, take, get_or, map, reverse, refl, sym, ap, Option, Some, None, arith, append_assoc, append-nil, ◌||◌, filter, slice_get, if◌then◌else◌, fun_ext, reverse_onto, map-append, take_more, filter-append, got_front, GraphTurn, Spawn, Join, spawned_by, joins, completed, left_by, joins_of, joins_for}
 use Rattle.log_tasks.proofs.Acts.{or_assoc}
 
 module _ (joined : ℕ → Bool) where

@@ -1,5 +1,5 @@
 -- What is known after a piece more.
-use Rattle.log_tasks.proofs.Common.{◌≡◌, ◌==◌, ◌++◌, ◌∙◌, ℕ, Bool, List, refl, sym, ap, Option, Result, Ok, Err, ◌||◌, ◌&&◌, OnOk, if◌then◌else◌, AllocError, list_any, Act, GraphStrand, strand, Event, spawns, is_that, on_strand, StrandEnd, Told, first_end, end_of, KnowsEvents, is_told, greater, index_if, end_told, top_told, task_told, end_after}
+use Rattle.log_tasks.proofs.Common.{◌≡◌, ◌==◌, ◌++◌, ◌∙◌, ℕ, Bool, true, false, List, refl, sym, ap, Option, Result, Ok, Err, ◌||◌, ◌&&◌, OnOk, if◌then◌else◌, AllocError, list_any, Act, GraphStrand, Event, spawns, is_that, on_strand, StrandEnd, Told, first_end, KnowsEvents, is_told, greater, index_if, end_told, top_told, task_told, end_after}
 use Rattle.log_tasks.specs.Ends.{or_later}
 use Rattle.log_tasks.proofs.Acts.{end_more, top_more, task_more}
 

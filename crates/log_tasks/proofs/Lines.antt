@@ -1,7 +1,6 @@
 -- What is known after a line more of a piece.
-use Rattle.log_tasks.proofs.Common.{◌≡◌, ◌++◌, ◌∷◌, ◌∙◌, ℕ, Bool, true, false, List, [], refl, sym, ap, subst, Option, Some, None, append-nil, take, length, get_or, ◌<◌, ◌+◌, ◌||◌, MatchOption, list_any, flat_map, flat_map-append, take_more, list_any-append, lines_of, Act, line_of, GraphStrand, Event, spawns, LogPiece, act_said, acts_in, acts_of_piece, on_strand, events_in, events_of_pieces, KnowsEvents, line_more, line_last, StrandEnd, Told, end_by, first_end, is_told, end_told, task_told, end_after, codes, is_among, begins_with, letter_of, said_of}
+use Rattle.log_tasks.proofs.Common.{◌≡◌, ◌++◌, ◌∷◌, ◌∙◌, ℕ, Bool, true, false, List, [], refl, sym, ap, subst, Option, Some, None, append-nil, take, length, get_or, ◌<◌, ◌+◌, ◌||◌, MatchOption, list_any, flat_map-append, take_more, list_any-append, lines_of, Act, line_of, GraphStrand, Event, spawns, LogPiece, act_said, acts_in, acts_of_piece, on_strand, events_in, events_of_pieces, KnowsEvents, line_more, line_last, StrandEnd, Told, end_by, first_end, is_told, end_told, task_told, end_after, codes, is_among, begins_with, letter_of, said_of}
 use Rattle.log_lines.specs.declared.line.Act.TheVariants as acts
-use Rattle.log_tasks.specs.Ends.{or_later}
 use Rattle.log_tasks.proofs.Acts.{first_end_append, or_assoc, later_none}
 use Rattle.log_tasks.proofs.Puts.{after_twice, after_none, or_false}
 

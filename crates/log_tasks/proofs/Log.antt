@@ -1,6 +1,6 @@
 -- The tasks of a log, or why there are none.
-use Rattle.log_tasks.proofs.Common.{◌≡◌, ◌<◌, ◌≤◌, ◌==◌, ◌^◌, ◌∙◌, ℕ, Bool, true, List, length, get_or, map, refl, sym, ap, subst, Option, Some, None, arith, Contains, IsTrue, ◌↔◌, MatchOption, list_any, IsStrictlyIncreasing, nat_tests, In, in_from_contains, contains_from_in, any_from_in, in_from_any, GraphTurn, Extent, AreSmall, IsSoundRun, Event, events_of, log_fault, TaskFault, LogTasks, Told, is_task, AreNumbers, graph_of, AreRows, AreNestedTasks, KnowsEvents, task_told, HasSmallTurns, AreToldRows, SpawnsWell, HasNoneBelow, IsFirstOf, IsFirstTaskFault, in_log, IsLog}
-use Rattle.log_tasks.proofs.Ascending.{place_below, in_at}
+use Rattle.log_tasks.proofs.Common.{◌≡◌, ◌<◌, ◌≤◌, ◌==◌, ◌^◌, ◌∙◌, ℕ, Bool, true, List, length, map, refl, sym, subst, Option, Some, None, arith, Contains, IsTrue, MatchOption, IsStrictlyIncreasing, nat_tests, In, in_from_contains, contains_from_in, any_from_in, in_from_any, GraphTurn, Extent, AreSmall, IsSoundRun, Event, events_of, log_fault, TaskFault, LogTasks, Told, is_task, AreNumbers, graph_of, AreRows, AreNestedTasks, KnowsEvents, task_told, HasSmallTurns, AreToldRows, SpawnsWell, HasNoneBelow, IsFirstOf, IsFirstTaskFault, in_log, IsLog}
+use Rattle.log_tasks.proofs.Ascending.{in_at}
 use Rattle.log_tasks.proofs.Puts.{number_same}
 use Rattle.log_tasks.proofs.Sane.{sane_log}
 use Rattle.log_tasks.proofs.ToldRows.{rows_are, small_turns, spawns_well}

@@ -1,5 +1,5 @@
 -- The graph of a log is a nested run.
-use Rattle.log_tasks.proofs.Common.{◌≡◌, ◌<◌, ◌≤◌, ◌+◌, ◌^◌, ◌∷◌, ◌∙◌, ℕ, zero, suc, not, List, [], length, get_or, map, reverse, refl, sym, ap, subst, arith, length-append, slice_get, fun_ext, length-map, length-reverse, length-filter_both, strand_limit, GraphTurn, Spawn, Join, Extent, Whole, Cut, AreSmall, tasks_in, Does, IsNested, spawned_by, joins, unjoined, completed, with_joins, IsSoundRun, completed_spawn, completed_are_nested, graph_of, AreNestedTasks}
+use Rattle.log_tasks.proofs.Common.{◌≡◌, ◌<◌, ◌≤◌, ◌+◌, ◌^◌, ◌∷◌, ◌∙◌, ℕ, zero, suc, not, List, [], length, map, reverse, refl, sym, ap, subst, arith, length-append, slice_get, fun_ext, length-map, length-reverse, length-filter_both, strand_limit, GraphTurn, Spawn, Join, Extent, Whole, Cut, AreSmall, tasks_in, Does, IsNested, spawned_by, joins, unjoined, completed, with_joins, IsSoundRun, completed_spawn, completed_are_nested, graph_of, AreNestedTasks}
 
 -- LENGTHS
 

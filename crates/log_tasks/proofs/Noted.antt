@@ -31,12 +31,8 @@ module _ (told : Told) (task : ℕ) (there : task_told told task ≡ true) where
       is ∙ sym (or_true (task_told told t))
 
   -- it needn't be noted
-  noted_there : (t : ℕ) → task_told told t ≡ (task_told told t || (task == t))
+  pub noted_there : (t : ℕ) → task_told told t ≡ (task_told told t || (task == t))
   noted_there t = noted_by t (task == t) refl
-
--- one of which a strand did something
-pub noted_before : (told : Told) → NotesTasks told → (task : ℕ) → is_some (top_told told task) ≡ true → (t : ℕ) → task_told told t ≡ (task_told told t || (task == t))
-noted_before told notes task some = noted_there told task (notes task some)
 
 -- one that stands at its own place
 pub noted_at : (told : Told) (task : ℕ) → task < length told.tasks → get_or told.tasks task 0 ≡ task → (t : ℕ) → task_told told t ≡ (task_told told t || (task == t))

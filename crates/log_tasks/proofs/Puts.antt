@@ -1,5 +1,5 @@
 -- What is known when a strand ends, a number is noted, or a task is there.
-use Rattle.log_tasks.proofs.Common.{◌≡◌, ◌==◌, ◌<◌, ◌≤◌, ◌∙◌, ℕ, Bool, true, false, cond, refl, sym, ap, subst, Option, Some, None, List, [], ◌∷◌, ◌++◌, arith, nat_eq, nat_lt, ◌||◌, ◌&&◌, max, is_some, if◌then◌else◌, list_any, list_any-append, nat_tests, GraphStrand, is_that, StrandEnd, Told, greater, is_below, number_if, index_of, end_told, end_after}
+use Rattle.log_tasks.proofs.Common.{◌≡◌, ◌==◌, ◌<◌, ◌≤◌, ◌∙◌, ℕ, Bool, true, false, cond, refl, sym, ap, Option, Some, None, List, [], ◌∷◌, ◌++◌, arith, ◌||◌, ◌&&◌, max, is_some, if◌then◌else◌, list_any, list_any-append, nat_tests, GraphStrand, is_that, StrandEnd, Told, greater, number_if, index_of, end_told, end_after}
 use Rattle.log_tasks.specs.Ends.{or_later}
 use Rattle.log_tasks.proofs.Acts.{later_none}
 
@@ -67,36 +67,35 @@ after_twice old mid u first later t i e =
 
 -- NUMBERS
 
+none_more : (o : Option ℕ) → o ≡ greater o None
+none_more None = refl
+none_more (Some j) = refl
+
 module _ (F : ℕ → Option ℕ) (u : GraphStrand) where
-  top_kept_by : (t : ℕ) (b : Bool) → (u.task == t) ≡ b → is_below (F u.task) u.index ≡ false → F t ≡ greater (F t) (number_if b u.index)
-  top_kept_by t true e above = let here : u.task ≡ t = number_same u.task t e in is_kept (F t) (ap (λ (n : ℕ). is_below (F n) u.index) (sym here) ∙ above)
+  top_put_by : (t : ℕ) (b : Bool) → (u.task == t) ≡ b → ((j : ℕ) → F u.task ≡ Some j → j ≤ u.index) → cond b (Some u.index) (F t) ≡ greater (F t) (number_if b u.index)
+  top_put_by t true e le =
+      let here : u.task ≡ t = number_same u.task t e in
+      is_put (F t) (λ j is. le j (ap F here ∙ is))
     where
-      is_kept : (o : Option ℕ) → is_below o u.index ≡ false → o ≡ greater o (Some u.index)
-      is_kept None h = absurd (let z : true ≡ false = h in cc)
-      is_kept (Some j) h = ap Some (let le : u.index ≤ j = grind (arith, nat_tests, h) in let m : j ≡ max j u.index = omega (arith, le) in m)
-  top_kept_by t false e above = none_more (F t)
-    where
-      none_more : (o : Option ℕ) → o ≡ greater o None
-      none_more None = refl
-      none_more (Some j) = refl
-
-  pub top_kept : is_below (F u.task) u.index ≡ false → (t : ℕ) → F t ≡ greater (F t) (index_of u t)
-  top_kept above t = top_kept_by t (u.task == t) refl above
-
-  top_put_by : (t : ℕ) (b : Bool) → (u.task == t) ≡ b → is_below (F u.task) u.index ≡ true → cond b (Some u.index) (F t) ≡ greater (F t) (number_if b u.index)
-  top_put_by t true e below = let here : u.task ≡ t = number_same u.task t e in is_put (F t) (ap (λ (n : ℕ). is_below (F n) u.index) (sym here) ∙ below)
-    where
-      is_put : (o : Option ℕ) → is_below o u.index ≡ true → Some u.index ≡ greater o (Some u.index)
+      is_put : (o : Option ℕ) → ((j : ℕ) → o ≡ Some j → j ≤ u.index) → Some u.index ≡ greater o (Some u.index)
       is_put None h = refl
-      is_put (Some j) h = ap Some (let lt : j < u.index = grind (arith, nat_tests, h) in let m : u.index ≡ max j u.index = omega (arith, lt) in m)
-  top_put_by t false e below = none_more (F t)
-    where
-      none_more : (o : Option ℕ) → o ≡ greater o None
-      none_more None = refl
-      none_more (Some j) = refl
+      is_put (Some j) h = ap Some (let lt = h j refl in let m : u.index ≡ max j u.index = omega (arith, lt) in m)
+  top_put_by t false e le = none_more (F t)
 
-  pub top_put : is_below (F u.task) u.index ≡ true → (t : ℕ) → cond (u.task == t) (Some u.index) (F t) ≡ greater (F t) (index_of u t)
-  top_put below t = top_put_by t (u.task == t) refl below
+  -- the number is the greatest one
+  pub top_put : ((j : ℕ) → F u.task ≡ Some j → j ≤ u.index) → (t : ℕ) → cond (u.task == t) (Some u.index) (F t) ≡ greater (F t) (index_of u t)
+  top_put le t = top_put_by t (u.task == t) refl le
+
+  top_back_by : (top : ℕ) (t : ℕ) (b : Bool) → (u.task == t) ≡ b → F u.task ≡ Some top → u.index < top → cond b (Some top) (cond b (Some u.index) (F t)) ≡ greater (F t) (number_if b u.index)
+  top_back_by top t true e is lt =
+      let here : u.task ≡ t = number_same u.task t e in
+      let m : max top u.index ≡ top = omega (arith, lt) in
+      sym (ap (λ (o : Option ℕ). greater o (Some u.index)) (ap F (sym here) ∙ is) ∙ ap Some m)
+  top_back_by top t false e is lt = none_more (F t)
+
+  -- a greater one is put back
+  pub top_back : (top : ℕ) → F u.task ≡ Some top → u.index < top → (t : ℕ) → cond (u.task == t) (Some top) (cond (u.task == t) (Some u.index) (F t)) ≡ greater (F t) (index_of u t)
+  top_back top is lt t = top_back_by top t (u.task == t) refl is lt
 
 -- TASKS
 

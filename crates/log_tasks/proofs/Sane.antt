@@ -1,8 +1,7 @@
 -- What holds of the events of a log without a faulty line.
-use Rattle.log_tasks.proofs.Common.{◌≡◌, ◌<◌, ◌+◌, ◌==◌, ◌++◌, ◌∷◌, ◌∙◌, ℕ, Bool, true, false, List, [], refl, sym, ap, subst, Option, Some, None, Result, Ok, Err, arith, append_assoc, append-nil, nat_lt, if◌then◌else◌, nat_tests, LogCause, Act, LogLine, line_of, strand_limit, GraphStrand, LogFault, LocatedFault, lines_in, Event, event, Spot, has_ended, spot_behind_act, spot_behind_said, spot_behind_all, file_begin, file_end, events_behind, events_of, spawns, is_spawned, where_true, turn_fault, claim_fault, act_fault, said_fault, line_fault, first_fault, found_at, fault_from, fault_of_lines, or_later, fault_behind, log_fault, TurnsWithin, EventsAreWithin, SpawnsOnce, AreSane}
+use Rattle.log_tasks.proofs.Common.{◌≡◌, ◌<◌, ◌+◌, ◌++◌, ◌∷◌, ℕ, Bool, true, false, List, [], refl, sym, subst, Some, None, arith, append_assoc, append-nil, nat_lt, if◌then◌else◌, nat_tests, Act, strand_limit, GraphStrand, Event, event, events_of, spawns, is_spawned, turn_fault, claim_fault, log_fault, TurnsWithin, EventsAreWithin, SpawnsOnce, AreSane}
 use Rattle.log_lines.specs.declared.cause.LogCause.TheVariants as causes
 use Rattle.log_lines.specs.declared.line.Act.TheVariants as acts
-use Rattle.log_lines.specs.declared.line.LogLine.TheVariants as lines
 use Rattle.log_form.specs.declared.fault.LogFault.TheVariants as faults
 use Rattle.log_tasks.proofs.Accepted.{no_some, not_true, kept_log}
 

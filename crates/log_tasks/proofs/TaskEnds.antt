@@ -1,6 +1,5 @@
 -- What is wrong with a task after its last turn, by what is known and by what happens.
-use Rattle.log_tasks.proofs.Common.{◌≡◌, ◌≢◌, ◌<◌, ◌≤◌, ◌==◌, ◌∷◌, ◌∙◌, ◌⊎◌, inl, inr, ℕ, Bool, true, false, List, [], length, get_or, refl, sym, ap, ap₂, subst, Option, Some, None, arith, ◌&&◌, max, nat_lt, nat_tests, cases_lt, Act, GraphTurn, GraphStrand, Extent, Whole, tasks_in, strand, last_of, Event, is_on, acts_on, StrandEnd, TaskCause, HasNoEnd, GoesOnAfterEnd, TaskFault, Told, end_of, DoesSomething, log_strand, KnowsEvents, greater, number_if, index_of, top_of, end_told, top_told, HasCause, goes_past, end_cause_by, end_cause, end_cause_of}
-use Rattle.log_tasks.proofs.Puts.{number_same}
+use Rattle.log_tasks.proofs.Common.{◌≡◌, ◌≢◌, ◌<◌, ◌≤◌, ◌==◌, ◌∷◌, ◌∙◌, ◌⊎◌, inl, inr, ℕ, Bool, true, false, List, [], length, get_or, refl, sym, ap, subst, Option, Some, None, arith, ◌&&◌, max, nat_tests, cases_lt, Act, GraphTurn, GraphStrand, Extent, Whole, tasks_in, strand, last_of, Event, is_on, acts_on, StrandEnd, TaskCause, HasNoEnd, GoesOnAfterEnd, Told, end_of, DoesSomething, log_strand, KnowsEvents, greater, number_if, index_of, top_of, end_told, top_told, HasCause, goes_past, end_cause_by, end_cause_of}
 use Rattle.log_tasks.proofs.Spawning.{on_same, same_number}
 
 -- THE GREATEST NUMBER

@@ -1,5 +1,5 @@
 -- The turns of tasks, by what is known.
-use Rattle.log_tasks.proofs.Common.{◌≡◌, ◌<◌, ◌≤◌, ◌+◌, ◌^◌, ◌++◌, ◌∷◌, ◌∙◌, ◌⊎◌, inl, inr, ℕ, zero, suc, List, [], length, get_or, refl, sym, ap, subst, Option, Some, None, arith, length-append, true, ◌≢◌, slice_get, IsTrue, IsStrictlyIncreasing, eq-or-lt_of_le, cases_lt, get_or-append, get_or-append_seam, below_next, got_within, got_past, got_front, got_last, strand_limit, GraphTurn, Spawn, Join, GraphStrand, AreSmall, tasks_in, strand, Does, Event, StrandEnd, Turns, Finishes, Told, end_of, AreNumbers, log_strand, task_of, turn_at, AreRows, KnowsEvents, end_told, turn_told, HasSmallTurns, IsToldRow, AreFirstRows, AreToldRows, AreSane, SpawnsWell}
+use Rattle.log_tasks.proofs.Common.{◌≡◌, ◌<◌, ◌≤◌, ◌+◌, ◌^◌, ◌++◌, ◌∷◌, ◌∙◌, ◌⊎◌, inl, inr, ℕ, zero, suc, List, [], length, get_or, refl, sym, ap, subst, Option, Some, None, arith, length-append, slice_get, IsStrictlyIncreasing, eq-or-lt_of_le, cases_lt, get_or-append, get_or-append_seam, below_next, got_within, got_past, got_front, got_last, strand_limit, GraphTurn, Spawn, Join, GraphStrand, AreSmall, tasks_in, strand, Does, Event, StrandEnd, Turns, Finishes, Told, end_of, AreNumbers, log_strand, task_of, turn_at, AreRows, KnowsEvents, end_told, turn_told, HasSmallTurns, IsToldRow, AreFirstRows, AreToldRows, AreSane, SpawnsWell}
 use Rattle.log_tasks.proofs.Ascending.{place_below, one_place, task_there}
 use Rattle.log_tasks.proofs.Spawning.{spawned_once, not_root, spawned_is_task, end_within}
 

@@ -1,5 +1,5 @@
 -- What the strands of a log do, and what ends them.
-use Rattle.std.specs.Prelude.{◌≡◌, ◌≢◌, ℕ, Option, Some, None, List, [], ◌∷◌}
+use Rattle.std.specs.Prelude.{◌≢◌, Option, Some, None, List, [], ◌∷◌}
 use Rattle.log_tasks.specs.Common.{Act, Spawn, Join, GraphStrand, Event, acts_on}
 use Rattle.log_lines.specs.declared.line.Act.TheVariants as acts
 use Rattle.log_tasks.specs.declared.ending.StrandEnd.{StrandEnd}

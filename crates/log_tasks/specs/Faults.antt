@@ -1,5 +1,5 @@
 -- What is wrong with the tasks of a log.
-use Rattle.std.specs.Prelude.{◌≡◌, ◌≢◌, ◌<◌, ℕ, None, List, length}
+use Rattle.std.specs.Prelude.{◌≡◌, ◌<◌, ℕ, None, List, length}
 use Rattle.log_tasks.specs.Common.{GraphTurn, GraphStrand, Extent, Whole, tasks_in, strand, last_of, IsFault, Event}
 use Rattle.fork_graph.specs.declared.fault.StrandCause.TheVariants as graph
 use Rattle.log_tasks.specs.declared.fault.TaskCause.{TaskCause}

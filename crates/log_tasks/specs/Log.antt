@@ -1,5 +1,5 @@
 -- The tasks of a log.
-use Rattle.std.specs.Prelude.{◌≡◌, ℕ, List, length, map}
+use Rattle.std.specs.Prelude.{◌≡◌, List, length, map}
 use Rattle.log_tasks.specs.Common.{GraphTurn, Extent, Event}
 use Rattle.log_tasks.specs.declared.tasks.LogTasks.{LogTasks}
 use Rattle.log_tasks.specs.Numbers.{AreNumbers}

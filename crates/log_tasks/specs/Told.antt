@@ -1,5 +1,5 @@
 -- What is known of strands and tasks, as pieces are read.
-use Rattle.std.specs.Prelude.{◌≡◌, ◌<◌, ◌≤◌, ◌+◌, ◌==◌, ℕ, Bool, true, false, Option, Some, None, List, [], ◌∷◌, length, slice_get, get_or, nat_eq, nat_lt, max, is_some, if◌then◌else◌}
+use Rattle.std.specs.Prelude.{◌≡◌, ◌<◌, ◌≤◌, ◌+◌, ◌==◌, ℕ, Bool, true, false, Option, Some, None, List, [], ◌∷◌, length, slice_get, get_or, nat_eq, max, is_some, if◌then◌else◌}
 use Rattle.std.specs.HashMap.{get}
 use Rattle.std.specs.List.{list_any}
 use Rattle.log_tasks.specs.Common.{Act, strand_limit, GraphTurn, GraphStrand, strand, tasks_in, Event, is_pair, is_that}
@@ -21,10 +21,6 @@ abbrev pub greater : Option ℕ → Option ℕ → Option ℕ
 greater None j = j
 greater (Some i) None = Some i
 greater (Some i) (Some j) = Some (max i j)
-
-abbrev pub is_below : Option ℕ → ℕ → Bool
-is_below None i = true
-is_below (Some j) i = nat_lt j i
 
 -- the strand's number, if it is one of the task's
 abbrev pub number_if : Bool → ℕ → Option ℕ

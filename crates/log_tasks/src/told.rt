@@ -1,13 +1,13 @@
 // What the pieces of a log tell of its strands and tasks.
 
-ghost use Rattle.std.specs.Prelude.{◌≡◌, ◌==◌, ◌||◌, ◌&&◌, ◌++◌, ℕ, [], List, Some, OnOk, IfOk, true};
+ghost use Rattle.std.specs.Prelude.{◌≡◌, ◌==◌, ◌||◌, ◌&&◌, ◌++◌, ℕ, [], List, Some, OnOk, IfOk, true, is_some};
 ghost use Rattle.std.specs.List.{list_any};
 ghost use Rattle.log_lines.specs.Grammar.{line_of};
 ghost use Rattle.log_form.specs.Events.{Event};
 ghost use Rattle.log_form.specs.Faults.{spawns};
 ghost use Rattle.log_pieces.specs.Pieces.{act_said, acts_in, on_strand, events_of_pieces};
 ghost use Rattle.log_tasks.specs.Ends.{end_by, first_end};
-ghost use Rattle.log_tasks.specs.Told.{KnowsEvents, NotesTasks, is_told, greater, is_below, index_of, index_if, end_told, top_told, task_told, end_after};
+ghost use Rattle.log_tasks.specs.Told.{KnowsEvents, NotesTasks, is_told, greater, index_of, index_if, end_told, top_told, task_told, end_after};
 
 use crate::ending::StrandEnd;
 use crate::numbers::is_own_place;
@@ -69,16 +69,6 @@ fn either(one: bool, other: bool) -> bool
     ensures { result ≡ (one || other) }
 {
     one || other
-}
-
-// Whether a number is above the greatest one so far.
-fn is_below(top: Option<u32>, index: u32) -> bool
-    ensures { result ≡ is_below top index }
-{
-    match top {
-        Some(top) => top < index,
-        None => true,
-    }
 }
 
 impl Told {
@@ -176,34 +166,28 @@ impl Told {
         }
     }
 
-    // The greatest number of a strand of a task that does something.
-    fn top(&self, task: u32) -> Option<u32>
-        ensures { result ≡ top_told self.now task }
-    {
-        self.tops.get(&task).copied()
-    }
-
-    // A strand's number is noted, by the greatest one of its task's so far.
-    fn raise(&mut self, strand: GraphStrand, top: Option<u32>) -> Result<(), AllocError>
-        requires { top ≡ top_told self.old strand.task }
+    // A strand's number is noted; the greatest one of its task's before.
+    fn raise(&mut self, strand: GraphStrand) -> Result<Option<u32>, AllocError>
+        ensures before { IfOk result (λ before. before ≡ top_told self.old strand.task) }
         ensures tops { OnOk result ((t : ℕ) → top_told self.new t ≡ greater (top_told self.old t) (index_of strand t)) }
         ensures rest { self.new ≡ record self.old { tops = self.new.tops } }
     {
-        if !is_below(top, strand.index) {
-            return Ok(());
+        let before = self.tops.insert(strand.task, strand.index)?;
+        if let Some(top) = before
+            && strand.index < top
+        {
+            self.tops.insert(strand.task, top)?;
         }
-        self.tops.insert(strand.task, strand.index)?;
-        Ok(())
+        Ok(before)
     }
 
-    // A task does something; one that did so before is there already.
-    fn note_task(&mut self, task: u32, top: Option<u32>) -> Result<(), AllocError>
-        requires noted { NotesTasks self.old }
-        requires top { top ≡ top_told self.old task }
+    // A task does something; one of which a strand did so before is there already.
+    fn note_task(&mut self, task: u32, before: Option<u32>) -> Result<(), AllocError>
+        requires { is_some before ≡ true → task_told self.old task ≡ true }
         ensures tasks { OnOk result ((t : ℕ) → task_told self.new t ≡ (task_told self.old t || (task == t))) }
         ensures rest { self.new ≡ record self.old { tasks = self.new.tasks } }
     {
-        if top.is_some() {
+        if before.is_some() {
             return Ok(());
         }
         if is_own_place(self.tasks.as_slice(), task) {
@@ -219,9 +203,8 @@ impl Told {
         ensures tasks { OnOk result ((t : ℕ) → task_told self.new t ≡ (task_told self.old t || (strand.task == t))) }
         ensures ends { self.new.ends ≡ self.old.ends }
     {
-        let top = self.top(strand.task);
-        self.note_task(strand.task, top)?;
-        self.raise(strand, top)
+        let before = self.raise(strand)?;
+        self.note_task(strand.task, before)
     }
 
     // A strand does something, or nothing.

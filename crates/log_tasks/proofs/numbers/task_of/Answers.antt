@@ -1,4 +1,4 @@
-use Rattle.std.proofs.Common.{◌<◌, ◌^◌, arith, sym}
+use Rattle.std.proofs.Common.{arith, sym}
 use Rattle.log_tasks.proofs.Ascending.{found_place, not_found, place_below, task_is, none_is}
 use Rattle.log_tasks.proofs.numbers.task_of.Goals as goal
 

@@ -1,4 +1,4 @@
-use Rattle.log_tasks.proofs.Common.{◌≡◌, ◌<◌, ◌^◌, ℕ, length, subst, arith, Fits-lt-pow, AreFirstRows}
+use Rattle.log_tasks.proofs.Common.{◌≡◌, ℕ, length, subst, arith, Fits-lt-pow, AreFirstRows}
 use Rattle.log_tasks.proofs.ToldRows.{rows_small}
 use Rattle.log_tasks.proofs.rows.rows_of.Goals as goal
 

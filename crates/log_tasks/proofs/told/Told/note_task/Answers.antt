@@ -1,9 +1,9 @@
-use Rattle.log_tasks.proofs.Common.{◌≡◌, ◌<◌, ℕ, List, length, get_or, sym, ap, subst, is_some, ◌∙◌}
-use Rattle.log_tasks.proofs.Noted.{noted_before, noted_at}
+use Rattle.log_tasks.proofs.Common.{◌≡◌, ◌<◌, ℕ, List, length, get_or, sym, subst, ◌∙◌}
+use Rattle.log_tasks.proofs.Noted.{noted_there, noted_at}
 use Rattle.log_tasks.proofs.told.Told.note_task.Goals as goal
 
 pub returns-then-is_some-clause-tasks : goal.returns-then-is_some-clause-tasks
-returns-then-is_some-clause-tasks c = noted_before c.args.self.now c.requires.noted c.args.task (ap is_some (sym c.requires.top) ∙ (sym c.is_some.ensures ∙ c.if-is_some.true))
+returns-then-is_some-clause-tasks c = noted_there c.args.self.now c.args.task (c.requires (sym c.is_some.ensures ∙ c.if-is_some.true))
 
 pub returns-then-is_own_place-clause-tasks : goal.returns-then-is_own_place-clause-tasks
 returns-then-is_own_place-clause-tasks c =
