@@ -53,10 +53,11 @@ module _ (names others : Names) (r : LogReport) where
   -- whatever the names, its text is the same
   pub quiet_text : (view : LogView) → is_quiet r ≡ true → view_text names view r ≡ view_text others view r
   quiet_text view q =
-      let a = and_right (length r.races == 0) ((length r.entangled_reads == 0) && ((length r.entangled_uses == 0) && (length r.stale_uses == 0))) q in
-      let b = and_right (length r.entangled_reads == 0) ((length r.entangled_uses == 0) && (length r.stale_uses == 0)) a in
+      let a = length r.races == 0 in
+      let b = length r.entangled_reads == 0 in
+      let c = length r.entangled_uses == 0 in
+      let d = length r.stale_uses == 0 in
+      let three = and_left ((a && b) && c) d q in
+      let two = and_left (a && b) c three in
       by_findings view r.races r.entangled_reads r.entangled_uses r.stale_uses
-      (none r.races (and_left (length r.races == 0) ((length r.entangled_reads == 0) && ((length r.entangled_uses == 0) && (length r.stale_uses == 0))) q))
-      (none r.entangled_reads (and_left (length r.entangled_reads == 0) ((length r.entangled_uses == 0) && (length r.stale_uses == 0)) a))
-      (none r.entangled_uses (and_left (length r.entangled_uses == 0) (length r.stale_uses == 0) b))
-      (none r.stale_uses (and_right (length r.entangled_uses == 0) (length r.stale_uses == 0) b))
+      (none r.races (and_left a b two)) (none r.entangled_reads (and_right a b two)) (none r.entangled_uses (and_right (a && b) c three)) (none r.stale_uses (and_right ((a && b) && c) d q))
