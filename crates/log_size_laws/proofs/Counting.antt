@@ -1,5 +1,5 @@
 -- How long lists of different things are.
-use Rattle.log_size_laws.proofs.Common.{◌≡◌, ◌<◌, ◌≤◌, ◌⊎◌, inl, inr, ℕ, zero, suc, Some, List, [], ◌∷◌, length, map, slice_get, refl, ap, sym, subst, ◌∙◌, arith, In, below_next, in_got, map_in, AreDifferent}
+use Rattle.log_size_laws.proofs.Common.{◌≡◌, ◌<◌, ◌≤◌, ◌⊎◌, inl, inr, ℕ, zero, suc, Some, List, [], ◌∷◌, length, map, slice_get, refl, ap, sym, subst, ◌∙◌, arith, In, below_next, in_got, in_map, map_in, AreDifferent}
 
 -- a list without one of its things
 removed : {A : Type 0} (ys : List A) (x : A) → In ys x → (zs : List A) × (length ys ≡ suc (length zs)) × ((y : A) → In ys y → (x ≡ y) ⊎ In zs y)
@@ -45,6 +45,11 @@ few_numbers xs n different below =
     let few = few_within xs (numbers_below n) different (λ x i. in_below n x (below x i)) in
     let all = all_below n in
     omega (arith, few, all)
+
+-- things with different numbers differ
+pub different_back : {A : Type 0} (f : A → ℕ) (xs : List A) → AreDifferent (map f xs) → AreDifferent xs
+different_back f [] different = tt
+different_back f (x ∷ xs) different = (λ i. different.0 (in_map f xs x i), different_back f xs different.1)
 
 -- what differs at different places of a list
 pub different_map : {A : Type 0} (f : A → ℕ) (xs : List A) → ((i j : ℕ) (x y : A) → slice_get xs i ≡ Some x → slice_get xs j ≡ Some y → f x ≡ f y → i ≡ j) → AreDifferent (map f xs)

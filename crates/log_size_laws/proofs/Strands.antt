@@ -1,7 +1,7 @@
 -- A graph of fork-join tasks has at most three strands for each task.
-use Rattle.log_size_laws.proofs.Common.{◌≡◌, ◌+◌, ◌*◌, ◌<◌, ◌≤◌, inl, inr, ℕ, zero, suc, Option, Some, None, List, length, map, slice_get, refl, ap, sym, subst, ◌∙◌, arith, length-map, In, in_got, map_in, got_some, TaskTurns, Does, IsAncestor, IsForkJoin, IsNested, GraphStrand, GraphTurn, IsSerialOrder, serial_order, serial_order_extends, levels_are_few, up_cases, IsRooted, attached_rooted, strand_is}
+use Rattle.log_size_laws.proofs.Common.{◌≡◌, ◌+◌, ◌*◌, ◌<◌, ◌≤◌, inl, inr, ℕ, zero, suc, Option, Some, None, List, length, map, slice_get, refl, ap, sym, subst, ◌∙◌, arith, length-map, In, AreDifferent, in_got, map_in, got_some, TaskTurns, Does, IsAncestor, IsForkJoin, IsNested, GraphStrand, GraphTurn, IsSerialOrder, serial_order, serial_order_extends, levels_are_few, up_cases, IsRooted, attached_rooted, strand_is}
 use Rattle.fork_graph.specs.declared.graph.GraphTurn.TheVariants.{Spawn, Join}
-use Rattle.log_size_laws.proofs.Counting.{few_numbers, different_map}
+use Rattle.log_size_laws.proofs.Counting.{few_numbers, different_back, different_map}
 
 -- the number of a strand: each task has its first one, the one after its spawn, and the one after its join
 abbrev after_number : Option GraphTurn → ℕ
@@ -65,13 +65,13 @@ module _ (tasks : TaskTurns) (n : ℕ) (nested : IsNested tasks) (some : 0 < n) 
   abbrev order : List GraphStrand
   order = serial_order tasks n
 
-  O : IsSerialOrder tasks order
+  pub O : IsSerialOrder tasks order
   O = serial_order_extends tasks n nested (levels_are_few tasks n fj some below)
 
-  stands : (i : ℕ) (u : GraphStrand) → slice_get order i ≡ Some u → IsRooted tasks u
+  pub stands : (i : ℕ) (u : GraphStrand) → slice_get order i ≡ Some u → IsRooted tasks u
   stands i u at = attached_rooted tasks fj u (O.attached i u at)
 
-  task_below : (t : ℕ) → IsAncestor tasks 0 t → t < n
+  pub task_below : (t : ℕ) → IsAncestor tasks 0 t → t < n
   task_below t above = elim (up_cases tasks 0 t above) [
     | inl root ↦ omega (arith, root, some)
     | inr (p, above_p, does) ↦ below p does.0 t does.1
@@ -92,8 +92,14 @@ module _ (tasks : TaskTurns) (n : ℕ) (nested : IsNested tasks) (some : 0 < n) 
       let e = u.2 in
       omega (arith, lt, e)
 
+  numbers_differ : AreDifferent (map number order)
+  numbers_differ = different_map number order one_place
+
+  pub different_strands : AreDifferent order
+  different_strands = different_back number order numbers_differ
+
   pub few_strands : length order ≤ 3 * n
   few_strands =
-      let few = few_numbers (map number order) (3 * n) (different_map number order one_place) numbers_below in
+      let few = few_numbers (map number order) (3 * n) numbers_differ numbers_below in
       let same = length-map order number in
       omega (arith, few, same)

@@ -1,5 +1,5 @@
 -- Logs that are small, and so not too large.
-use Rattle.std.specs.Prelude.{◌≡◌, ◌+◌, ◌*◌, ◌^◌, ◌<◌, ◌≤◌, ℕ, Bool, List, length, sum_by}
+use Rattle.std.specs.Prelude.{◌≡◌, ◌*◌, ◌^◌, ◌<◌, ◌≤◌, ℕ, Bool, List, length, sum_by}
 use Rattle.plain_vec.specs.Members.{In}
 use Rattle.log_strands.specs.below.log_form.{Event, events_of}
 use Rattle.log_strands.specs.below.log_lines.{Act, Access, Birth}
@@ -10,13 +10,9 @@ use Rattle.log_findings.specs.below.log_weights.{units_of}
 use Rattle.log_findings.specs.declared.error.ReportError.{ReportError}
 use Rattle.log_findings.specs.declared.error.ReportError.TheVariants.{NoMemory}
 
--- an act counts one, and one more for each unit of its work
-abbrev pub act_size : Act → ℕ
-act_size act = units_of act + 1
-
--- all acts, counted so
-abbrev pub log_size : List Event → ℕ
-log_size events = sum_by (λ (e : Event). act_size e.act) events
+-- the units of work that acts tell
+abbrev pub work_told : List Event → ℕ
+work_told events = sum_by (λ (e : Event). units_of e.act) events
 
 -- an access has one location, and a block few words; other acts have neither
 abbrev pub IsSmallAct : Act → Type 0
@@ -28,7 +24,8 @@ abbrev pub AreSmallActs : List Event → Type 0
 AreSmallActs events = (e : Event) → In events e → IsSmallAct e.act
 
 pub record IsSmallLog (events : List Event) (log : LogTasks) : Type 0 where
-  pub size : log_size events < 2 ^ 32
+  pub few : length events < 2 ^ 32
+  pub work : work_told events < 2 ^ 32
   pub acts : AreSmallActs events
   pub tasks : 3 * length log.turns ≤ 2 ^ 32
 

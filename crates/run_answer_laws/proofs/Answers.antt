@@ -26,7 +26,7 @@ run_logs_are_reported p s journal legal entries small names view reply shown =
     let texts = run_texts p s journal in
     elim (run_logs_are_accepted p s journal legal small names view reply shown) [
       | inl r ↦
-          let fits = run_logs_are_small p s journal legal entries small (log_extent texts) r.tasks r.are in
+          let fits = (run_logs_are_small p s journal legal entries small (log_extent texts) r.tasks r.are).small in
           absurd (r.no_memory (small_logs_are_not_too_large texts (log_extent texts) r.tasks r.are fits view.heaps r.cause r.too_large))
       | inr report ↦ report
     ]

@@ -1,5 +1,5 @@
 -- The report on a run's log tells the run.
-use Rattle.std.proofs.Common.{◌≡◌, ◌<◌, ◌≤◌, ℕ, true, List, length, map, refl, ap, sym, subst, ◌∙◌, arith}
+use Rattle.std.proofs.Common.{◌≡◌, ◌<◌, ◌≤◌, ℕ, true, All, List, length, map, refl, ap, sym, subst, ◌∙◌, arith}
 use Rattle.std.proofs.lemmas.List.{length-map}
 use Rattle.std.proofs.lemmas.List.Sorted.{Contains-permutation, IsPermutation-sym}
 use Rattle.std.specs.Prelude.{◌↔◌}
@@ -12,6 +12,8 @@ use Rattle.log_replies.specs.below.log_report.{LogReport, ToldRace, ToldUse}
 use Rattle.log_replies.specs.below.log_told.{ToldFindings, told_race, told_use}
 use Rattle.log_request.specs.declared.view.LogView.{LogView}
 use Rattle.run_size_laws.specs.below.run_limit_laws.{IsSmallRun, events_of, run_texts}
+use Rattle.run_size_laws.specs.below.run_trace.{IsEntry}
+use Rattle.run_size_laws.proofs.RunSizes.{run_logs_are_small}
 use Rattle.run_stop_laws.specs.Stops.{AreFindingsOfRun}
 use Rattle.run_stop_laws.specs.below.run_read_laws.{EntryValue, ProgramText, SettingsValue, is_legal}
 use Rattle.run_stop_laws.proofs.Stops.{logs_report_stops}
@@ -21,7 +23,7 @@ use Rattle.whole_call.specs.declared.reply.Reply.{Reply}
 use Rattle.run_answer_laws.specs.Reports.{HasRaceAt, WasStopped, ReportsTellRuns, TellsRun}
 use Rattle.run_answer_laws.proofs.Answers.{run_logs_are_reported}
 
-module _ (p : ProgramText) (s : SettingsValue) (journal : List EntryValue) (legal : is_legal p s journal ≡ true) (small : IsSmallRun p journal)
+module _ (p : ProgramText) (s : SettingsValue) (journal : List EntryValue) (legal : is_legal p s journal ≡ true) (entries : All IsEntry journal) (small : IsSmallRun p journal)
     (view : LogView) (reply : Reply) (R : ReportsFindings (run_texts p s journal) view reply) where
   abbrev texts : List (List ℕ)
   texts = run_texts p s journal
@@ -103,10 +105,11 @@ module _ (p : ProgramText) (s : SettingsValue) (journal : List EntryValue) (lega
     stopped = (read_stops, stop_read);
     once = one_read;
     no_uses = R.reported.uses ∙ (ap (λ (t : ToldFindings). t.entangled_uses) found.told_is ∙ ap (map (told_use texts)) stops.no_uses);
+    work = R.reported.cost.work_is ∙ (run_logs_are_small p s journal legal entries small (log_extent texts) R.tasks R.are).work;
     none_stale = R.reported.stale ∙ (ap (λ (t : ToldFindings). t.stale_uses) found.told_is ∙ ap (map (told_use texts)) stops.none_stale);
   }
 
 pub reports_tell_runs : ReportsTellRuns
 reports_tell_runs p s journal legal entries small names view reply shown =
     let R = run_logs_are_reported p s journal legal entries small names view reply shown in
-    (R.report, R.says, tells p s journal legal small view reply R)
+    (R.report, R.says, tells p s journal legal entries small view reply R)

@@ -17,7 +17,8 @@ pub fn run_logs_are_reported()
 {}
 
 /// So whatever `hhlog` answers is a report of races at just the locations of fields for which accesses of the run race,
-/// of one entangled read if and only if the run was stopped on one, and of no entangled or stale use.
+/// of one entangled read if and only if the run was stopped on one, of no entangled or stale use, and of a unit of work
+/// for each step.
 pub fn reports_tell_runs()
     ensures { ReportsTellRuns }
 {}

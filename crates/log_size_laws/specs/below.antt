@@ -1,0 +1,3 @@
+-- Re-exports from lower crates for the crates above.
+pub mod log_findings
+pub mod log_weights
