@@ -167,7 +167,8 @@ class Log:
         return open_ones, is_legal
 
     def tasks(self):
-        return sorted({0} | {task for task, _ in self.strands} | set(self.spawner))
+        """The root, and each task that does something or is spawned."""
+        return sorted({0} | {task for (task, _), acts in self.strands.items() if acts} | set(self.spawner))
 
     def edges(self):
         """Where each strand leads to, and the last strand of each task."""
@@ -201,7 +202,8 @@ class Log:
                 raise Refused(task, "unended")
             if open_ones:
                 raise Refused(task, "unjoined")
-            if (task, 0) not in reached or any(t == task and index > known for t, index in self.strands):
+            goes_on = any(acts and t == task and index > known for (t, index), acts in self.strands.items())
+            if (task, 0) not in reached or goes_on:
                 raise Refused(task, "unreached")
 
 

@@ -360,6 +360,8 @@ struct Task {
     leaves: u32,
     first_row: u32,
     rows: u32,
+    /// Its last strand that does something, plus 1; 0 if none does.
+    told: u32,
     strands: u32,
     is_joined: bool,
     is_reached: bool,
@@ -368,6 +370,11 @@ struct Task {
 }
 
 impl Task {
+    /// Whether it is the root, does something or is spawned.
+    fn is_known(&self) -> bool {
+        self.number == 0 || self.told > 0 || self.parent != NONE
+    }
+
     /// How many strands there are before the first gap.
     fn known(&self) -> u32 {
         self.strands - self.open.len() as u32
@@ -503,6 +510,7 @@ impl Log {
                 leaves: 0,
                 first_row: 0,
                 rows: 0,
+                told: 0,
                 strands: 0,
                 is_joined: false,
                 is_reached: false,
@@ -777,6 +785,9 @@ impl Log {
                 task.first_row = at as u32;
             }
             task.rows += 1;
+            if self.rows[row as usize].has_acts {
+                task.told = self.rows[row as usize].index + 1;
+            }
         }
     }
 
@@ -845,6 +856,7 @@ impl Log {
         self.walk();
         let mut by_number: Vec<usize> = (0..self.tasks.len()).collect();
         by_number.sort_unstable_by_key(|&task| self.tasks[task].number);
+        by_number.retain(|&task| self.tasks[task].is_known());
         for task in by_number {
             let (number, is_reached) = (self.tasks[task].number, self.tasks[task].is_reached);
             match causes[task] {
@@ -858,9 +870,9 @@ impl Log {
         Ok(())
     }
 
-    /// Whether no strand of a task that ended lies after its end.
+    /// Whether no strand after the end of a task that ended does something.
     fn has_no_gap(&self, task: usize) -> bool {
-        self.tasks[task].rows <= self.tasks[task].strands
+        self.tasks[task].told <= self.tasks[task].strands
     }
 
     /// Walks the tree depth first, a child where it is spawned.

@@ -132,6 +132,9 @@ class Maker:
 
 def spoil(rng, lines):
     """Puts a fault into a file, most likely."""
+    if rng.random() < 0.15:
+        lines.insert(len(lines) - 1, f"s {rng.randrange(40)} {rng.choice([0, 1, 90])}")    # a strand without acts is none
+        return
     at = rng.randrange(len(lines))
     choice = rng.random()
     if choice < 0.4:
