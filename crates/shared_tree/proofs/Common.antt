@@ -2,7 +2,6 @@
 pub use Rattle.entry_calls.specs.Calls.{GetsChunk, BeginsLeaf, BeginsMarking, EntersLeaving, EntersLent}
 pub use Rattle.entry_calls.specs.Ran.{IsAtRootEnd, LeavesBy}
 pub use Rattle.entry_calls.specs.declared.answers.Lent.{Lent}
-pub use Rattle.entry_calls.specs.declared.answers.NotLeft.{NotLeft}
 pub use Rattle.entry_calls.proofs.below.fork_join_commit.{alone_ends, AsksEnd, asked_alone, asks_end, own_made, parent_low, tree_parent, asked, alone_forks, alone_world, rests_fork_by, other_made, parent_slot, parent_is, parent_other, same_itself, same_world, placed_has, placed_same, places_world, places_ends, places_same, left_by, Put, Taken, both_made, can_join, AsksFork, asks_fork, few_tasks, on, tree_out, fork_shared, forks_to, is_par_line, par_is, deep_traps}
 pub use Rattle.entry_calls.proofs.below.step_commit.{runs_on, fits_machine, machine_same, alone_answer, alone_small, slot_there, next_small, set_there, AsksAlone, asks_alone, halt_world, halts_alone, printed_goes, printed_world, some_line, is_safe, tells, child_beyond, other_beyond, trap_is, finishes_alone, finished_world, node_there}
 pub use Rattle.entry_calls.specs.below.fork_join_commit.{IsAtEnd, is_last_return, is_last_by, is_last_line, EndsChild, IsAtFork, is_fork, is_fork_by, is_par, ForksOn, ForksTo, RestsFork, SetsFork, begun_rest, part_child, waiting_rest, IsUnchanged, SameButPlaces, CanJoin, HasPlaces, parent_side, HoldsNone}
@@ -16,7 +15,7 @@ pub use Rattle.entry_calls.proofs.below.task_machine.{same_line}
 pub use Rattle.entry_calls.specs.below.leaf_collections.{FitsCopied, end_entry, without_collection}
 pub use Rattle.entry_calls.specs.below.chunk_pool.{PoolValue, TakesAll, slot_at, NotTaken, Full, units_in_use}
 pub use Rattle.entry_calls.specs.below.copying_gc.{Moved, ToChunks}
-pub use Rattle.entry_calls.specs.below.core_invariant.{NotEntered, NoMemory, SharedValue, accounts, rest_at, value_of, IsSharedValue, EachPartStillFits, WorkerPartFits, EntersOrRefuses, IsCaused, refused, Refuses, above_of, is_beyond, is_beyond_by, is_beyond_line, is_joint, next_line, first_cause, or_else, chunk_cause, part_asks, OthersFit, take_by, CopyingHasBegun, roots_of, Enters, heaps_of, sources_of, Prints, marks_at, taken_part, due_cause, FitsFirst, Ending, IsOutPart, Beyond, Returns, NotRan, is_state_ready, took_cause}
+pub use Rattle.entry_calls.specs.below.core_invariant.{NotEntered, NoMemory, SharedValue, accounts, rest_at, value_of, IsSharedValue, EachPartStillFits, WorkerPartFits, EntersOrRefuses, IsCaused, refused, Refuses, above_of, is_beyond, is_beyond_by, is_beyond_line, is_joint, next_line, first_cause, or_else, chunk_cause, part_asks, OthersFit, take_by, CopyingHasBegun, roots_of, Enters, heaps_of, sources_of, Prints, marks_at, taken_part, due_cause, FitsFirst, Ending, IsOutPart, Beyond, Returns, is_state_ready, took_cause}
 pub use Rattle.entry_calls.specs.below.fork_join.{Child, EndedChild, joined_nodes}
 pub use Rattle.entry_calls.specs.below.heap_tree.{TaskNode, depth_of, forked, Ended, parent_of, state_of, with_state, sibling, Out, TaskState, Ready}
 pub use Rattle.entry_calls.specs.below.hh_lang.{Instr, Par, Ret, Line, line_at}
@@ -28,7 +27,7 @@ pub use Rattle.entry_calls.specs.below.plain_vec.{ReservedVecValue}
 pub use Rattle.entry_calls.specs.below.refinement.{CanGoOnMarking, kept}
 pub use Rattle.entry_calls.specs.below.remembered_set.{RememberedValue, redirected, AreAscending, ArePlaces, StandOnce}
 pub use Rattle.entry_calls.specs.below.run_ledger.{Ledger, Marked, Marking, is_fuel, owns, task_steps, touched, Refused, Collecting, refused_if, Machine, heap_of, left_in, Pool, chunk_units, in_use, PoolShort, is_pool_enough, refused_unless, words_in, PoolEnough, NotReady, refused_holding, sweep_number}
-pub use Rattle.entry_calls.specs.below.run_trace.{EntryValue, Chunk, Begin, Mark, PutOff, More, Ran, Sweep, Fuel, Took, field_limit}
+pub use Rattle.entry_calls.specs.below.run_trace.{EntryValue, Chunk, Begin, Mark, PutOff, More, Ran, Sweep, Fuel, Took, field_limit, private_limit}
 pub use Rattle.entry_calls.specs.below.task_frames.{FramesValue, frames_with_int, with_next, with_reference}
 pub use Rattle.entry_calls.specs.below.task_machine.{Private, FitsNow, Places}
 pub use Rattle.entry_calls.specs.below.task_slots.{Heaps, ParkedTask, TaskSlotsValue, TaskSlot, Resting, resting_references, with_ref_in, with_resting, kept_of, keeping}

@@ -1,6 +1,6 @@
 -- How a part's next step involves other tasks, by the next line; what remains if an allocation fails.
 use Rattle.std.specs.Result.{OnErr}
-use Rattle.shared_tree.proofs.Common.{IfErr, ◌≡◌, ℕ, Result, Ok, Err, ◌||◌, not, true, Option, Some, None, List, length, slice_get, slice_set, option_map, is_some, refl, ap, sym, subst, ◌∙◌, option_flatten, or_false, got_set, Instr, Par, Ret, Line, MachineState, Task, fetched, Ledger, owns, task_steps, touched, Refused, SetOf, content_of, Private, FitsNow as FitsMachine, Places, same_line, SharedValue, accounts, rest_at, value_of, IsSharedValue, EachPartStillFits, WorkerPartFits, EntersLeaving, EntersOrRefuses, IsCaused, refused, NotEntered, NotLeft, NotRan, NoMemory, Refuses, above_of, is_beyond, is_beyond_by, is_beyond_line, is_joint, next_line, same_length, worker_there, IsShared, alone_entry, machine_after, runs_on, fits_machine, machine_same, IsAtEnd, is_last_return, is_last_by, is_last_line, IsAtFork, is_fork, is_fork_by, is_par, HoldsNone, IsUnchanged, SameButPlaces, same_itself, same_world, IsOther, SameButRoom, is_other, is_other_by, is_other_line, IsJoint}
+use Rattle.shared_tree.proofs.Common.{IfErr, ◌≡◌, ℕ, Result, Ok, Err, ◌||◌, not, true, Option, Some, None, List, length, slice_get, slice_set, option_map, is_some, refl, ap, sym, subst, ◌∙◌, option_flatten, or_false, got_set, Instr, Par, Ret, Line, MachineState, Task, fetched, Ledger, owns, task_steps, touched, Refused, SetOf, content_of, Private, FitsNow as FitsMachine, Places, same_line, SharedValue, accounts, rest_at, value_of, IsSharedValue, EachPartStillFits, WorkerPartFits, EntersLeaving, EntersOrRefuses, IsCaused, refused, NotEntered, NoMemory, Refuses, above_of, is_beyond, is_beyond_by, is_beyond_line, is_joint, next_line, same_length, worker_there, IsShared, alone_entry, machine_after, runs_on, fits_machine, machine_same, IsAtEnd, is_last_return, is_last_by, is_last_line, IsAtFork, is_fork, is_fork_by, is_par, HoldsNone, IsUnchanged, SameButPlaces, same_itself, same_world, IsOther, SameButRoom, is_other, is_other_by, is_other_line, IsJoint}
 
 other_by : (tasks : List Task) (t : ℕ) (x : Task) (i : Instr) → ((g h : ℕ) → i ≡ Par g h → ⊥) → (i ≡ Ret → ⊥) → (is_joint x i || not (owns tasks t (touched x.top i))) ≡ true → not (owns tasks t (touched x.top i)) ≡ true
 other_by tasks t x (Par g h) par ret e = absurd (par g h refl)
@@ -113,12 +113,6 @@ same_by w after NoMemory same = subst (SameButPlaces w) (sym same) (same_world w
 pub fit_by : (w after : SharedValue) → after ≡ w → EachPartStillFits w after
 fit_by w after same = subst (EachPartStillFits w) (sym same) (λ k p F. F)
 
--- a part goes back into its block
-pub not_left_by : (w v : SharedValue) (k : ℕ) (p : Private) (e : NotRan) (l : NotLeft) → l.cause ≡ e.cause → l.part ≡ e.part → IsCaused e.cause None → IsUnchanged e.cause w v → EachPartStillFits w v → e.part ≡ p → EntersLeaving w v k p (Err l)
-not_left_by w v k p e l cause part why same still back = record {
-  refused = subst (λ (c : NotEntered). IsCaused c None) (sym cause) why;
-  same = subst (λ (c : NotEntered). IsUnchanged c w v) (sym cause) same;
-  still = still;
-  back = part ∙ back;
-  answered = tt;
-}
+-- an allocation failed before anything was committed
+pub no_memory_left : (w v : SharedValue) (k : ℕ) (p : Private) → v ≡ w → EntersLeaving w v k p (Err (record { cause = NoMemory; part = p }))
+no_memory_left w v k p same = record { refused = refl; same = same_by w v NoMemory same; still = fit_by w v same; back = refl; answered = tt }

@@ -1,20 +1,18 @@
 // What an entry does with a part in its block: it is copied into the block where its task is taken, and out of it where
 // it is parked or joined, and then the block is kept.
 
-ghost use Rattle.std.specs.Prelude.{◌≡◌, ◌≤◌, ◌<◌, ◌+◌, ◌-◌, ◌^◌, ◌++◌, ◌∷◌, [], IsSome, OnErr, OnOk, IfOk, None, Some, true, length, slice_get, slice_set};
-ghost use Rattle.entry_calls.specs.below.run_trace.{private_limit, fuel_limit, worker_limit};
+ghost use Rattle.std.specs.Prelude.{◌≡◌, ◌≤◌, ◌<◌, ◌+◌, ◌^◌, ◌++◌, ◌∷◌, [], IsSome, OnErr, OnOk, IfOk, None, Some, true, length, slice_get, slice_set};
 ghost use Rattle.entry_calls.specs.below.hh_model.{depth_limit};
 ghost use Rattle.entry_calls.specs.below.heap_tree.{depth_of, forked, state_of};
 ghost use Rattle.entry_calls.specs.below.core_invariant.{rest_at, taken_part, HasFrames};
 ghost use Rattle.entry_calls.specs.below.task_frames.{FramesValue};
 ghost use Rattle.entry_calls.specs.below.task_slots.{marks_at};
-ghost use Rattle.entry_calls.specs.below.step_commit.{alone_entry, ended_rest};
+ghost use Rattle.entry_calls.specs.below.step_commit.{ended_rest};
 ghost use Rattle.entry_calls.specs.below.fork_join_commit.{begun_rest, part_child, waiting_rest, SetsFork, own_child, GetsPlaces, SameButPlacesOf};
 
-use crate::steps_entered;
 use entry_calls::{
-    BlockSource, BoxedSlot, Child, EndedChild, Entry, ForkBlocks, Marking, ParkedTask, PartBlock,
-    PartInBlock, ReservedVec, TaskSlot, TaskSlots, TaskState, Tree, Work,
+    BlockSource, BoxedSlot, Child, EndedChild, ForkBlocks, Marking, ParkedTask, PartBlock,
+    PartInBlock, TaskSlot, TaskSlots, TaskState, Tree, Work,
 };
 use std::alloc::AllocError;
 
@@ -35,23 +33,6 @@ pub(crate) fn opened(
     ensures idle { result.begun ≡ None }
 {
     block.fill(entry_calls::opened(rest, task, leaf_limit, field_limit))
-}
-
-/// Counts the fresh steps of a part and its next one, and makes one entry of all of them.
-#[inline(always)]
-pub(crate) fn enter_alone(
-    steps: &mut u64,
-    journal: &mut ReservedVec<Entry>,
-    worker: u32,
-    part: &PartInBlock,
-)
-    requires room { 0 < journal.old.room }
-    requires worker { worker < worker_limit }
-    requires small { (steps.old < fuel_limit) × (part.now.fresh ≤ private_limit) }
-    ensures steps { steps.new ≡ steps.old + (part.now.fresh + 1) }
-    ensures journal { journal.new ≡ record { items = journal.old.items ++ alone_entry worker part.now ∷ []; room = journal.old.room - 1 } }
-{
-    steps_entered::enter_alone(steps, journal, worker, part.get());
 }
 
 /// Reserves capacity for two more slots, and a block for that of the part's task, and then forks. If an allocation

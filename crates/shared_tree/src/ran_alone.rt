@@ -1,16 +1,15 @@
 // A part's steps are committed with one that isn't private and involves no other task.
 
-ghost use Rattle.std.specs.Prelude.{◌≡◌, ◌≢◌, ◌<◌, ℕ, OnErr, OnOk, IfErr, IfOk, None};
+ghost use Rattle.std.specs.Prelude.{◌≡◌, ◌≢◌, ◌<◌, ℕ, OnErr, OnOk, IfOk, None};
 ghost use Rattle.entry_calls.specs.below.hh_model.{ended_by, step};
-ghost use Rattle.entry_calls.specs.below.core_invariant.{refused, EntersOrRefuses, RanAnswers, WorkerPartFits};
-ghost use Rattle.entry_calls.specs.below.step_commit.{alone_entry, then_accounts, FinishesAlone, GoesAlone, HaltsAlone, IsShared, EndingTells};
+ghost use Rattle.entry_calls.specs.below.core_invariant.{refused, EntersOrRefuses, WorkerPartFits};
+ghost use Rattle.entry_calls.specs.below.step_commit.{alone_entry, then_accounts, GoesAlone, HaltsAlone, IsShared, EndingTells};
 ghost use Rattle.shared_tree.specs.StepEnd.{AloneTo, MayBeEntered};
 
 use crate::shared::Shared;
-use crate::steps_entered::enter_alone;
+use crate::steps_entered::alone_of;
 use entry_calls::{
-    End, Ending, Leaving, Lent, NotEntered, NotRan, Private, Refused, RunEnd, TaskState, at_end,
-    first_cause, last_step,
+    End, Ending, Leaving, Lent, NotEntered, Private, Refused, RunEnd, first_cause, last_step,
 };
 use std::alloc::AllocError;
 
@@ -61,7 +60,9 @@ impl Shared {
         ensures goes { OnOk result (GoesAlone self.old self.new worker part.old part.new) }
     {
         self.outputs.push(value)?;
-        enter_alone(&mut self.steps, &mut self.journal, worker, part);
+        self.steps += part.fresh as u64 + 1;
+        self.journal
+            .push_reserved(alone_of(worker, part.task, part.fresh));
         let next = part.frames.next() + 1;
         part.frames.set_next(next);
         part.fresh = 0;
@@ -78,37 +79,11 @@ impl Shared {
         requires ends { step self.old.program (then_accounts self.old part.old).machine part.old.task ≡ ended_by (then_accounts self.old part.old).machine end }
         ensures { HaltsAlone self.old self.new worker part.old part.new }
     {
-        enter_alone(&mut self.steps, &mut self.journal, worker, part);
+        self.steps += part.fresh as u64 + 1;
+        self.journal
+            .push_reserved(alone_of(worker, part.task, part.fresh));
         self.end = Some(RunEnd::Machine(end));
         part.fresh = 0;
-    }
-
-    /// Commits the last return of the root, given memory for its parked state.
-    pub(crate) fn ran_done(&mut self, worker: u32, part: Private) -> Result<(), NotRan>
-        requires room { 0 < self.old.journal.room }
-        requires fits { WorkerPartFits self.old worker part }
-        requires shared { IsShared self.old part }
-        requires free { refused self.old (alone_entry worker part) ≡ None }
-        requires returns { (line : ℕ) × EndingTells self.old part Ending.Returns line }
-        requires root { part.task ≡ 0 }
-        ensures refused { RanAnswers result None }
-        ensures same { OnErr result (self.new ≡ self.old) }
-        ensures back { IfErr result (λ e. e.part ≡ part) }
-        ensures done { OnOk result (FinishesAlone self.old self.new worker part) }
-    {
-        let task = part.task;
-        if self.heaps.task_slots.make_block(task).is_err() {
-            return Err(NotRan {
-                cause: NotEntered::NoMemory,
-                part,
-            });
-        }
-        enter_alone(&mut self.steps, &mut self.journal, worker, &part);
-        self.tree.set_state(task, TaskState::Ended);
-        self.tasks_out.set(worker as usize, None);
-        self.heaps.task_slots.put_rest(task, at_end(part));
-        self.end = Some(RunEnd::Machine(End::Done));
-        Ok(())
     }
 
     /// Commits the fresh steps of a part and its next one, which isn't private, unless that one gives the part up. If

@@ -1,17 +1,18 @@
 // A part's steps are committed with the last return of a task that isn't the root.
 
-ghost use Rattle.std.specs.Prelude.{◌≡◌, ◌<◌, OnErr, OnOk, IfErr, IfOk, None, Some, slice_set};
+ghost use Rattle.std.specs.Prelude.{◌≡◌, ◌<◌, OnOk, None, Some, slice_set};
 ghost use Rattle.entry_calls.specs.below.heap_tree.{parent_of, state_of, sibling};
-ghost use Rattle.entry_calls.specs.below.core_invariant.{refused, EachPartStillFits, WorkerPartFits};
+ghost use Rattle.entry_calls.specs.below.core_invariant.{refused, WorkerPartFits};
 ghost use Rattle.entry_calls.specs.below.step_commit.{alone_entry};
-ghost use Rattle.entry_calls.specs.below.fork_join_commit.{EndsChild, IsAtEnd, HasPlaces, IsUnchanged, SameButPlaces};
-ghost use Rattle.entry_calls.specs.Ends.{LeavingAnswers};
+ghost use Rattle.entry_calls.specs.below.fork_join_commit.{EndsChild, IsAtEnd, HasPlaces, SameButPlaces};
+ghost use Rattle.entry_calls.specs.Calls.{EntersLeaving};
 ghost use Rattle.shared_tree.specs.StepEnd.{MayBeEntered};
 
-use crate::in_block::{at_end, enter_alone, make_places, own_child};
+use crate::in_block::{at_end, make_places, own_child};
 use crate::shared::Shared;
+use crate::steps_entered::alone_of;
 use entry_calls::{
-    BlockSource, NotEntered, NotLeft, PartInBlock, SetOf, TaskState, in_order, is_ended,
+    BlockSource, NotEntered, NotLeft, PartInBlock, Ran, SetOf, TaskState, in_order, is_ended,
     join_children, other_child, sibling_of,
 };
 use std::alloc::AllocError;
@@ -23,18 +24,13 @@ impl Shared {
         blocks: &mut BlockSource,
         worker: u32,
         part: PartInBlock,
-    ) -> Result<Option<u32>, NotLeft>
+    ) -> Result<Ran, NotLeft>
         requires room { 0 < self.old.journal.room }
         requires fits { WorkerPartFits self.old worker part }
         requires ends { IsAtEnd self.old part }
         requires free { refused self.old (alone_entry worker part) ≡ None }
         requires alone { state_of self.old.tree (sibling part.task) ≡ Some TaskState.Ended → ⊥ }
-        ensures refused { LeavingAnswers result None }
-        ensures same { OnErr result (self.new ≡ self.old) }
-        ensures memory { IfErr result (λ e. e.cause ≡ NotEntered.NoMemory) }
-        ensures back { IfErr result (λ e. e.part ≡ part) }
-        ensures answered { IfOk result (EndsChild self.old self.new worker part) }
-        ensures task_out { OnOk result (self.new.tasks_out ≡ slice_set self.old.tasks_out worker None) }
+        ensures { EntersLeaving self.old self.new worker part result }
     {
         let task = part.task();
         if self.heaps.task_slots.make_block(task).is_err() {
@@ -43,11 +39,14 @@ impl Shared {
                 part,
             });
         }
-        enter_alone(&mut self.steps, &mut self.journal, worker, &part);
+        let held = part.get();
+        self.steps += held.fresh as u64 + 1;
+        self.journal
+            .push_reserved(alone_of(worker, held.task, held.fresh));
         self.tree.set_state(task, TaskState::Ended);
         self.tasks_out.set(worker as usize, None);
         self.heaps.task_slots.put_rest(task, at_end(blocks, part));
-        Ok(None)
+        Ok(Ran::Ended { resumed: None })
     }
 
     // Reserves capacity in the parent's heap and set for what both children bring; nothing else changes.
@@ -77,7 +76,10 @@ impl Shared {
         ensures task_out { self.new.tasks_out ≡ slice_set self.old.tasks_out worker None }
     {
         let task = part.task();
-        enter_alone(&mut self.steps, &mut self.journal, worker, &part);
+        let held = part.get();
+        self.steps += held.fresh as u64 + 1;
+        self.journal
+            .push_reserved(alone_of(worker, held.task, held.fresh));
         let other = sibling_of(task);
         self.tasks_out.set(worker as usize, None);
         self.tree.set_state(task, TaskState::Ended);
@@ -94,25 +96,19 @@ impl Shared {
         self.heaps.task_slots.put_set(parent, set);
     }
 
-    /// Commits the fresh steps of a part and its next one, which is the last return of a task that isn't the root.
-    /// Returns the parent if both its children have ended: it is ready then. If an allocation fails, only the spare
-    /// capacity of the parent's heap and set changes.
+    /// Commits the fresh steps of a part and its next one, which is the last return of a task that isn't the root. If an
+    /// allocation fails, only the spare capacity of the parent's heap and set changes.
     pub(crate) fn ran_ending(
         &mut self,
         blocks: &mut BlockSource,
         worker: u32,
         part: PartInBlock,
-    ) -> Result<Option<u32>, NotLeft>
+    ) -> Result<Ran, NotLeft>
         requires room { 0 < self.old.journal.room }
         requires fits { WorkerPartFits self.old worker part }
         requires ends { IsAtEnd self.old part }
         requires free { refused self.old (alone_entry worker part) ≡ None }
-        ensures refused { LeavingAnswers result None }
-        ensures same { IfErr result (λ e. IsUnchanged e.cause self.old self.new) }
-        ensures still { OnErr result (EachPartStillFits self.old self.new) }
-        ensures back { IfErr result (λ e. e.part ≡ part) }
-        ensures answered { IfOk result (EndsChild self.old self.new worker part) }
-        ensures task_out { OnOk result (self.new.tasks_out ≡ slice_set self.old.tasks_out worker None) }
+        ensures { EntersLeaving self.old self.new worker part result }
     {
         self.stands();
         let task = part.task();
@@ -125,7 +121,10 @@ impl Shared {
         match self.make_join_places(&part, parent) {
             Ok(()) => {
                 self.enter_join(blocks, worker, part, parent);
-                Ok(Some(parent))
+                self.stands();
+                Ok(Ran::Ended {
+                    resumed: Some(parent),
+                })
             }
             Err(_) => Err(NotLeft {
                 cause: NotEntered::NoMemory,

@@ -1,16 +1,17 @@
 // A part's steps are committed with a fork.
 
-ghost use Rattle.std.specs.Prelude.{◌≡◌, ◌≤◌, ◌<◌, ℕ, OnErr, OnOk, IfErr, IfOk, None, slice_set};
+ghost use Rattle.std.specs.Prelude.{◌≡◌, ◌≤◌, ◌<◌, ℕ, OnErr, OnOk, IfErr, IfOk, None};
 ghost use Rattle.entry_calls.specs.below.hh_model.{depth_limit};
 ghost use Rattle.entry_calls.specs.below.heap_tree.{depth_of};
 ghost use Rattle.entry_calls.specs.below.core_invariant.{refused, WorkerPartFits};
 ghost use Rattle.entry_calls.specs.below.step_commit.{alone_entry, HaltsAlone};
-ghost use Rattle.entry_calls.specs.below.fork_join_commit.{ForksOn, ForksTo, IsAtFork};
+ghost use Rattle.entry_calls.specs.below.fork_join_commit.{ForksTo, IsAtFork};
 ghost use Rattle.entry_calls.specs.Calls.{EntersLeaving};
 ghost use Rattle.shared_tree.specs.StepEnd.{MayBeEntered};
 
-use crate::in_block::{enter_alone, fork_task_slots, grow};
+use crate::in_block::{fork_task_slots, grow};
 use crate::shared::Shared;
+use crate::steps_entered::alone_of;
 use entry_calls::{
     BlockSource, BoxedSlot, DEPTH_LIMIT, End, ForkBlocks, Instr, Marking, MarkingRoom, NotEntered,
     NotLeft, PartInBlock, Private, Ran, Trap,
@@ -24,41 +25,44 @@ fn keep_room(room: &mut MarkingRoom, marked: Option<BoxedSlot<Marking>>) {
 }
 
 impl Shared {
-    // The functions that the children begin, and the line of the fork in the text.
-    fn fork_line(&self, part: &Private) -> (u32, u32, u32)
+    // The functions that the children begin; or the line of the fork in the text, if too many forks are above it.
+    pub(crate) fn next_fork(&self, part: &Private) -> Result<(u32, u32), u32>
         requires out { MayBeEntered self.now part.now }
         requires forks { IsAtFork self.now part.now }
-        ensures { ForksTo self.now part.now result.0 result.1 result.2 }
+        ensures goes { IfOk result (λ two. (line : ℕ) × ForksTo self.now part.now two.0 two.1 line) }
+        ensures shallow { OnOk result (depth_of self.now.tree part.now.task < depth_limit) }
+        ensures traps { IfErr result (λ line. (left : ℕ) × (right : ℕ) × ForksTo self.now part.now left right line) }
+        ensures deep { OnErr result (depth_limit ≤ depth_of self.now.tree part.now.task) }
     {
         let Some(line) = self.program.line(part.frames.fun(), part.frames.next()) else {
             unreachable!()
         };
-        match line.instr {
-            Instr::Par(left, right) => (left, right, line.number),
-            _ => unreachable!(),
+        let Instr::Par(left, right) = line.instr else {
+            unreachable!()
+        };
+        if self.tree.depth(part.task) < DEPTH_LIMIT {
+            Ok((left, right))
+        } else {
+            Err(line.number)
         }
     }
 
-    // Commits a fork, and returns the children.
-    fn enter_fork(
+    // Commits a fork: the part's task waits for two children.
+    pub(crate) fn enter_fork(
         &mut self,
         blocks: &mut BlockSource,
         worker: u32,
         part: PartInBlock,
         left: u32,
         right: u32,
-    ) -> Result<(u32, u32), NotLeft>
+    ) -> Result<Ran, NotLeft>
         requires room { 0 < self.old.journal.room }
         requires fits { WorkerPartFits self.old worker part }
         requires forks { IsAtFork self.old part }
         requires free { refused self.old (alone_entry worker part) ≡ None }
         requires by { (line : ℕ) × ForksTo self.old part left right line }
         requires shallow { depth_of self.old.tree part.task < depth_limit }
-        ensures memory { IfErr result (λ e. e.cause ≡ NotEntered.NoMemory) }
-        ensures same { OnErr result (self.new ≡ self.old) }
-        ensures back { IfErr result (λ e. e.part ≡ part) }
-        ensures answered { IfOk result (λ two. ForksOn self.old self.new worker part two.0 two.1) }
-        ensures task_out { OnOk result (self.new.tasks_out ≡ slice_set self.old.tasks_out worker None) }
+        ensures { EntersLeaving self.old self.new worker part result }
     {
         let alloc = self.heaps.task_slots.allocator();
         let Ok(two) = ForkBlocks::new(alloc) else {
@@ -67,30 +71,27 @@ impl Shared {
                 part,
             });
         };
-        let grown = grow(
-            &mut self.tree,
-            &mut self.heaps.task_slots,
-            &part,
-            left,
-            right,
-        );
-        let Ok((first, second)) = grown else {
+        let (tree, task_slots) = (&mut self.tree, &mut self.heaps.task_slots);
+        let Ok((first, second)) = grow(tree, task_slots, &part, left, right) else {
             return Err(NotLeft {
                 cause: NotEntered::NoMemory,
                 part,
             });
         };
         let (left, right) = (first.task, second.task);
-        enter_alone(&mut self.steps, &mut self.journal, worker, &part);
+        let held = part.get();
+        self.steps += held.fresh as u64 + 1;
+        self.journal
+            .push_reserved(alone_of(worker, held.task, held.fresh));
         self.tasks_out.set(worker as usize, None);
         let marked = fork_task_slots(blocks, &mut self.heaps.task_slots, part, first, second, two);
         keep_room(&mut self.room, marked);
-        Ok((left, right))
+        Ok(Ran::Forked { left, right })
     }
 
     // Commits a fork that ends the run, since too many forks are above it.
     #[cold]
-    fn trap_fork(&mut self, worker: u32, part: PartInBlock, line: u32) -> PartInBlock
+    pub(crate) fn trap_fork(&mut self, worker: u32, part: PartInBlock, line: u32) -> PartInBlock
         requires room { 0 < self.old.journal.room }
         requires fits { WorkerPartFits self.old worker part }
         requires forks { IsAtFork self.old part }
@@ -105,36 +106,5 @@ impl Shared {
         let end = End::Trapped(Trap::Depth, held.task, line);
         self.enter_halt(worker, &mut held, end);
         block.fill(held)
-    }
-
-    /// Commits the fresh steps of a part and its next one, which is a fork: its task waits for two children, or the run
-    /// ends, if too many forks are above it.
-    pub(crate) fn ran_forking(
-        &mut self,
-        blocks: &mut BlockSource,
-        worker: u32,
-        part: PartInBlock,
-    ) -> Result<Ran, NotLeft>
-        requires room { 0 < self.old.journal.room }
-        requires fits { WorkerPartFits self.old worker part }
-        requires forks { IsAtFork self.old part }
-        requires free { refused self.old (alone_entry worker part) ≡ None }
-        ensures { EntersLeaving self.old self.new worker part result }
-    {
-        self.stands();
-        let (left, right, line) = self.fork_line(part.get());
-        if self.tree.depth(part.task()) >= DEPTH_LIMIT {
-            return Ok(Ran::Over(self.trap_fork(worker, part, line)));
-        }
-        match self.enter_fork(blocks, worker, part, left, right) {
-            Ok(two) => {
-                self.stands();
-                Ok(Ran::Forked {
-                    left: two.0,
-                    right: two.1,
-                })
-            }
-            Err(failed) => Err(failed),
-        }
     }
 }

@@ -9,7 +9,7 @@ ghost use Rattle.shared_tree.specs.StepEnd.{MayBeEntered};
 ghost use Rattle.entry_calls.specs.Ran.{LentTo};
 
 use crate::shared::Shared;
-use crate::steps_entered::enter_alone;
+use crate::steps_entered::alone_of;
 use entry_calls::{Addr, End, IntReg, Lent, NotEntered, Private, RefReg};
 use remote_access::{OtherStep, named, step_on};
 
@@ -51,7 +51,9 @@ impl Shared {
         requires reads { (line : ℕ) × TellsOther self.old part.old (OtherStep.SetsNumber register value) line }
         ensures { GoesAlone self.old self.new worker part.old part.new }
     {
-        enter_alone(&mut self.steps, &mut self.journal, worker, part);
+        self.steps += part.fresh as u64 + 1;
+        self.journal
+            .push_reserved(alone_of(worker, part.task, part.fresh));
         let next = part.frames.next() + 1;
         part.frames.set_int(register.index() as u32, value);
         part.frames.set_next(next);
@@ -73,7 +75,9 @@ impl Shared {
         requires reads { (line : ℕ) × TellsOther self.old part.old (OtherStep.SetsReference register value) line }
         ensures { GoesAlone self.old self.new worker part.old part.new }
     {
-        enter_alone(&mut self.steps, &mut self.journal, worker, part);
+        self.steps += part.fresh as u64 + 1;
+        self.journal
+            .push_reserved(alone_of(worker, part.task, part.fresh));
         let next = part.frames.next() + 1;
         part.frames.set_reference(register.index() as u32, value);
         part.frames.set_next(next);

@@ -1,24 +1,15 @@
-// A part's steps are committed, whatever the last of them does.
+// The entry of a part's fresh steps and its next one, whatever that does.
 
-ghost use Rattle.std.specs.Prelude.{◌≡◌, ◌≤◌, ◌<◌, ◌+◌, ◌-◌, ◌++◌, ◌∷◌, []};
-ghost use Rattle.entry_calls.specs.below.run_trace.{private_limit, fuel_limit, worker_limit};
-ghost use Rattle.entry_calls.specs.below.step_commit.{alone_entry};
+ghost use Rattle.std.specs.Prelude.{◌≡◌, ◌≤◌, ◌<◌, ◌+◌};
+ghost use Rattle.entry_calls.specs.below.run_trace.{private_limit, worker_limit};
 
-use entry_calls::{Entry, Kind, Private, ReservedVec};
+use entry_calls::{Entry, Kind};
 
-/// Counts the fresh steps of a part and its next one, and makes one entry of all of them.
-pub(crate) fn enter_alone(
-    steps: &mut u64,
-    journal: &mut ReservedVec<Entry>,
-    worker: u32,
-    part: &Private,
-)
-    requires room { 0 < journal.old.room }
+/// The entry of a number of fresh steps of a task, and its next one.
+pub(crate) fn alone_of(worker: u32, task: u32, fresh: u32) -> Entry
     requires worker { worker < worker_limit }
-    requires small { (steps.old < fuel_limit) × (part.now.fresh ≤ private_limit) }
-    ensures steps { steps.new ≡ steps.old + (part.now.fresh + 1) }
-    ensures journal { journal.new ≡ record { items = journal.old.items ++ alone_entry worker part.now ∷ []; room = journal.old.room - 1 } }
+    requires few { fresh ≤ private_limit }
+    ensures { result ≡ record { worker = worker; kind = Kind.Ran task (fresh + 1) } }
 {
-    *steps += part.fresh as u64 + 1;
-    journal.push_reserved(Entry::new(worker, Kind::Ran(part.task, part.fresh + 1)));
+    Entry::new(worker, Kind::Ran(task, fresh + 1))
 }

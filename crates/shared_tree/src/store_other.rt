@@ -7,7 +7,7 @@ ghost use Rattle.remote_access.specs.Other.{store_of, SameButRoom, TellsOther};
 ghost use Rattle.entry_calls.specs.Ran.{LentTo};
 
 use crate::shared::Shared;
-use crate::steps_entered::enter_alone;
+use crate::steps_entered::alone_of;
 use entry_calls::{Addr, IntReg, Lent, NotEntered, Private};
 use remote_access::{OtherStep, go_on, write_number, write_reference};
 use std::alloc::AllocError;
@@ -33,7 +33,9 @@ impl Shared {
         ensures goes { OnOk result (GoesAlone self.old self.new worker part.old part.new) }
     {
         write_reference(&self.tree, &mut self.heaps, object, field, value)?;
-        enter_alone(&mut self.steps, &mut self.journal, worker, part);
+        self.steps += part.fresh as u64 + 1;
+        self.journal
+            .push_reserved(alone_of(worker, part.task, part.fresh));
         go_on(&mut part.frames, swap);
         part.fresh = 0;
         Ok(())
@@ -56,7 +58,9 @@ impl Shared {
         ensures { GoesAlone self.old self.new worker part.old part.new }
     {
         write_number(&mut self.heaps, object, field, value);
-        enter_alone(&mut self.steps, &mut self.journal, worker, part);
+        self.steps += part.fresh as u64 + 1;
+        self.journal
+            .push_reserved(alone_of(worker, part.task, part.fresh));
         go_on(&mut part.frames, None);
         part.fresh = 0;
     }

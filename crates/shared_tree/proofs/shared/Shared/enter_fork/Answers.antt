@@ -1,56 +1,64 @@
-use Rattle.shared_tree.proofs.Common.{◌≡◌, ℕ, ◌+◌, ◌-◌, ◌<◌, ◌++◌, Option, Some, None, List, [], ◌∷◌, length, slice_set, refl, ap, sym, subst, ◌∙◌, ReservedVecValue, EntryValue, TaskNode, depth_of, forked, SetOf, MarkingValue, Child, Private, ParkedTask, TaskSlotsValue, IsSharedValue, SharedValue, four_changed, alone_small, slot_there, next_small, set_there, ForksOn, ForksTo, RestsFork, SetsFork, begun_rest, part_child, waiting_rest, alone_forks, alone_world, rests_fork_by, AsksFork, asks_fork, few_tasks, on, tree_out, the_view}
+use Rattle.shared_tree.proofs.Common.{◌≡◌, ℕ, ◌+◌, ◌-◌, ◌<◌, ◌++◌, Option, Some, None, List, [], ◌∷◌, length, slice_set, refl, ap, sym, subst, ◌∙◌, ReservedVecValue, EntryValue, TaskNode, depth_of, forked, SetOf, MarkingValue, Child, Private, ParkedTask, TaskSlotsValue, IsSharedValue, SharedValue, four_changed, alone_small, slot_there, next_small, set_there, ForksOn, ForksTo, RestsFork, SetsFork, begun_rest, part_child, waiting_rest, alone_forks, alone_world, rests_fork_by, AsksFork, asks_fork, few_tasks, on, tree_out, the_view, arith, ◌≤◌, HoldsNone, private_limit}
 use Rattle.entry_calls.proofs.below.fork_join_commit.{asked_alone_forks as asked_alone}
+use Rattle.shared_tree.proofs.Joints.{holds_none, no_memory_left}
 use Rattle.shared_tree.proofs.StepsEntered.{along, entered}
 use Rattle.shared_tree.proofs.shared.Shared.enter_fork.Goals as goal
 
-pub grow-grown-requires-clause-out : goal.grow-grown-requires-clause-out
-grow-grown-requires-clause-out c =
+pub grow-requires-clause-out : goal.grow-requires-clause-out
+grow-requires-clause-out c =
     let w : SharedValue = the_view c.self.inside in
     let p : Private = c.args.part in
     let k : ℕ = c.args.worker in
     let asks : AsksFork w k p = asks_fork c.self.view_is c.self.invariant c.requires.fits c.requires.forks c.requires.free in
     tree_out w asks.I (on asks) k p asks.F
 
-pub grow-grown-requires-clause-few : goal.grow-grown-requires-clause-few
-grow-grown-requires-clause-few c = few_tasks (the_view c.self.inside) c.self.invariant
+pub grow-requires-clause-few : goal.grow-requires-clause-few
+grow-requires-clause-few c = few_tasks (the_view c.self.inside) c.self.invariant
 
-pub grow-grown-requires-clause-shallow : goal.grow-grown-requires-clause-shallow
-grow-grown-requires-clause-shallow c =
+pub grow-requires-clause-shallow : goal.grow-requires-clause-shallow
+grow-requires-clause-shallow c =
     subst (λ (z : SharedValue). depth_of z.tree c.args.part.task < 1000) (sym c.self.view_is) c.requires.shallow
 
-pub grow-grown-requires-clause-made : goal.grow-grown-requires-clause-made
-grow-grown-requires-clause-made c =
+pub grow-requires-clause-made : goal.grow-requires-clause-made
+grow-requires-clause-made c =
     let asks = asks_fork c.self.view_is c.self.invariant c.requires.fits c.requires.forks c.requires.free in
     slot_there (asked_alone asks)
 
-pub enter_alone-requires-clause-room : goal.enter_alone-requires-clause-room
-enter_alone-requires-clause-room c =
+pub push_reserved-requires : goal.push_reserved-requires
+push_reserved-requires c =
     subst (λ (z : SharedValue). 0 < z.journal.room) (sym c.self.view_is) c.requires.room
 
-pub enter_alone-requires-clause-small : goal.enter_alone-requires-clause-small
-enter_alone-requires-clause-small c =
+pub overflow_add-self-2 : goal.overflow_add-self-2
+overflow_add-self-2 c =
     let asks = asks_fork c.self.view_is c.self.invariant c.requires.fits c.requires.forks c.requires.free in
-    alone_small (asked_alone asks)
+    let small = alone_small (asked_alone asks) in
+    let same : c.get-held.result.now.fresh ≡ c.args.part.fresh = ap (λ (r : Private). r.fresh) c.get-held.ensures in
+    omega (arith, small.0, small.1, same)
+
+pub alone_of-requires-clause-few : goal.alone_of-requires-clause-few
+alone_of-requires-clause-few c =
+    let asks = asks_fork c.self.view_is c.self.invariant c.requires.fits c.requires.forks c.requires.free in
+    subst (λ (r : Private). r.fresh ≤ private_limit) (sym c.get-held.ensures) (alone_small (asked_alone asks)).1
 
 pub fork_task_slots-marked-requires-clause-made : goal.fork_task_slots-marked-requires-clause-made
 fork_task_slots-marked-requires-clause-made c =
     let p : Private = c.args.part in
     let asks = asks_fork c.self.view_is c.self.invariant c.requires.fits c.requires.forks c.requires.free in
-    subst (λ (z : TaskSlotsValue). p.task < length z.rests) (sym c.in-Ok-grown.ensures.task_slots) (slot_there (asked_alone asks))
+    subst (λ (z : TaskSlotsValue). p.task < length z.rests) (sym c.in-Ok-grow.ensures.task_slots) (slot_there (asked_alone asks))
 
 pub fork_task_slots-marked-requires-clause-noted : goal.fork_task_slots-marked-requires-clause-noted
 fork_task_slots-marked-requires-clause-noted c =
     let p : Private = c.args.part in
     let asks = asks_fork c.self.view_is c.self.invariant c.requires.fits c.requires.forks c.requires.free in
-    subst (λ (z : TaskSlotsValue). p.task < length z.sets) (sym c.in-Ok-grown.ensures.task_slots) (set_there (asked_alone asks))
+    subst (λ (z : TaskSlotsValue). p.task < length z.sets) (sym c.in-Ok-grow.ensures.task_slots) (set_there (asked_alone asks))
 
 pub fork_task_slots-marked-requires-clause-block : goal.fork_task_slots-marked-requires-clause-block
 fork_task_slots-marked-requires-clause-block c =
-    c.in-Ok-grown.ensures.block
+    c.in-Ok-grow.ensures.block
 
 pub fork_task_slots-marked-requires-clause-room : goal.fork_task_slots-marked-requires-clause-room
 fork_task_slots-marked-requires-clause-room c =
-    c.in-Ok-grown.ensures.room
+    c.in-Ok-grow.ensures.room
 
 pub fork_task_slots-marked-requires-clause-next : goal.fork_task_slots-marked-requires-clause-next
 fork_task_slots-marked-requires-clause-next c =
@@ -72,26 +80,29 @@ module _ (c : goal.After-keep_room) where
   n = c.fork_task_slots-marked.new.task_slots
 
   abbrev one : Child
-  one = c.in-Ok-grown.first
+  one = c.in-Ok-grow.first
 
   abbrev two : Child
-  two = c.in-Ok-grown.second
+  two = c.in-Ok-grow.second
 
   abbrev with : ℕ → ReservedVecValue EntryValue → SharedValue
-  with m j = record w { sets = n.sets; marks = n.marks; steps = m; tree = c.grow-grown.new.tree; rests = n.rests; tasks_out = c.set.new.self; journal = j }
+  with m j = record w { sets = n.sets; marks = n.marks; steps = m; tree = c.grow.new.tree; rests = n.rests; tasks_out = c.set.new.self; journal = j }
+
+  abbrev after : SharedValue
+  after = with (w.steps + (c.get-held.result.now.fresh + 1)) c.push_reserved.new.self
 
   asks : AsksFork w k p
   asks = asks_fork c.self.view_is c.self.invariant c.requires.fits c.requires.forks c.requires.free
 
-  both : IsSharedValue (with c.enter_alone.new.steps c.enter_alone.new.journal) × ForksOn w (with c.enter_alone.new.steps c.enter_alone.new.journal) k p one.task two.task
+  both : IsSharedValue after × ForksOn w after k p one.task two.task
   both =
       let B : (n : ℕ) × ForksTo w p c.args.left c.args.right n = subst (λ (z : SharedValue). (n : ℕ) × ForksTo z p c.args.left c.args.right n) (sym c.self.view_is) c.requires.by in
       let low : depth_of w.tree p.task < 1000 = subst (λ (z : SharedValue). depth_of z.tree p.task < 1000) (sym c.self.view_is) c.requires.shallow in
-      let g : TaskSlotsValue = c.grow-grown.new.task_slots in
-      let grown : g ≡ record c.self.inside.heaps.task_slots { blocks = g.blocks; room = g.room } = c.in-Ok-grown.ensures.task_slots in
+      let g : TaskSlotsValue = c.grow.new.task_slots in
+      let grown : g ≡ record c.self.inside.heaps.task_slots { blocks = g.blocks; room = g.room } = c.in-Ok-grow.ensures.task_slots in
       let made : p.task < length w.rests = slot_there (asked_alone asks) in
-      let first : one ≡ part_child p (length w.rests) c.args.left one.heap.slots one.heap.spare = c.in-Ok-grown.ensures.left_child ∙ ap (λ n. part_child p n c.args.left one.heap.slots one.heap.spare) (sym asks.I.made) in
-      let second : two ≡ part_child p (length w.rests + 1) c.args.right two.heap.slots two.heap.spare = c.in-Ok-grown.ensures.right_child ∙ ap (λ n. part_child p (n + 1) c.args.right two.heap.slots two.heap.spare) (sym asks.I.made) in
+      let first : one ≡ part_child p (length w.rests) c.args.left one.heap.slots one.heap.spare = c.in-Ok-grow.ensures.left_child ∙ ap (λ n. part_child p n c.args.left one.heap.slots one.heap.spare) (sym asks.I.made) in
+      let second : two ≡ part_child p (length w.rests + 1) c.args.right two.heap.slots two.heap.spare = c.in-Ok-grow.ensures.right_child ∙ ap (λ n. part_child p (n + 1) c.args.right two.heap.slots two.heap.spare) (sym asks.I.made) in
       let rests : n.rests ≡ slice_set w.rests p.task (Some (waiting_rest p)) ++ Some (begun_rest one) ∷ (Some (begun_rest two) ∷ []) =
       c.fork_task_slots-marked.ensures.rests ∙ ap (λ (z : TaskSlotsValue). slice_set z.rests p.task (Some (waiting_rest p)) ++ Some (begun_rest one) ∷ (Some (begun_rest two) ∷ [])) grown in
       let marks : n.marks ≡ slice_set w.marks p.task None ++ None ∷ (None ∷ []) = c.fork_task_slots-marked.ensures.marks ∙ ap (λ (z : TaskSlotsValue). slice_set z.marks p.task None ++ None ∷ (None ∷ [])) grown in
@@ -99,16 +110,23 @@ module _ (c : goal.After-keep_room) where
       let N : SetsFork w.sets n.sets p.task = subst (λ (z : TaskSlotsValue). SetsFork z.sets n.sets p.task) grown c.fork_task_slots-marked.ensures.sets in
       let j : ReservedVecValue EntryValue = record { items = []; room = w.journal.room - 1 } in
       let v : SharedValue = record w { steps = w.steps + (p.fresh + 1); sets = n.sets; marks = n.marks } in
-      let same = four_changed v (forked w.tree p.task) _ n.rests n.rests (slice_set w.tasks_out k None) _ (entered w k p) _ c.in-Ok-grown.ensures.tree refl c.set.ensures refl in
-      let ends = alone_forks asks c.args.left c.args.right B.0 B.1 low n.rests n.sets H N n.marks marks j one.task two.task (ap (λ (z : Child). z.task) c.in-Ok-grown.ensures.left_child) (ap (λ (z : Child). z.task) c.in-Ok-grown.ensures.right_child) in
-      along w k p _ _ c.enter_alone.ensures.steps c.enter_alone.ensures.journal (λ m j. IsSharedValue (with m j) × ForksOn w (with m j) k p one.task two.task)
+      let same = four_changed v (forked w.tree p.task) _ n.rests n.rests (slice_set w.tasks_out k None) _ (entered w k p) _ c.in-Ok-grow.ensures.tree refl c.set.ensures refl in
+      let ends = alone_forks asks c.args.left c.args.right B.0 B.1 low n.rests n.sets H N n.marks marks j one.task two.task (ap (λ (z : Child). z.task) c.in-Ok-grow.ensures.left_child) (ap (λ (z : Child). z.task) c.in-Ok-grow.ensures.right_child) in
+      along w k p c.get-held.result.now c.get-held.ensures _ _ c.alone_of.ensures c.push_reserved.ensures (λ m j. IsSharedValue (with m j) × ForksOn w (with m j) k p one.task two.task)
       (subst (λ (z : SharedValue). IsSharedValue z × ForksOn w z k p one.task two.task) (sym same) (alone_world asks c.args.left c.args.right B.0 B.1 low n.rests n.sets H N n.marks marks j, ends))
 
 pub invariant_of-self-2 : goal.invariant_of-self-2
 invariant_of-self-2 c = (both c).0
 
-pub returns-clause-answered : goal.returns-clause-answered
-returns-clause-answered c = subst (λ (z : SharedValue). ForksOn z (with c c.enter_alone.new.steps c.enter_alone.new.journal) c.args.worker c.args.part (one c).task (two c).task) c.self.view_is (both c).1
+pub returns : goal.returns
+returns c = record {
+  refused = refl;
+  same = tt;
+  still = tt;
+  back = tt;
+  answered = subst (λ (z : SharedValue). ForksOn z (after c) c.args.worker c.args.part (one c).task (two c).task × HoldsNone (after c) c.args.worker) c.self.view_is
+      ((both c).1, holds_none (w c) (after c) (k c) (p c) (asks c).I (both c).0 (asks c).free c.set.ensures);
+}
 
 -- the same value, by what a failed call left
 unchanged_by : (w : SharedValue) (n : List TaskNode) (h g : TaskSlotsValue) → h.rests ≡ w.rests → h.sets ≡ w.sets → h.marks ≡ w.marks → n ≡ w.tree → g ≡ record h { blocks = g.blocks; room = g.room } → record w { tree = n; rests = g.rests; sets = g.sets; marks = g.marks } ≡ w
@@ -120,12 +138,13 @@ unchanged_by w n h g er es em en eg =
 
 pub invariant_of-self : goal.invariant_of-self
 invariant_of-self c =
-    let e = unchanged_by (the_view c.self.inside) c.grow-grown.new.tree c.self.inside.heaps.task_slots c.grow-grown.new.task_slots refl refl refl c.in_default-grown.ensures.same_tree c.in_default-grown.ensures.task_slots in
+    let e = unchanged_by (the_view c.self.inside) c.grow.new.tree c.self.inside.heaps.task_slots c.grow.new.task_slots refl refl refl c.in_default-grow.ensures.same_tree c.in_default-grow.ensures.task_slots in
     subst IsSharedValue (sym e) c.self.invariant
 
-pub returns-in_default-grown-clause-same : goal.returns-in_default-grown-clause-same
-returns-in_default-grown-clause-same c =
-    unchanged_by (the_view c.self.inside) c.grow-grown.new.tree c.self.inside.heaps.task_slots c.grow-grown.new.task_slots refl refl refl c.in_default-grown.ensures.same_tree c.in_default-grown.ensures.task_slots ∙ c.self.view_is
+pub returns-in_default-grow : goal.returns-in_default-grow
+returns-in_default-grow c =
+    no_memory_left c.args.self.now _ c.args.worker c.args.part
+    (unchanged_by (the_view c.self.inside) c.grow.new.tree c.self.inside.heaps.task_slots c.grow.new.task_slots refl refl refl c.in_default-grow.ensures.same_tree c.in_default-grow.ensures.task_slots ∙ c.self.view_is)
 
-pub returns-clause-task_out : goal.returns-clause-task_out
-returns-clause-task_out c = c.set.ensures ∙ ap (λ (z : SharedValue). slice_set z.tasks_out c.args.worker None) c.self.view_is
+pub returns-in_default : goal.returns-in_default
+returns-in_default c = no_memory_left c.args.self.now c.args.self.now c.args.worker c.args.part refl

@@ -1,4 +1,4 @@
-use Rattle.shared_tree.proofs.Common.{◌≡◌, ◌<◌, ℕ, ◌+◌, ◌-◌, arith, Some, None, List, [], length, length-set, slice_get, slice_set, refl, ap, sym, subst, ◌∙◌, IsSome, ReservedVecValue, if_none, EntryValue, PoolValue, Ended, TaskNode, parent_of, state_of, with_state, sibling, EndedChild, joined_nodes, Private, TaskSlotsValue, SharedValue, rest_at, IsSharedValue, four_changed, alone_small, EndsChild, CanJoin, HasPlaces, parent_side, AsksEnd, asked_alone, asks_end, own_made, parent_low, few_tasks, other_made, left_by, Put, Taken, both_made, can_join, the_view}
+use Rattle.shared_tree.proofs.Common.{◌≡◌, ◌<◌, ℕ, ◌+◌, ◌-◌, arith, Some, None, List, [], length, length-set, slice_get, slice_set, refl, ap, sym, subst, ◌∙◌, IsSome, ReservedVecValue, if_none, EntryValue, PoolValue, Ended, TaskNode, parent_of, state_of, with_state, sibling, EndedChild, joined_nodes, Private, TaskSlotsValue, SharedValue, rest_at, IsSharedValue, four_changed, alone_small, EndsChild, CanJoin, HasPlaces, parent_side, AsksEnd, asked_alone, asks_end, own_made, parent_low, few_tasks, other_made, left_by, Put, Taken, both_made, can_join, the_view, ◌≤◌, private_limit}
 use Rattle.entry_calls.proofs.below.fork_join_commit.JoinEntries as entry
 use Rattle.shared_tree.proofs.StepsEntered.{along, entered}
 use Rattle.shared_tree.proofs.shared.Shared.enter_join.Goals as goal
@@ -35,8 +35,15 @@ sibling_of-other-requires-clause-few c =
     let is = c.task-task.ensures in
     omega (arith, few, made, is)
 
-pub enter_alone-requires-clause-small : goal.enter_alone-requires-clause-small
-enter_alone-requires-clause-small c = alone_small (asked_alone (asks (goal.at.enter_alone-requires-clause-small c).After-self))
+pub overflow_add-self-2 : goal.overflow_add-self-2
+overflow_add-self-2 c =
+    let small = alone_small (asked_alone (asks (goal.at.overflow_add-self-2 c).After-self)) in
+    let same : c.get-held.result.now.fresh ≡ c.args.part.fresh = ap (λ (r : Private). r.fresh) c.get-held.ensures in
+    omega (arith, small.0, small.1, same)
+
+pub alone_of-requires-clause-few : goal.alone_of-requires-clause-few
+alone_of-requires-clause-few c =
+    subst (λ (r : Private). r.fresh ≤ private_limit) (sym c.get-held.ensures) (alone_small (asked_alone (asks (goal.at.alone_of-requires-clause-few c).After-self))).1
 
 pub set_state-requires : goal.set_state-requires
 set_state-requires c = subst (λ t. t < length (the_view c.self.inside).tree) (sym c.task-task.ensures) (own_made (asks (goal.at.set_state-requires c).After-self))
@@ -151,7 +158,10 @@ module _ (c : After-put_set) where
   abbrev with : ℕ → ReservedVecValue EntryValue → SharedValue
   with n j = record v { pool = pool; sets = h6.sets; marks = h6.marks; steps = n; tree = c.join_children-rest.new.tree; rests = h6.rests; tasks_out = c.set.new.self; journal = j }
 
-  both : IsSharedValue (with c.enter_alone.new.steps c.enter_alone.new.journal) × EndsChild v (with c.enter_alone.new.steps c.enter_alone.new.journal) k part (Some c.args.parent)
+  abbrev after : SharedValue
+  after = with (v.steps + (c.get-held.result.now.fresh + 1)) c.push_reserved.new.self
+
+  both : IsSharedValue after × EndsChild v after k part (Some c.args.parent)
   both =
       let b = (goal.at.invariant_of-self c).After-self in
       let j : ReservedVecValue EntryValue = record { items = []; room = v.journal.room - 1 } in
@@ -159,14 +169,14 @@ module _ (c : After-put_set) where
       let now : SharedValue = record v { pool = pool; sets = h6.sets; marks = h6.marks; steps = v.steps + (part.fresh + 1) } in
       let tree : c.join_children-rest.new.tree ≡ joined_nodes (with_state v.tree part.task Ended) c.args.parent left.side.task right.side.task = c.join_children-rest.ensures.tree ∙ ap (λ ns. joined_nodes ns c.args.parent left.side.task right.side.task) (c.set_state.ensures ∙ ap (λ t. with_state v.tree t Ended) c.task-task.ensures) in
       let same = four_changed now (joined_nodes (with_state v.tree part.task Ended) c.args.parent left.side.task right.side.task) c.join_children-rest.new.tree h6.rests h6.rests (slice_set v.tasks_out k None) c.set.new.self (entered v k part) _ tree refl c.set.ensures refl in
-      along v k part _ _ c.enter_alone.ensures.steps c.enter_alone.ensures.journal (λ n j. IsSharedValue (with n j) × EndsChild v (with n j) k part (Some c.args.parent))
+      along v k part c.get-held.result.now c.get-held.ensures _ _ c.alone_of.ensures c.push_reserved.ensures (λ n j. IsSharedValue (with n j) × EndsChild v (with n j) k part (Some c.args.parent))
       (subst (λ (z : SharedValue). IsSharedValue z × EndsChild v z k part (Some c.args.parent)) (sym same) ends)
 
 pub invariant_of-self : goal.invariant_of-self
 invariant_of-self c = (both c).0
 
 pub returns-clause-joined : goal.returns-clause-joined
-returns-clause-joined c = subst (λ (z : SharedValue). EndsChild z (with c c.enter_alone.new.steps c.enter_alone.new.journal) c.args.worker c.args.part (Some c.args.parent)) c.self.view_is (both c).1
+returns-clause-joined c = subst (λ (z : SharedValue). EndsChild z (after c) c.args.worker c.args.part (Some c.args.parent)) c.self.view_is (both c).1
 
 pub returns-clause-task_out : goal.returns-clause-task_out
 returns-clause-task_out c = c.set.ensures ∙ ap (λ (z : SharedValue). slice_set z.tasks_out c.args.worker None) c.self.view_is

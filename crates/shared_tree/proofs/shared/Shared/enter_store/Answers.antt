@@ -56,10 +56,16 @@ pub returns-in_err-write_reference-clause-same : goal.returns-in_err-write_refer
 returns-in_err-write_reference-clause-same c =
     always_err c.from_residual.result (subst (λ (z : SharedValue). SameButRoom z (with_heaps (old c) c.write_reference.new.heaps (old c).steps (old c).journal)) c.self.view_is (roomier c).1)
 
-pub enter_alone-requires-clause-small : goal.enter_alone-requires-clause-small
-enter_alone-requires-clause-small c =
+pub overflow_add-self-2 : goal.overflow_add-self-2
+overflow_add-self-2 c =
     let asks = asks_alone c.self.view_is c.self.invariant c.requires.fits c.requires.shared c.requires.free in
-    alone_small asks
+    let small = alone_small asks in
+    omega (arith, small.0, small.1)
+
+pub alone_of-requires-clause-few : goal.alone_of-requires-clause-few
+alone_of-requires-clause-few c =
+    let asks = asks_alone c.self.view_is c.self.invariant c.requires.fits c.requires.shared c.requires.free in
+    (alone_small asks).1
 
 pub go_on-requires : goal.go_on-requires
 go_on-requires c =
@@ -90,13 +96,13 @@ module _ (c : goal.After-part-1) where
   abbrev went : Private
   went = record part { frames = store_frames c.args.swap part.frames; fresh = 0 }
 
-  both : IsSharedValue (with_heaps v h c.enter_alone.new.steps c.enter_alone.new.journal) × GoesAlone v (with_heaps v h c.enter_alone.new.steps c.enter_alone.new.journal) k part went
+  both : IsSharedValue (with_heaps v h (v.steps + (part.fresh + 1)) c.push_reserved.new.self) × GoesAlone v (with_heaps v h (v.steps + (part.fresh + 1)) c.push_reserved.new.self) k part went
   both =
       let foreign = entries.foreign (asks b) c.args.swap c.args.object c.args.field c.args.value (stores b).0 (stores b).1 in
       let rests = c.in_ok-write_reference.ensures.written target foreign.rest foreign.place.chunk foreign.there in
       let noted = c.in_ok-write_reference.ensures.noted target foreign.rest foreign.place.chunk foreign.there in
       let space : ReservedVecValue EntryValue = record { items = []; room = v.journal.room - 1 } in
-      along v k part _ _ c.enter_alone.ensures.steps c.enter_alone.ensures.journal (λ n j. IsSharedValue (with_heaps v h n j) × GoesAlone v (with_heaps v h n j) k part went)
+      along v k part part refl _ _ c.alone_of.ensures c.push_reserved.ensures (λ n j. IsSharedValue (with_heaps v h n j) × GoesAlone v (with_heaps v h n j) k part went)
       (subst (λ (z : SharedValue). IsSharedValue z × GoesAlone v z k part went) (written_by v (v.steps + (part.fresh + 1)) (entered v k part) h _ h.task_slots.sets c.write_reference.ensures.pool c.write_reference.ensures.marks rests refl) (
         entries.store_world (asks b) c.args.swap c.args.object c.args.field c.args.value (stores b).0 (stores b).1 h.task_slots.sets c.write_reference.ensures.many noted space,
         entries.store_goes (asks b) c.args.swap c.args.object c.args.field c.args.value (stores b).0 (stores b).1 h.task_slots.sets c.write_reference.ensures.many noted space,
@@ -107,5 +113,5 @@ invariant_of-self-2 c = (both c).0
 
 pub returns-clause-goes : goal.returns-clause-goes
 returns-clause-goes c =
-    subst (λ (z : SharedValue). GoesAlone z (with_heaps (v c) (h c) c.enter_alone.new.steps c.enter_alone.new.journal) c.args.worker c.args.part.now (record c.args.part.now { frames = c.go_on.new.frames; fresh = 0 })) c.self.view_is
-    (subst (λ (s : FramesValue). GoesAlone (v c) (with_heaps (v c) (h c) c.enter_alone.new.steps c.enter_alone.new.journal) c.args.worker c.args.part.now (record c.args.part.now { frames = s; fresh = 0 })) (sym c.go_on.ensures) (both c).1)
+    subst (λ (z : SharedValue). GoesAlone z (with_heaps (v c) (h c) ((v c).steps + ((part c).fresh + 1)) c.push_reserved.new.self) c.args.worker c.args.part.now (record c.args.part.now { frames = c.go_on.new.frames; fresh = 0 })) c.self.view_is
+    (subst (λ (s : FramesValue). GoesAlone (v c) (with_heaps (v c) (h c) ((v c).steps + ((part c).fresh + 1)) c.push_reserved.new.self) c.args.worker c.args.part.now (record c.args.part.now { frames = s; fresh = 0 })) (sym c.go_on.ensures) (both c).1)

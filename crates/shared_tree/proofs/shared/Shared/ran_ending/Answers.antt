@@ -1,16 +1,7 @@
-use Rattle.shared_tree.proofs.Common.{false, true, ◌≡◌, ℕ, Option, Some, None, slice_set, ap, sym, ◌∙◌, ◌<◌, arith, refl, subst, OnErr, Result, Ok, Err, parent_of, state_of, TaskState, sibling, Private, NoMemory, NotLeft, SharedValue, refused, EachPartStillFits, WorkerPartFits, alone_entry, IsAtEnd, IsUnchanged, SameButPlaces, own_made, parent_low, tree_parent, few_tasks, places_ends, places_same, same_world}
-use Rattle.std.specs.Prelude.{IfErr}
+use Rattle.shared_tree.proofs.Common.{false, true, ◌≡◌, ℕ, Option, Some, None, slice_set, ap, sym, ◌∙◌, ◌<◌, arith, refl, subst, parent_of, state_of, TaskState, sibling, Private, SharedValue, refused, alone_entry, IsAtEnd, own_made, parent_low, tree_parent, few_tasks, places_ends, places_same}
 use Rattle.entry_calls.proofs.below.fork_join_commit.{places_fit}
+use Rattle.shared_tree.proofs.Joints.{holds_none}
 use Rattle.shared_tree.proofs.shared.Shared.ran_ending.Goals as goal
-
--- if nothing has changed since an allocation failed, no capacity was reserved either
-unchanged : (w after : SharedValue) (r : Result (Option ℕ) NotLeft) → IfErr r (λ e. e.cause ≡ NoMemory) → OnErr r (after ≡ w) → IfErr r (λ e. IsUnchanged e.cause w after)
-unchanged w after (Ok x) m e = m
-unchanged w after (Err x) m e = subst (λ c. IsUnchanged c w after) (sym m) (subst (SameButPlaces w) (sym e) (same_world w))
-
-still : (w after : SharedValue) (r : Result (Option ℕ) NotLeft) → OnErr r (after ≡ w) → OnErr r (EachPartStillFits w after)
-still w after (Ok x) e = e
-still w after (Err x) e = λ k p F. subst (λ (z : SharedValue). WorkerPartFits z k p) (sym e) F
 
 none_some : {q : ℕ} → ◌≡◌ {A = Option ℕ} None (Some q) → ⊥
 none_some e = cc
@@ -40,21 +31,25 @@ enter_join-requires-clause-free c =
     let p : Private = c.args.part in
     places_same w c.make_join_places.new.self c.make_join_places.ensures.same (λ z. refused z (alone_entry c.args.worker p) ≡ None) (λ hs ss g. g) c.requires.free
 
-pub returns-in-Ok-clause-answered : goal.returns-in-Ok-clause-answered
-returns-in-Ok-clause-answered c =
+pub returns-in-Ok : goal.returns-in-Ok
+returns-in-Ok c =
     let w : SharedValue = c.args.self.now in
     let p : Private = c.args.part in
     let k : ℕ = c.args.worker in
-    places_ends w c.make_join_places.new.self c.make_join_places.ensures.same c.enter_join.new.self k p _ c.enter_join.ensures.joined
+    let v : SharedValue = c.make_join_places.new.self in
+    let out : c.enter_join.new.self.tasks_out ≡ slice_set w.tasks_out k None = c.enter_join.ensures.task_out ∙ ap (λ (z : SharedValue). slice_set z.tasks_out k None) c.make_join_places.ensures.same.rest in
+    record {
+      refused = refl;
+      same = tt;
+      still = tt;
+      back = tt;
+      answered = (places_ends w v c.make_join_places.ensures.same c.enter_join.new.self k p _ c.enter_join.ensures.joined, holds_none w c.enter_join.new.self k p c.stands.ensures c.stands-in-Ok.ensures c.requires.free out);
+    }
 
-pub returns-in-Err-clause-still : goal.returns-in-Err-clause-still
-returns-in-Err-clause-still c =
+pub returns-in-Err : goal.returns-in-Err
+returns-in-Err c =
     let w : SharedValue = c.args.self.now in
-    λ u r G. places_fit w c.make_join_places.new.self c.make_join_places.ensures.same u r G
-
-pub returns-in-Ok-clause-task_out : goal.returns-in-Ok-clause-task_out
-returns-in-Ok-clause-task_out c =
-    c.enter_join.ensures.task_out ∙ ap (λ (z : SharedValue). slice_set z.tasks_out c.args.worker None) c.make_join_places.ensures.same.rest
+    record { refused = refl; same = c.make_join_places.ensures.same; still = λ u r G. places_fit w c.make_join_places.new.self c.make_join_places.ensures.same u r G; back = refl; answered = tt }
 
 not_yes : false ≡ true → ⊥
 not_yes e = cc
@@ -86,24 +81,6 @@ enter_join-requires-clause-places c = c.in-Ok.ensures.places
 
 pub enter_join-requires-clause-room : goal.enter_join-requires-clause-room
 enter_join-requires-clause-room c = subst (λ (z : SharedValue). 0 < z.journal.room) (sym c.make_join_places.ensures.same.rest) c.requires.room
-
-pub returns-in-Err-clause-same : goal.returns-in-Err-clause-same
-returns-in-Err-clause-same c = c.make_join_places.ensures.same
-
-pub returns-then-not-is_ended-clause-same : goal.returns-then-not-is_ended-clause-same
-returns-then-not-is_ended-clause-same c = unchanged c.args.self.now c.ran_first.new.self c.ran_first.result c.ran_first.ensures.memory c.ran_first.ensures.same
-
-pub returns-then-not-is_ended-clause-still : goal.returns-then-not-is_ended-clause-still
-returns-then-not-is_ended-clause-still c = still c.args.self.now c.ran_first.new.self c.ran_first.result c.ran_first.ensures.same
-
-pub returns-then-not-is_ended-clause-back : goal.returns-then-not-is_ended-clause-back
-returns-then-not-is_ended-clause-back c = c.ran_first.ensures.back
-
-pub returns-then-not-is_ended-clause-answered : goal.returns-then-not-is_ended-clause-answered
-returns-then-not-is_ended-clause-answered c = c.ran_first.ensures.answered
-
-pub returns-then-not-is_ended-clause-task_out : goal.returns-then-not-is_ended-clause-task_out
-returns-then-not-is_ended-clause-task_out c = c.ran_first.ensures.task_out
 
 pub sibling_of-requires-clause-child : goal.sibling_of-requires-clause-child
 sibling_of-requires-clause-child c =
