@@ -5,7 +5,7 @@ pub use Rattle.entry_calls.specs.declared.answers.Lent.{Lent}
 pub use Rattle.entry_calls.proofs.below.fork_join_commit.{alone_ends, AsksEnd, asked_alone, asks_end, own_made, parent_low, tree_parent, asked, alone_forks, alone_world, rests_fork_by, other_made, parent_slot, parent_is, parent_other, same_itself, same_world, placed_has, placed_same, places_world, places_ends, places_same, left_by, Put, Taken, both_made, can_join, AsksFork, asks_fork, few_tasks, on, tree_out, fork_shared, forks_to, is_par_line, par_is, deep_traps}
 pub use Rattle.entry_calls.proofs.below.step_commit.{runs_on, fits_machine, machine_same, alone_answer, alone_small, slot_there, next_small, set_there, AsksAlone, asks_alone, halt_world, halts_alone, printed_goes, printed_world, some_line, is_safe, tells, child_beyond, other_beyond, trap_is, finishes_alone, finished_world, node_there}
 pub use Rattle.entry_calls.specs.below.fork_join_commit.{IsAtEnd, is_last_return, is_last_by, is_last_line, EndsChild, IsAtFork, is_fork, is_fork_by, is_par, ForksOn, ForksTo, RestsFork, SetsFork, begun_rest, part_child, waiting_rest, IsUnchanged, SameButPlaces, CanJoin, HasPlaces, parent_side, HoldsNone}
-pub use Rattle.entry_calls.specs.below.step_commit.{IsShared, alone_entry, machine_after, HaltsAlone, then_accounts, GoesAlone, EndingTells, FinishesAlone, ended_rest, IsBeyond}
+pub use Rattle.entry_calls.specs.below.step_commit.{IsShared, alone_entry, machine_after, HaltsAlone, then_accounts, GoesAlone, EndingTells, FinishesAlone, ended_rest}
 pub use Rattle.entry_calls.proofs.below.heap_marking.{AsksMarked, AsksWaiting, asks_marked, asks_waiting, mark_asks, mark_enters, kept_noted, put_back, some_asks, some_count, some_enters, mark_answer, mark_begun, mark_fields, mark_starts, some_answer, words_now, further, marks_within, never_gone, never_unmarked, can_all, has_marking, m, marked, r, rest_is_there, sweep_answer, sweep_cause, few_at, would_be, rest, waits}
 pub use Rattle.entry_calls.specs.below.heap_marking.{marking_cause, waiting_cause, words_cause, Further, MarkingHasBegun, starts_in, SweepsSlot}
 pub use Rattle.entry_calls.proofs.below.leaf_collections.{begin_count, begin_few, begin_free, begins, begins_with, places_fit, fresh, chunk_entered, full_entered, AsksLeafEnd, asks_leaf_end, are_fields, back_in_use, has_slot, leaf_ended, put_off_entered, reset, put_off_answer, AsksLeaf, LeafEntered, asks_leaf, without_fresh, chunk_answer, first_answer, begin_answer, begin_idle, end_answer}
@@ -15,7 +15,7 @@ pub use Rattle.entry_calls.proofs.below.task_machine.{same_line}
 pub use Rattle.entry_calls.specs.below.leaf_collections.{FitsCopied, end_entry, without_collection}
 pub use Rattle.entry_calls.specs.below.chunk_pool.{PoolValue, TakesAll, slot_at, NotTaken, Full, units_in_use}
 pub use Rattle.entry_calls.specs.below.copying_gc.{Moved, ToChunks}
-pub use Rattle.entry_calls.specs.below.core_invariant.{NotEntered, NoMemory, SharedValue, accounts, rest_at, value_of, IsSharedValue, EachPartStillFits, WorkerPartFits, EntersOrRefuses, IsCaused, refused, Refuses, above_of, is_beyond, is_beyond_by, is_beyond_line, is_joint, next_line, first_cause, or_else, chunk_cause, part_asks, OthersFit, take_by, CopyingHasBegun, roots_of, Enters, heaps_of, sources_of, Prints, marks_at, taken_part, due_cause, FitsFirst, Ending, IsOutPart, Beyond, Returns, is_state_ready, took_cause}
+pub use Rattle.entry_calls.specs.below.core_invariant.{NotEntered, NoMemory, SharedValue, accounts, rest_at, value_of, IsSharedValue, EachPartStillFits, WorkerPartFits, EntersOrRefuses, IsCaused, refused, Refuses, above_of, is_beyond, is_beyond_by, is_beyond_line, is_joint, first_cause, or_else, chunk_cause, part_asks, OthersFit, take_by, CopyingHasBegun, roots_of, Enters, heaps_of, sources_of, Prints, marks_at, taken_part, due_cause, FitsFirst, Ending, IsOutPart, Beyond, Returns, is_state_ready, took_cause}
 pub use Rattle.entry_calls.specs.below.fork_join.{Child, EndedChild, joined_nodes}
 pub use Rattle.entry_calls.specs.below.heap_tree.{TaskNode, depth_of, forked, Ended, parent_of, state_of, with_state, sibling, Out, TaskState, Ready}
 pub use Rattle.entry_calls.specs.below.hh_lang.{Instr, Par, Ret, Line, line_at}
@@ -37,11 +37,12 @@ pub use Rattle.remote_access.proofs.SetRooms.{roomier_same, roomier_world}
 pub use Rattle.remote_access.specs.Other.{IsOther, SameButRoom, is_other, is_other_by, is_other_line, TellsOther, put_rest, store_frames, store_of}
 pub use Rattle.remote_access.specs.declared.other.OtherStep.{OtherStep}
 pub use Rattle.remote_access.specs.declared.other.OtherStep.TheVariants.{SetsNumber, Stops, StoresNumber, Traps, SetsReference}
-pub use Rattle.shared_tree.specs.StepEnd.{IsJoint, MayBeEntered, ComesTo, AloneTo}
+pub use Rattle.shared_tree.specs.StepEnd.{HasNextLine, MayBeEntered}
 pub use Rattle.shared_tree.specs.contracts.shared.Shared.{the_view}
 pub use Rattle.std.proofs.Common.{◌≡◌, Result, Ok, Err, sym, subst, ℕ, Option, List, ap₂, ◌∙◌, ◌||◌, not, true, Some, None, length, slice_get, slice_set, option_map, is_some, refl, ap, ◌+◌, ◌-◌, ◌++◌, [], ◌∷◌, false, map, arith, ◌<◌, length-set, All, fold, w64, ℤ, SFits, rules, min, option_copied, ◌≤◌, inl, inr, ◌^◌, ◌==◌, ◌↔◌, IsTrue, IfOk, replicate, nat_le, Bool}
 pub use Rattle.std.proofs.lemmas.Bool.{cases_lt}
 pub use Rattle.std.proofs.lemmas.Int.{to_z-of_z}
+pub use Rattle.std.proofs.lemmas.Option.{same_Some}
 pub use Rattle.std.specs.Borrow.{Bor}
 pub use Rattle.std.specs.Option.{option_flatten}
 pub use Rattle.std.specs.Prelude.{IsErrAnd, IsSome, OnErr, slice_index_or, Vec, OnOk, IfSome}

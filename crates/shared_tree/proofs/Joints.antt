@@ -1,15 +1,18 @@
 -- How a part's next step involves other tasks, by the next line; what remains if an allocation fails.
 use Rattle.std.specs.Result.{OnErr}
-use Rattle.shared_tree.proofs.Common.{IfErr, ◌≡◌, ℕ, Result, Ok, Err, ◌||◌, not, true, Option, Some, None, List, length, slice_get, slice_set, option_map, is_some, refl, ap, sym, subst, ◌∙◌, option_flatten, or_false, got_set, Instr, Par, Ret, Line, MachineState, Task, fetched, Ledger, owns, task_steps, touched, Refused, SetOf, content_of, Private, FitsNow as FitsMachine, Places, same_line, SharedValue, accounts, rest_at, value_of, IsSharedValue, EachPartStillFits, WorkerPartFits, EntersLeaving, EntersOrRefuses, IsCaused, refused, NotEntered, NoMemory, Refuses, above_of, is_beyond, is_beyond_by, is_beyond_line, is_joint, next_line, same_length, worker_there, IsShared, alone_entry, machine_after, runs_on, fits_machine, machine_same, IsAtEnd, is_last_return, is_last_by, is_last_line, IsAtFork, is_fork, is_fork_by, is_par, HoldsNone, IsUnchanged, SameButPlaces, same_itself, same_world, IsOther, SameButRoom, is_other, is_other_by, is_other_line, IsJoint}
+use Rattle.shared_tree.proofs.Common.{IfErr, ◌≡◌, ℕ, Result, Ok, Err, ◌||◌, not, true, Option, Some, None, List, length, slice_get, slice_set, option_map, is_some, refl, ap, sym, subst, ◌∙◌, option_flatten, or_false, got_set, Instr, Par, Ret, Line, MachineState, Task, fetched, Ledger, owns, task_steps, touched, Refused, SetOf, content_of, Private, Places, same_line, SharedValue, accounts, rest_at, value_of, IsSharedValue, EachPartStillFits, EntersLeaving, EntersOrRefuses, IsCaused, refused, NotEntered, NoMemory, Refuses, FitsNow as FitsMachine, above_of, is_beyond, is_beyond_by, is_beyond_line, is_joint, same_length, worker_there, alone_entry, machine_after, runs_on, fits_machine, machine_same, IsAtEnd, is_last_return, is_last_by, is_last_line, IsAtFork, is_fork, is_fork_by, is_par, HoldsNone, IsUnchanged, SameButPlaces, same_itself, same_world, IsOther, SameButRoom, is_other, is_other_by, is_other_line, same_Some, Beyond, Returns, EndingTells, AsksAlone, child_beyond, other_beyond, tells, HasNextLine, IsAtRootEnd}
 
 other_by : (tasks : List Task) (t : ℕ) (x : Task) (i : Instr) → ((g h : ℕ) → i ≡ Par g h → ⊥) → (i ≡ Ret → ⊥) → (is_joint x i || not (owns tasks t (touched x.top i))) ≡ true → not (owns tasks t (touched x.top i)) ≡ true
 other_by tasks t x (Par g h) par ret e = absurd (par g h refl)
 other_by tasks t x Ret par ret e = absurd (ret refl)
 other_by tasks t x _ par ret e = e
 
-module _ (w : SharedValue) (k : ℕ) (p : Private) (I : IsSharedValue w) (F : WorkerPartFits w k p) (shared : IsShared w p) (free : refused w (alone_entry k p) ≡ None) (joint : IsJoint w p) (line : Line) (next : next_line w.program p ≡ Some line) where
+module _ {w : SharedValue} {k : ℕ} {p : Private} (asks : AsksAlone w k p) (instr : Instr) (number : ℕ) (next : HasNextLine w p instr number) where
   abbrev t : ℕ
   t = p.task
+
+  abbrev line : Line
+  line = record { instr = instr; number = number }
 
   abbrev M : Ledger
   M = task_steps w.program (accounts w) t p.fresh
@@ -18,42 +21,58 @@ module _ (w : SharedValue) (k : ℕ) (p : Private) (I : IsSharedValue w) (F : Wo
   above = above_of (value_of w) (accounts w) t
 
   abbrev G : FitsMachine w.program p M.machine above
-  G = fits_machine w k p I F (runs_on (record { I = I; F = F; shared = shared; free = free }))
+  G = fits_machine w k p asks.I asks.F (runs_on asks)
 
   machine_is : machine_after w p ≡ M.machine
-  machine_is = machine_same w k p I F (runs_on (record { I = I; F = F; shared = shared; free = free }))
+  machine_is = machine_same w k p asks.I asks.F (runs_on asks)
 
   line_is_fetched : fetched w.program G.task.top ≡ Some line
   line_is_fetched = sym (same_line w.program p M.machine above G) ∙ next
 
-  joint_line : (is_joint G.task line.instr || not (owns M.machine.tasks t (touched G.task.top line.instr))) ≡ true
-  joint_line =
+  joint_line : is_beyond w.program (machine_after w p) t ≡ true → (is_joint G.task instr || not (owns M.machine.tasks t (touched G.task.top instr))) ≡ true
+  joint_line joint =
       ap (is_beyond_line M.machine t G.task) (sym line_is_fetched)
       ∙ (ap (is_beyond_by w.program M.machine t) (sym G.is) ∙ (ap (λ (m : MachineState). is_beyond w.program m t) (sym machine_is) ∙ joint))
 
-  pub at_fork : (g h : ℕ) → line.instr ≡ Par g h → IsAtFork w p
-  at_fork g h by = record {
-    forks =
-        ap (λ (m : MachineState). is_fork_by w.program (slice_get m.tasks t)) machine_is
-        ∙ (ap (is_fork_by w.program) G.is ∙ (ap is_fork line_is_fetched ∙ ap is_par by));
-    few = shared.few;
-  }
+  -- what a return of the last frame does
+  returns : instr ≡ Ret → EndingTells w p Returns number
+  returns by =
+      tells w k p asks.I asks.F asks.shared (runs_on asks) (record { instr = Ret; number = number }) (subst (λ (i : Instr). HasNextLine w p i number) by next)
 
-  pub at_end : line.instr ≡ Ret → IsAtEnd w p
-  at_end by = record {
+  pub at_root_end : instr ≡ Ret → p.task ≡ 0 → IsAtRootEnd w p
+  at_root_end by root = record { returns = (number, returns by); root = root }
+
+  pub at_end : instr ≡ Ret → (p.task ≡ 0 → ⊥) → IsAtEnd w p
+  at_end by ne = record {
     ends =
         ap (λ (m : MachineState). is_last_by w.program (slice_get m.tasks t)) machine_is
         ∙ (ap (is_last_by w.program) G.is
         ∙ (ap (is_last_line G.task) line_is_fetched
-        ∙ (ap (is_last_return G.task) by ∙ or_false _ (ap (λ i. is_joint G.task i || not (owns M.machine.tasks t (touched G.task.top i))) (sym by) ∙ joint_line))));
-    few = shared.few;
+        ∙ (ap (is_last_return G.task) by
+        ∙ or_false _ (ap (λ i. is_joint G.task i || not (owns M.machine.tasks t (touched G.task.top i))) (sym by) ∙ joint_line (child_beyond asks number (returns by) ne)))));
+    few = asks.shared.few;
   }
 
-  pub at_other : ((g h : ℕ) → line.instr ≡ Par g h → ⊥) → (line.instr ≡ Ret → ⊥) → IsOther w p
-  at_other par ret =
+  pub at_fork : (g h : ℕ) → instr ≡ Par g h → IsAtFork w p
+  at_fork g h by = record {
+    forks =
+        ap (λ (m : MachineState). is_fork_by w.program (slice_get m.tasks t)) machine_is
+        ∙ (ap (is_fork_by w.program) G.is ∙ (ap is_fork line_is_fetched ∙ ap is_par by));
+    few = asks.shared.few;
+  }
+
+  -- a step that returns does so by its line
+  pub returns_by : EndingTells w p Returns number → instr ≡ Ret
+  returns_by T =
+      let task : T.task ≡ G.task = same_Some T.task G.task (sym T.is ∙ G.is) in
+      let is : T.line ≡ line = same_Some T.line line (sym T.next ∙ (ap (λ (x : Task). fetched w.program x.top) task ∙ line_is_fetched)) in
+      ap (λ (z : Line). z.instr) (sym is) ∙ T.says.0
+
+  pub at_other : EndingTells w p Beyond number → ((g h : ℕ) → instr ≡ Par g h → ⊥) → (instr ≡ Ret → ⊥) → IsOther w p
+  at_other T par ret =
       ap (λ (m : MachineState). is_other w.program m t) machine_is
       ∙ (ap (is_other_by w.program M.machine t) G.is
-      ∙ (ap (is_other_line M.machine t G.task) line_is_fetched ∙ other_by M.machine.tasks t G.task line.instr par ret joint_line))
+      ∙ (ap (is_other_line M.machine t G.task) line_is_fetched ∙ other_by M.machine.tasks t G.task instr par ret (joint_line (other_beyond asks number T))))
 
 -- ---- WHICH WORKER HOLDS NOTHING
 

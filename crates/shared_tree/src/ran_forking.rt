@@ -34,16 +34,15 @@ impl Shared {
         ensures traps { IfErr result (λ line. (left : ℕ) × (right : ℕ) × ForksTo self.now part.now left right line) }
         ensures deep { OnErr result (depth_limit ≤ depth_of self.now.tree part.now.task) }
     {
-        let Some(line) = self.program.line(part.frames.fun(), part.frames.next()) else {
-            unreachable!()
-        };
-        let Instr::Par(left, right) = line.instr else {
+        self.stands();
+        let (instr, number) = self.next_line(part);
+        let Instr::Par(left, right) = instr else {
             unreachable!()
         };
         if self.tree.depth(part.task) < DEPTH_LIMIT {
             Ok((left, right))
         } else {
-            Err(line.number)
+            Err(number)
         }
     }
 

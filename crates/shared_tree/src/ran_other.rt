@@ -1,45 +1,35 @@
 // A part's steps are committed with one that works on an object of another task.
 
-ghost use Rattle.std.specs.Prelude.{◌≡◌, ◌<◌, ℕ, OnErr, IfErr, IfOk, None};
-ghost use Rattle.entry_calls.specs.below.core_invariant.{refused, EntersOrRefuses, EachPartStillFits, WorkerPartFits};
+ghost use Rattle.std.specs.Prelude.{◌≡◌, ◌<◌, ℕ, OnErr, IfOk, None};
+ghost use Rattle.entry_calls.specs.below.core_invariant.{refused, EntersOrRefuses, WorkerPartFits};
 ghost use Rattle.entry_calls.specs.below.step_commit.{alone_entry, GoesAlone, IsShared};
-ghost use Rattle.entry_calls.specs.below.fork_join_commit.{IsUnchanged};
 ghost use Rattle.remote_access.specs.Other.{IsOther, SameButRoom, TellsOther};
-ghost use Rattle.shared_tree.specs.StepEnd.{MayBeEntered};
+ghost use Rattle.shared_tree.specs.StepEnd.{HasNextLine, MayBeEntered};
 ghost use Rattle.entry_calls.specs.Ran.{LentTo};
 
 use crate::shared::Shared;
 use crate::steps_entered::alone_of;
-use entry_calls::{Addr, End, IntReg, Lent, NotEntered, Private, RefReg};
+use entry_calls::{Addr, End, Instr, IntReg, Lent, NotEntered, Private, RefReg};
 use remote_access::{OtherStep, named, step_on};
 
 impl Shared {
-    // What the part's next step does, and its line in the text.
-    fn next_other(&self, part: &Private) -> (OtherStep, u32)
+    // What the part's next step does, which has this instruction.
+    pub(crate) fn next_other(&self, part: &Private, instr: &Instr) -> OtherStep
         requires out { MayBeEntered self.now part.now }
         requires shared { IsShared self.now part.now }
         requires other { IsOther self.now part.now }
-        ensures { TellsOther self.now part.now result.0 result.1 }
+        requires next { (number : ℕ) × HasNextLine self.now part.now instr.now number }
+        ensures { (number : ℕ) → HasNextLine self.now part.now instr.now number → TellsOther self.now part.now result number }
     {
-        let Some(line) = self.program.line(part.frames.fun(), part.frames.next()) else {
+        let pool = &self.heaps.pool;
+        let Some(object) = named(part, *instr) else {
             unreachable!()
         };
-        let Some(object) = named(part, line.instr) else {
-            unreachable!()
-        };
-        let owner = self.heaps.pool.owner(object.chunk);
+        let owner = pool.owner(object.chunk);
         let Some(rest) = self.heaps.task_slots.rest(owner) else {
             unreachable!()
         };
-        let does = step_on(
-            &self.tree,
-            &self.heaps.pool,
-            part,
-            &rest.heap,
-            object,
-            line.instr,
-        );
-        (does, line.number)
+        step_on(&self.tree, pool, part, &rest.heap, object, *instr)
     }
 
     // Commits a read of a number.
@@ -85,7 +75,7 @@ impl Shared {
     }
 
     // Commits the next step.
-    fn enter_other(
+    pub(crate) fn enter_other(
         &mut self,
         worker: u32,
         part: &mut Private,
@@ -132,28 +122,5 @@ impl Shared {
                 Ok(Lent::Goes)
             }
         }
-    }
-
-    /// Commits the fresh steps of a part and its next one, which works on an object of another task. If an allocation
-    /// fails nothing is committed, and only the spare capacity for the notes of the barriers may change. A refusal
-    /// changes nothing at all.
-    pub(crate) fn ran_other(&mut self, worker: u32, part: &mut Private) -> Result<Lent, NotEntered>
-        requires room { 0 < self.old.journal.room }
-        requires fits { WorkerPartFits self.old worker part.old }
-        requires shared { IsShared self.old part.old }
-        requires other { IsOther self.old part.old }
-        ensures refused { EntersOrRefuses result (refused self.old (alone_entry worker part.old)) }
-        ensures same { OnErr result (SameButRoom self.old self.new) }
-        ensures unchanged { IfErr result (λ e. IsUnchanged e self.old self.new) }
-        ensures still { OnErr result (EachPartStillFits self.old self.new) }
-        ensures back { OnErr result (part.new ≡ part.old) }
-        ensures answered { IfOk result (LentTo self.old self.new worker part.old part.new) }
-    {
-        if let Some(cause) = self.alone_refused(worker, part) {
-            return Err(NotEntered::Refuses(cause));
-        }
-        self.stands();
-        let (does, line) = self.next_other(part);
-        self.enter_other(worker, part, does, line)
     }
 }

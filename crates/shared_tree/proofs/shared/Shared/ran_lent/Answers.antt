@@ -1,82 +1,51 @@
-use Rattle.shared_tree.proofs.Common.{◌≡◌, None, Err, refl, sym, subst, Private, NotEntered, SharedValue, EntersOrRefuses, refused, WorkerPartFits, IsBeyond, IsShared, alone_entry, EntersLent, AloneTo, IsJoint}
-use Rattle.shared_tree.proofs.HandedOn.{handed_on}
-use Rattle.shared_tree.proofs.Joints.{before_same, fit_by, same_by, then_same}
+use Rattle.shared_tree.proofs.Common.{◌≡◌, None, refl, sym, ◌∙◌, AsksAlone, refused, alone_entry}
+use Rattle.shared_tree.proofs.Joints.{at_end, at_fork, at_root_end, fit_by}
 use Rattle.shared_tree.proofs.shared.Shared.ran_lent.Goals as goal
+use Rattle.shared_tree.proofs.shared.Shared.ran_lent.Goals.{After-stands}
 
-pub lent_joint-requires-clause-fits : goal.lent_joint-requires-clause-fits
-lent_joint-requires-clause-fits c =
-    let w : SharedValue = c.args.self.now in
-    let after : SharedValue = c.ran_alone.new.self in
-    let p : Private = c.args.part.now in
-    let q : Private = c.ran_alone.new.part in
-    let B : IsBeyond w after p q = subst (AloneTo w after c.args.worker p q) c.in-None.is c.in_ok-lent.ensures.answered in
-    then_same w after p q B.same B.part (λ z r. WorkerPartFits z c.args.worker r) c.requires.fits
+-- What is known of the entry if it isn't refused.
+module _ (c : After-stands) where
+  free : refused c.args.self.now (alone_entry c.args.worker c.args.part.now) ≡ None
+  free = sym c.alone_refused.ensures ∙ c.in_default.is
 
-pub lent_joint-requires-clause-shared : goal.lent_joint-requires-clause-shared
-lent_joint-requires-clause-shared c =
-    let w : SharedValue = c.args.self.now in
-    let after : SharedValue = c.ran_alone.new.self in
-    let p : Private = c.args.part.now in
-    let q : Private = c.ran_alone.new.part in
-    let B : IsBeyond w after p q = subst (AloneTo w after c.args.worker p q) c.in-None.is c.in_ok-lent.ensures.answered in
-    then_same w after p q B.same B.part (λ z r. IsShared z r) c.requires.shared
+  asks : AsksAlone c.args.self.now c.args.worker c.args.part.now
+  asks = record { I = c.stands.ensures; F = c.requires.fits; shared = c.requires.shared; free = free }
 
-pub lent_joint-requires-clause-free : goal.lent_joint-requires-clause-free
-lent_joint-requires-clause-free c =
-    let w : SharedValue = c.args.self.now in
-    let after : SharedValue = c.ran_alone.new.self in
-    let p : Private = c.args.part.now in
-    let q : Private = c.ran_alone.new.part in
-    let B : IsBeyond w after p q = subst (AloneTo w after c.args.worker p q) c.in-None.is c.in_ok-lent.ensures.answered in
-    then_same w after p q B.same B.part (λ z r. refused z (alone_entry c.args.worker r) ≡ None) c.in_ok-lent.ensures.refused
-
-pub lent_joint-requires-clause-joint : goal.lent_joint-requires-clause-joint
-lent_joint-requires-clause-joint c =
-    let w : SharedValue = c.args.self.now in
-    let after : SharedValue = c.ran_alone.new.self in
-    let p : Private = c.args.part.now in
-    let q : Private = c.ran_alone.new.part in
-    let B : IsBeyond w after p q = subst (AloneTo w after c.args.worker p q) c.in-None.is c.in_ok-lent.ensures.answered in
-    then_same w after p q B.same B.part (λ z r. IsJoint z r) B.beyond
+pub next_line-instr-requires-clause-out : goal.next_line-instr-requires-clause-out
+next_line-instr-requires-clause-out c = record { worker = c.args.worker; fits = c.requires.fits; free = free c }
 
 pub returns-in-Some : goal.returns-in-Some
-returns-in-Some c = record {
-  refused = c.in_ok-lent.ensures.refused;
-  same = tt;
-  still = tt;
-  back = tt;
-  answered = subst (AloneTo c.args.self.now c.ran_alone.new.self c.args.worker c.args.part.now c.ran_alone.new.part) c.in-Some.is c.in_ok-lent.ensures.answered;
-}
+returns-in-Some c = record { refused = sym c.alone_refused.ensures ∙ c.in-Some.is; same = refl; still = fit_by c.args.self.now c.args.self.now refl; back = refl; answered = tt }
 
-pub returns-in-None : goal.returns-in-None
-returns-in-None c =
-    let w : SharedValue = c.args.self.now in
-    let after : SharedValue = c.ran_alone.new.self in
-    let p : Private = c.args.part.now in
-    let q : Private = c.ran_alone.new.part in
-    let B : IsBeyond w after p q = subst (AloneTo w after c.args.worker p q) c.in-None.is c.in_ok-lent.ensures.answered in
-    let free : refused after (alone_entry c.args.worker q) ≡ None = then_same w after p q B.same B.part (λ z r. refused z (alone_entry c.args.worker r) ≡ None) c.in_ok-lent.ensures.refused in
-    let joint : EntersLent after c.lent_joint.new.self c.args.worker q c.lent_joint.new.part c.lent_joint.result = record {
-      refused = subst (EntersOrRefuses c.lent_joint.result) (sym free) c.lent_joint.ensures.refused;
-      same = c.lent_joint.ensures.same;
-      still = c.lent_joint.ensures.still;
-      back = c.lent_joint.ensures.back;
-      answered = c.lent_joint.ensures.answered;
-    } in
-    before_same w after p q B.same B.part (λ z r. EntersLent z c.lent_joint.new.self c.args.worker r c.lent_joint.new.part c.lent_joint.result) joint
+pub returns-in-Par : goal.returns-in-Par
+returns-in-Par c =
+    let b = (goal.at.returns-in-Par c).After-stands in
+    record {
+      refused = free b;
+      same = tt;
+      still = tt;
+      back = tt;
+      answered = record { same = refl; part = refl; leaves = at_fork (asks b) c.next_line-instr.result.0 c.next_line-instr.result.1 c.next_line-instr.ensures c.in-Par.field-0 c.in-Par.field-1 c.in-Par.is };
+    }
 
-pub returns-in_err-lent : goal.returns-in_err-lent
-returns-in_err-lent c =
-    let w : SharedValue = c.args.self.now in
-    let after : SharedValue = c.ran_alone.new.self in
-    let p : Private = c.args.part.now in
-    let q : Private = c.ran_alone.new.part in
-    let e : NotEntered = c.in_err-lent.field-0.0 in
-    let failed : EntersLent w after c.args.worker p q (Err e) = record {
-      refused = c.in_err-lent.ensures.refused;
-      same = same_by w after e c.in_err-lent.ensures.same;
-      still = fit_by w after c.in_err-lent.ensures.same;
-      back = c.in_err-lent.ensures.back;
-      answered = tt;
-    } in
-    handed_on (λ (z : SharedValue). EntersLent z after c.args.worker p q) w w refl c.from_residual.result e c.from_residual.ensures.1 failed
+pub returns-in-Ret : goal.returns-in-Ret
+returns-in-Ret c =
+    let b = (goal.at.returns-in-Ret c).After-stands in
+    record {
+      refused = free b;
+      same = tt;
+      still = tt;
+      back = tt;
+      answered = record { same = refl; part = refl; leaves = at_root_end (asks b) c.next_line-instr.result.0 c.next_line-instr.result.1 c.next_line-instr.ensures c.in-Ret.is c.if-part-eq0.true };
+    }
+
+pub returns-in-Ret-2 : goal.returns-in-Ret-2
+returns-in-Ret-2 c =
+    let b = (goal.at.returns-in-Ret-2 c).After-stands in
+    record {
+      refused = free b;
+      same = tt;
+      still = tt;
+      back = tt;
+      answered = record { same = refl; part = refl; leaves = at_end (asks b) c.next_line-instr.result.0 c.next_line-instr.result.1 c.next_line-instr.ensures c.in-Ret-2.is c.if-part-eq0.false };
+    }
