@@ -1,5 +1,4 @@
-use Rattle.shared_tree.proofs.Common.{◌≡◌, ℕ, ◌+◌, ◌-◌, ◌<◌, ◌++◌, Option, Some, None, List, [], ◌∷◌, length, slice_set, refl, ap, sym, subst, ◌∙◌, ReservedVecValue, EntryValue, TaskNode, depth_of, forked, SetOf, MarkingValue, Child, Private, ParkedTask, TaskSlotsValue, IsSharedValue, SharedValue, four_changed, alone_small, slot_there, next_small, set_there, ForksOn, ForksTo, RestsFork, SetsFork, begun_rest, part_child, waiting_rest, alone_forks, alone_world, rests_fork_by, AsksFork, asks_fork, few_tasks, on, tree_out, the_view, arith, ◌≤◌, HoldsNone, private_limit}
-use Rattle.entry_calls.proofs.below.fork_join_commit.{asked_alone_forks as asked_alone}
+use Rattle.shared_tree.proofs.Common.{◌≡◌, ℕ, ◌+◌, ◌-◌, ◌<◌, ◌++◌, Option, Some, None, List, [], ◌∷◌, length, slice_set, refl, ap, sym, subst, ◌∙◌, ReservedVecValue, EntryValue, TaskNode, depth_of, forked, SetOf, MarkingValue, Child, Private, ParkedTask, TaskSlotsValue, IsSharedValue, SharedValue, four_changed, alone_small, slot_there, next_small, set_there, ForksOn, ForksTo, RestsFork, SetsFork, begun_rest, part_child, waiting_rest, alone_forks, alone_world, rests_fork_by, AsksFork, asks_fork, few_tasks, on, tree_out, the_view, arith, ◌≤◌, HoldsNone, private_limit, asked_alone_forks as asked_alone}
 use Rattle.shared_tree.proofs.Joints.{holds_none, no_memory_left}
 use Rattle.shared_tree.proofs.StepsEntered.{along, entered}
 use Rattle.shared_tree.proofs.shared.Shared.enter_fork.Goals as goal

@@ -1,5 +1,4 @@
-use Rattle.shared_tree.proofs.Common.{◌<◌, length, sym, subst, Line, SharedValue, node_there, AsksFork, fork_shared, forks_to, is_par_line, par_is}
-use Rattle.entry_calls.proofs.below.fork_join_commit.{asked_alone_forks as asked_alone}
+use Rattle.shared_tree.proofs.Common.{◌<◌, length, sym, subst, Line, SharedValue, node_there, AsksFork, fork_shared, forks_to, is_par_line, par_is, asked_alone_forks as asked_alone}
 use Rattle.shared_tree.proofs.shared.Shared.next_fork.Goals as goal
 use Rattle.shared_tree.proofs.shared.Shared.next_fork.Goals.{After-next_line-instr, After-stands}
 

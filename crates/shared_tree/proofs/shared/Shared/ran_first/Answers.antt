@@ -1,6 +1,5 @@
-use Rattle.shared_tree.proofs.Common.{refl, ◌≡◌, ℕ, ◌+◌, ◌-◌, None, Some, [], length, slice_set, ap, sym, subst, ◌∙◌, ◌<◌, Ended, state_of, with_state, sibling, Private, ParkedTask, TaskSlotsValue, IsSharedValue, SharedValue, four_changed, ended_rest, alone_small, EndsChild, alone_ends, asked, asked_alone, asks_end, the_view, arith, ◌≤◌, private_limit, ReservedVecValue, EntryValue, HoldsNone, AsksEnd}
+use Rattle.shared_tree.proofs.Common.{refl, ◌≡◌, ℕ, ◌+◌, ◌-◌, None, Some, [], length, slice_set, ap, sym, subst, ◌∙◌, ◌<◌, Ended, state_of, with_state, sibling, Private, ParkedTask, TaskSlotsValue, IsSharedValue, SharedValue, four_changed, ended_rest, alone_small, EndsChild, alone_ends, asked, asked_alone, asks_end, the_view, arith, ◌≤◌, private_limit, ReservedVecValue, EntryValue, HoldsNone, AsksEnd, alone_end_world as alone_world}
 use Rattle.entry_calls.proofs.below.step_commit.{has_slot, has_node}
-use Rattle.entry_calls.proofs.below.fork_join_commit.{alone_end_world as alone_world}
 use Rattle.shared_tree.proofs.Joints.{holds_none, no_memory_left}
 use Rattle.shared_tree.proofs.StepsEntered.{along, entered}
 use Rattle.shared_tree.proofs.shared.Shared.ran_first.Goals as goal
