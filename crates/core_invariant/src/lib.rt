@@ -25,5 +25,4 @@ pub use refinement_laws::{
 pub use taken::opened;
 pub use task_slots::{
     BoxedSlot, Heaps, NotTaken, ParkedTask, Pool, SetOf, TaskSlot, TaskSlots, Work, note_write,
-    slot_block,
 };

@@ -9,7 +9,7 @@ ghost use Rattle.fork_join_commit.specs.Forks.{begun_rest, part_child, waiting_r
 use std::alloc::{AllocError, Global};
 use step_commit::{
     BoxedSlot, Child, Marking, ParkedTask, Private, TaskSlot, TaskSlots, TaskState, Tree, Work,
-    fork, slot_block,
+    fork,
 };
 
 // The parked state of a task that has forked.
@@ -46,15 +46,63 @@ fn beginning(child: Child) -> ParkedTask
     }
 }
 
-/// Reserves capacity for two more slots, and a block for that of the part's task, and then forks. If an allocation
-/// fails, only capacities change.
+/// Blocks for the slots of the two children of a task that forks.
+#[derive(Drop)]
+pub struct ForkBlocks {
+    left: BoxedSlot<TaskSlot>,
+    right: BoxedSlot<TaskSlot>,
+}
+
+// Blocks for the slots of two tasks, which the slots keep or which are allocated.
+fn two_blocks(task_slots: &mut TaskSlots) -> Result<ForkBlocks, AllocError>
+    ensures { task_slots.new ≡ task_slots.old }
+{
+    let left = task_slots.take_block()?;
+    let right = task_slots.take_block()?;
+    Ok(ForkBlocks { left, right })
+}
+
+// Reserves capacity and blocks for two more slots, and a block for that of a task.
+fn reserve_slots(task_slots: &mut TaskSlots, task: u32) -> Result<ForkBlocks, AllocError>
+    requires made { task < length task_slots.old.rests }
+    ensures task_slots { task_slots.new ≡ record task_slots.old { blocks = task_slots.new.blocks; room = task_slots.new.room } }
+    ensures room { OnOk result (2 ≤ task_slots.new.room) }
+    ensures block { OnOk result (slice_get task_slots.new.blocks task ≡ Some true) }
+{
+    task_slots.reserve(2)?;
+    task_slots.make_block(task)?;
+    two_blocks(task_slots)
+}
+
+// Forks the tree, unless an allocation fails.
+fn fork_tree(
+    alloc: Global,
+    tree: &mut Tree,
+    part: &Private,
+    left: u32,
+    right: u32,
+) -> Result<(Child, Child), AllocError>
+    requires out { state_of tree.old part.now.task ≡ Some TaskState.Out }
+    requires shallow { depth_of tree.old part.now.task < depth_limit }
+    requires few { length tree.old < 2 ^ 31 }
+    ensures tree { OnOk result (tree.new ≡ forked tree.old part.now.task) }
+    ensures left_child { IfOk result (λ two. two.0 ≡ part_child part.now (length tree.old) left two.0.heap.slots two.0.heap.spare) }
+    ensures right_child { IfOk result (λ two. two.1 ≡ part_child part.now (length tree.old + 1) right two.1.heap.slots two.1.heap.spare) }
+    ensures same_tree { OnErr result (tree.new ≡ tree.old) }
+{
+    let view = part.heap.view(Some(&part.view))?;
+    fork(alloc, tree, part.task, view, &part.frames, left, right)
+}
+
+/// Reserves capacity and blocks for two more slots, and a block for that of the part's task, and then forks. If an
+/// allocation fails, only capacities change.
 pub fn grow(
     tree: &mut Tree,
     task_slots: &mut TaskSlots,
     part: &Private,
     left: u32,
     right: u32,
-) -> Result<(Child, Child), AllocError>
+) -> Result<(Child, Child, ForkBlocks), AllocError>
     requires out { state_of tree.old part.now.task ≡ Some TaskState.Out }
     requires shallow { depth_of tree.old part.now.task < depth_limit }
     requires few { length tree.old < 2 ^ 31 }
@@ -67,27 +115,9 @@ pub fn grow(
     ensures right_child { IfOk result (λ two. two.1 ≡ part_child part.now (length tree.old + 1) right two.1.heap.slots two.1.heap.spare) }
     ensures same_tree { OnErr result (tree.new ≡ tree.old) }
 {
-    task_slots.reserve(2)?;
-    task_slots.make_block(part.task)?;
-    let view = part.heap.view(Some(&part.view))?;
-    let alloc = task_slots.allocator();
-    fork(alloc, tree, part.task, view, &part.frames, left, right)
-}
-
-/// Blocks for the slots of the two children of a task that forks.
-#[derive(Drop)]
-pub struct ForkBlocks {
-    left: BoxedSlot<TaskSlot>,
-    right: BoxedSlot<TaskSlot>,
-}
-
-impl ForkBlocks {
-    /// Allocates both.
-    pub fn new(alloc: Global) -> Result<ForkBlocks, AllocError> {
-        let left = slot_block(alloc)?;
-        let right = slot_block(alloc)?;
-        Ok(ForkBlocks { left, right })
-    }
+    let blocks = reserve_slots(task_slots, part.task)?;
+    let (left, right) = fork_tree(task_slots.allocator(), tree, part, left, right)?;
+    Ok((left, right, blocks))
 }
 
 /// The slots after a task has forked, within the reserved capacity and blocks: its own has its parked state, keeps

@@ -9,6 +9,6 @@ pub use core_invariant::{
     Addr, BoxedSlot, Child, EndedChild, Frames, Heaps, Instr, IntReg, LeafHeap, Listed, Marking,
     ParkedTask, Pool, Private, Program, RefField, RefReg, Remembered, Side, TaskSlot, TaskSlots,
     TaskState, Trap, Tree, View, Words, Work, field_index, fork, is_same_reference, join,
-    note_write, places, sibling_of, slot_block,
+    note_write, places, sibling_of,
 };
 pub use laws::parts_fit_again;

@@ -25,6 +25,10 @@ pub record TaskSlotsValue : Type 0 where
   -- the spare capacity for more tasks
   pub room : ℕ
 
+-- a slot with nothing in it
+abbrev pub empty_slot : TaskSlot
+empty_slot = record { rest = None; set = bare_noted false; marking = None }
+
 -- a task without a block has none of that
 abbrev pub rest_in : Option TaskSlot → Option ParkedTask
 rest_in None = None

@@ -3,6 +3,7 @@
 
 mod heaps;
 mod slots;
+mod spare_blocks;
 mod task_at_rest;
 
 pub use boxed::BoxedSlot;
@@ -11,6 +12,6 @@ pub use heaps::Heaps;
 pub use leaf_heap::{LeafHeap, View};
 pub use object_layout::Addr;
 pub use remembered_set::RefField;
-pub use slots::{TaskSlot, TaskSlots, slot_block};
+pub use slots::{TaskSlot, TaskSlots};
 pub use task_at_rest::{ParkedTask, Work};
 pub use write_barrier::{SetOf, note_write};

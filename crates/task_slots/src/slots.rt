@@ -1,4 +1,4 @@
-// The slots of all tasks, by number: one for each task, boxed, freed at the join.
+// The slots of all tasks, by number: one for each task, in a block, which is kept for another task after the join.
 
 ghost use Rattle.std.specs.Prelude.{◌≡◌, ◌≢◌, ◌<◌, ◌≤◌, ◌+◌, ◌-◌, ◌++◌, ◌∷◌, [], ℕ, IfOk, IfSome, IsSome, OnErr, OnOk, None, Some, false, true, length, option_copied, option_map, slice_get, slice_set};
 ghost use Rattle.object_layout.specs.Cell.{cell_with_int, BeginsInFirstUnit};
@@ -10,6 +10,7 @@ ghost use Rattle.write_barrier.specs.Stored.{content_at, with_source, IsRoomy};
 ghost use Rattle.task_slots.specs.declared.task_at_rest.ParkedTask.{ParkedTask as RestOf};
 ghost use Rattle.task_slots.specs.TaskSlotsValue.{kept_of, keeping, keeps_of, marking_in, marks_at, refs_of_rest, rest_at, rest_in, set_in, sources_of, IsSameRest};
 
+use crate::spare_blocks::SpareBlocks;
 use crate::task_at_rest::ParkedTask;
 use boxed::BoxedSlot;
 use mark_sweep_gc::Marking;
@@ -32,7 +33,7 @@ pub struct TaskSlot {
 }
 
 // An empty slot.
-fn nothing(alloc: Global) -> TaskSlot
+pub(crate) fn nothing(alloc: Global) -> TaskSlot
     ensures { result ≡ record { rest = None; set = bare_noted false; marking = None } }
 {
     TaskSlot {
@@ -42,8 +43,8 @@ fn nothing(alloc: Global) -> TaskSlot
     }
 }
 
-/// A block for the slot of a task that is to be made.
-pub fn slot_block(alloc: Global) -> Result<BoxedSlot<TaskSlot>, AllocError>
+// A block with an empty slot.
+pub(crate) fn slot_block(alloc: Global) -> Result<BoxedSlot<TaskSlot>, AllocError>
     ensures { IfOk result (λ slot. slot ≡ record { rest = None; set = bare_noted false; marking = None }) }
 {
     Ok(BoxedSlot::new(alloc, nothing(alloc))?)
@@ -52,11 +53,12 @@ pub fn slot_block(alloc: Global) -> Result<BoxedSlot<TaskSlot>, AllocError>
 /// The slots of all tasks, by number.
 pub struct TaskSlots {
     list: Vec<Option<BoxedSlot<TaskSlot>>>,
+    spare: SpareBlocks,
 }
 
 impl Drop for TaskSlots {
     fn drop(self) {
-        let TaskSlots { list: _ } = self;
+        let TaskSlots { list: _, spare: _ } = self;
     }
 }
 
@@ -91,7 +93,8 @@ impl TaskSlots {
         slot.rest = Some(root);
         let mut list = Vec::new(alloc);
         list.push(Some(BoxedSlot::new(alloc, slot)?))?;
-        Ok(TaskSlots { list })
+        let spare = SpareBlocks::new(alloc)?;
+        Ok(TaskSlots { list, spare })
     }
 
     /// Its allocator.
@@ -226,6 +229,14 @@ impl TaskSlots {
         self.list.reserve(count)
     }
 
+    /// A block for the slot of a task that is to be made: one that a task left, or a new one.
+    pub fn take_block(&mut self) -> Result<BoxedSlot<TaskSlot>, AllocError>
+        ensures task_slots { self.new ≡ self.old }
+        ensures block { IfOk result (λ slot. slot ≡ record { rest = None; set = bare_noted false; marking = None }) }
+    {
+        self.spare.take()
+    }
+
     /// Adds the slot of one more task with its parked state, within the reserved capacity and with a block.
     pub fn push(&mut self, rest: ParkedTask, block: BoxedSlot<TaskSlot>)
         requires room { 0 < self.old.room }
@@ -240,7 +251,8 @@ impl TaskSlots {
         self.list.push_reserved(Some(block.put(slot)));
     }
 
-    /// Takes out the whole slot of a task that joins: nothing of it is left.
+    /// Takes out the whole slot of a task that joins: nothing of it is left. Its block is kept for another task, or
+    /// freed.
     pub fn leave(&mut self, t: u32) -> TaskSlot
         requires made { t < length self.old.rests }
         ensures rest { result.rest ≡ rest_at self.old.rests t }
@@ -248,7 +260,7 @@ impl TaskSlots {
         ensures task_slots { self.new ≡ record self.old { rests = slice_set self.old.rests t None; sets = slice_set self.old.sets t (bare_noted false); marks = slice_set self.old.marks t None; blocks = slice_set self.old.blocks t false } }
     {
         match mem::replace(&mut self.list[t as usize], None) {
-            Some(slot) => slot.into_inner(),
+            Some(block) => self.spare.empty(block),
             None => nothing(self.allocator()),
         }
     }

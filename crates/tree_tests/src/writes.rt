@@ -8,7 +8,7 @@ use heap_tree::Tree;
 use join_scenes::has_forked;
 use memory_scenes::{add_taken, at, one_frame};
 use std::alloc::Global;
-use task_slots::{Addr, LeafHeap, ParkedTask, RefField, TaskSlots, View, Work, slot_block};
+use task_slots::{Addr, LeafHeap, ParkedTask, RefField, TaskSlots, View, Work};
 use write_barrier::note_write;
 
 // Whether a reference, if it isn't nil, leads into a chunk of a task of the tree.
@@ -85,8 +85,8 @@ fn three_task_slots(alloc: Global) -> Option<TaskSlots> {
     let Ok(()) = task_slots.reserve(2) else {
         return None;
     };
-    let left = slot_block(alloc).ok()?;
-    let right = slot_block(alloc).ok()?;
+    let left = task_slots.take_block().ok()?;
+    let right = task_slots.take_block().ok()?;
     task_slots.push(bare_rest(alloc), left);
     task_slots.push(bare_rest(alloc), right);
     Some(task_slots)
