@@ -35,8 +35,8 @@ pub(crate) fn opened(
     block.fill(entry_calls::opened(rest, task, leaf_limit, field_limit))
 }
 
-/// Reserves capacity for two more slots, and a block for that of the part's task, and then forks. If an allocation
-/// fails, only capacities change.
+/// Reserves capacity and blocks for two more slots, and a block for that of the part's task, and then forks. If an
+/// allocation fails, only capacities change.
 #[inline(always)]
 pub(crate) fn grow(
     tree: &mut Tree,
@@ -44,7 +44,7 @@ pub(crate) fn grow(
     part: &PartInBlock,
     left: u32,
     right: u32,
-) -> Result<(Child, Child), AllocError>
+) -> Result<(Child, Child, ForkBlocks), AllocError>
     requires out { state_of tree.old part.now.task ≡ Some TaskState.Out }
     requires shallow { depth_of tree.old part.now.task < depth_limit }
     requires few { length tree.old < 2 ^ 31 }

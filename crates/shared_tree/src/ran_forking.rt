@@ -13,8 +13,8 @@ use crate::in_block::{fork_task_slots, grow};
 use crate::shared::Shared;
 use crate::steps_entered::alone_of;
 use entry_calls::{
-    BlockSource, BoxedSlot, DEPTH_LIMIT, End, ForkBlocks, Instr, Marking, MarkingRoom, NotEntered,
-    NotLeft, PartInBlock, Private, Ran, Trap,
+    BlockSource, BoxedSlot, DEPTH_LIMIT, End, Instr, Marking, MarkingRoom, NotEntered, NotLeft,
+    PartInBlock, Private, Ran, Trap,
 };
 
 // Keeps the buffers of the marking that is abandoned, if there is one, for the next marking.
@@ -63,15 +63,8 @@ impl Shared {
         requires shallow { depth_of self.old.tree part.task < depth_limit }
         ensures { EntersLeaving self.old self.new worker part result }
     {
-        let alloc = self.heaps.task_slots.allocator();
-        let Ok(two) = ForkBlocks::new(alloc) else {
-            return Err(NotLeft {
-                cause: NotEntered::NoMemory,
-                part,
-            });
-        };
         let (tree, task_slots) = (&mut self.tree, &mut self.heaps.task_slots);
-        let Ok((first, second)) = grow(tree, task_slots, &part, left, right) else {
+        let Ok((first, second, two)) = grow(tree, task_slots, &part, left, right) else {
             return Err(NotLeft {
                 cause: NotEntered::NoMemory,
                 part,

@@ -43,21 +43,21 @@ pub fork_task_slots-marked-requires-clause-made : goal.fork_task_slots-marked-re
 fork_task_slots-marked-requires-clause-made c =
     let p : Private = c.args.part in
     let asks = asks_fork c.self.view_is c.self.invariant c.requires.fits c.requires.forks c.requires.free in
-    subst (λ (z : TaskSlotsValue). p.task < length z.rests) (sym c.in-Ok-grow.ensures.task_slots) (slot_there (asked_alone asks))
+    subst (λ (z : TaskSlotsValue). p.task < length z.rests) (sym c.in-Ok.ensures.task_slots) (slot_there (asked_alone asks))
 
 pub fork_task_slots-marked-requires-clause-noted : goal.fork_task_slots-marked-requires-clause-noted
 fork_task_slots-marked-requires-clause-noted c =
     let p : Private = c.args.part in
     let asks = asks_fork c.self.view_is c.self.invariant c.requires.fits c.requires.forks c.requires.free in
-    subst (λ (z : TaskSlotsValue). p.task < length z.sets) (sym c.in-Ok-grow.ensures.task_slots) (set_there (asked_alone asks))
+    subst (λ (z : TaskSlotsValue). p.task < length z.sets) (sym c.in-Ok.ensures.task_slots) (set_there (asked_alone asks))
 
 pub fork_task_slots-marked-requires-clause-block : goal.fork_task_slots-marked-requires-clause-block
 fork_task_slots-marked-requires-clause-block c =
-    c.in-Ok-grow.ensures.block
+    c.in-Ok.ensures.block
 
 pub fork_task_slots-marked-requires-clause-room : goal.fork_task_slots-marked-requires-clause-room
 fork_task_slots-marked-requires-clause-room c =
-    c.in-Ok-grow.ensures.room
+    c.in-Ok.ensures.room
 
 pub fork_task_slots-marked-requires-clause-next : goal.fork_task_slots-marked-requires-clause-next
 fork_task_slots-marked-requires-clause-next c =
@@ -79,10 +79,10 @@ module _ (c : goal.After-keep_room) where
   n = c.fork_task_slots-marked.new.task_slots
 
   abbrev one : Child
-  one = c.in-Ok-grow.first
+  one = c.in-Ok.first
 
   abbrev two : Child
-  two = c.in-Ok-grow.second
+  two = c.in-Ok.second
 
   abbrev with : ℕ → ReservedVecValue EntryValue → SharedValue
   with m j = record w { sets = n.sets; marks = n.marks; steps = m; tree = c.grow.new.tree; rests = n.rests; tasks_out = c.set.new.self; journal = j }
@@ -98,10 +98,10 @@ module _ (c : goal.After-keep_room) where
       let B : (n : ℕ) × ForksTo w p c.args.left c.args.right n = subst (λ (z : SharedValue). (n : ℕ) × ForksTo z p c.args.left c.args.right n) (sym c.self.view_is) c.requires.by in
       let low : depth_of w.tree p.task < 1000 = subst (λ (z : SharedValue). depth_of z.tree p.task < 1000) (sym c.self.view_is) c.requires.shallow in
       let g : TaskSlotsValue = c.grow.new.task_slots in
-      let grown : g ≡ record c.self.inside.heaps.task_slots { blocks = g.blocks; room = g.room } = c.in-Ok-grow.ensures.task_slots in
+      let grown : g ≡ record c.self.inside.heaps.task_slots { blocks = g.blocks; room = g.room } = c.in-Ok.ensures.task_slots in
       let made : p.task < length w.rests = slot_there (asked_alone asks) in
-      let first : one ≡ part_child p (length w.rests) c.args.left one.heap.slots one.heap.spare = c.in-Ok-grow.ensures.left_child ∙ ap (λ n. part_child p n c.args.left one.heap.slots one.heap.spare) (sym asks.I.made) in
-      let second : two ≡ part_child p (length w.rests + 1) c.args.right two.heap.slots two.heap.spare = c.in-Ok-grow.ensures.right_child ∙ ap (λ n. part_child p (n + 1) c.args.right two.heap.slots two.heap.spare) (sym asks.I.made) in
+      let first : one ≡ part_child p (length w.rests) c.args.left one.heap.slots one.heap.spare = c.in-Ok.ensures.left_child ∙ ap (λ n. part_child p n c.args.left one.heap.slots one.heap.spare) (sym asks.I.made) in
+      let second : two ≡ part_child p (length w.rests + 1) c.args.right two.heap.slots two.heap.spare = c.in-Ok.ensures.right_child ∙ ap (λ n. part_child p (n + 1) c.args.right two.heap.slots two.heap.spare) (sym asks.I.made) in
       let rests : n.rests ≡ slice_set w.rests p.task (Some (waiting_rest p)) ++ Some (begun_rest one) ∷ (Some (begun_rest two) ∷ []) =
       c.fork_task_slots-marked.ensures.rests ∙ ap (λ (z : TaskSlotsValue). slice_set z.rests p.task (Some (waiting_rest p)) ++ Some (begun_rest one) ∷ (Some (begun_rest two) ∷ [])) grown in
       let marks : n.marks ≡ slice_set w.marks p.task None ++ None ∷ (None ∷ []) = c.fork_task_slots-marked.ensures.marks ∙ ap (λ (z : TaskSlotsValue). slice_set z.marks p.task None ++ None ∷ (None ∷ [])) grown in
@@ -109,8 +109,8 @@ module _ (c : goal.After-keep_room) where
       let N : SetsFork w.sets n.sets p.task = subst (λ (z : TaskSlotsValue). SetsFork z.sets n.sets p.task) grown c.fork_task_slots-marked.ensures.sets in
       let j : ReservedVecValue EntryValue = record { items = []; room = w.journal.room - 1 } in
       let v : SharedValue = record w { steps = w.steps + (p.fresh + 1); sets = n.sets; marks = n.marks } in
-      let same = four_changed v (forked w.tree p.task) _ n.rests n.rests (slice_set w.tasks_out k None) _ (entered w k p) _ c.in-Ok-grow.ensures.tree refl c.set.ensures refl in
-      let ends = alone_forks asks c.args.left c.args.right B.0 B.1 low n.rests n.sets H N n.marks marks j one.task two.task (ap (λ (z : Child). z.task) c.in-Ok-grow.ensures.left_child) (ap (λ (z : Child). z.task) c.in-Ok-grow.ensures.right_child) in
+      let same = four_changed v (forked w.tree p.task) _ n.rests n.rests (slice_set w.tasks_out k None) _ (entered w k p) _ c.in-Ok.ensures.tree refl c.set.ensures refl in
+      let ends = alone_forks asks c.args.left c.args.right B.0 B.1 low n.rests n.sets H N n.marks marks j one.task two.task (ap (λ (z : Child). z.task) c.in-Ok.ensures.left_child) (ap (λ (z : Child). z.task) c.in-Ok.ensures.right_child) in
       along w k p c.get-held.result.now c.get-held.ensures _ _ c.alone_of.ensures c.push_reserved.ensures (λ m j. IsSharedValue (with m j) × ForksOn w (with m j) k p one.task two.task)
       (subst (λ (z : SharedValue). IsSharedValue z × ForksOn w z k p one.task two.task) (sym same) (alone_world asks c.args.left c.args.right B.0 B.1 low n.rests n.sets H N n.marks marks j, ends))
 
@@ -137,13 +137,10 @@ unchanged_by w n h g er es em en eg =
 
 pub invariant_of-self : goal.invariant_of-self
 invariant_of-self c =
-    let e = unchanged_by (the_view c.self.inside) c.grow.new.tree c.self.inside.heaps.task_slots c.grow.new.task_slots refl refl refl c.in_default-grow.ensures.same_tree c.in_default-grow.ensures.task_slots in
+    let e = unchanged_by (the_view c.self.inside) c.grow.new.tree c.self.inside.heaps.task_slots c.grow.new.task_slots refl refl refl c.in_default.ensures.same_tree c.in_default.ensures.task_slots in
     subst IsSharedValue (sym e) c.self.invariant
 
-pub returns-in_default-grow : goal.returns-in_default-grow
-returns-in_default-grow c =
-    no_memory_left c.args.self.now _ c.args.worker c.args.part
-    (unchanged_by (the_view c.self.inside) c.grow.new.tree c.self.inside.heaps.task_slots c.grow.new.task_slots refl refl refl c.in_default-grow.ensures.same_tree c.in_default-grow.ensures.task_slots ∙ c.self.view_is)
-
 pub returns-in_default : goal.returns-in_default
-returns-in_default c = no_memory_left c.args.self.now c.args.self.now c.args.worker c.args.part refl
+returns-in_default c =
+    no_memory_left c.args.self.now _ c.args.worker c.args.part
+    (unchanged_by (the_view c.self.inside) c.grow.new.tree c.self.inside.heaps.task_slots c.grow.new.task_slots refl refl refl c.in_default.ensures.same_tree c.in_default.ensures.task_slots ∙ c.self.view_is)
