@@ -1,39 +1,73 @@
 -- Which entry comes next.
-use Rattle.turn_entries.proofs.Common.{◌≡◌, ℕ, ◌<◌, ◌==◌, ◌||◌, Bool, true, false, Option, Some, None, is_some, ap, sym, subst, ◌∙◌, if◌then◌else◌, nat_le, eq-eqb, ne_eqb, arith, Kind, Begin, Fuel, PutOff, Ran, Refused, is_pool_enough, Private, Paused, first_cause, IsSharedValue, SharedValue, accounts, owed_by, TurnOutcome, Ready, Acts, ActsFor, after_steps, brought_kind, due_kind, going_kind, is_out_of_memory, next_kind, owing_kind, paused_kind, is_over}
+use Rattle.turn_entries.proofs.Common.{◌≡◌, ℕ, ◌<◌, ◌==◌, ◌||◌, Bool, true, false, Option, Some, None, is_some, ap, sym, subst, ◌∙◌, if◌then◌else◌, eq-eqb, ne_eqb, arith, Kind, Begin, Fuel, PutOff, Ran, Refused, is_pool_enough, Private, Paused, first_cause, IsSharedValue, SharedValue, accounts, owed_by, TurnOutcome, Ready, ActsFor, after_steps, brought_kind, due_kind, going_kind, is_out_of_memory, owing_kind, is_over, refl, Owed, Nothing, First, FitsCopied, none_of, Copied as IsCopied, Acts, ComesFirst, ComesNow, BringsTo, IsPaused, MayEnter, NoEntryMade}
+use Rattle.turn_entries.specs.declared.between_turns.Copied.{Copied}
 use Rattle.turn_entries.specs.declared.between_turns.Ready.TheVariants.{Paused as HasPaused}
 use Rattle.turn_entries.proofs.Free.{spent_is}
+use Rattle.turn_entries.proofs.Turning.{acts_now, brings_then, going_on}
 
 module _ (w after : SharedValue) (k : ℕ) (ready : Ready) (acted : TurnOutcome) where
   -- another kind that is the same
   pub acts_same : (a b : Option Kind) → a ≡ b → ActsFor w after k ready b acted → ActsFor w after k ready a acted
   acts_same a b e A = subst (λ (o : Option Kind). ActsFor w after k ready o acted) (sym e) A
 
-  module _ (I : IsSharedValue w) (goes : (accounts w).end ≡ None) (below : k < w.settings.workers) where
-    first : Option Refused
-    first = first_cause w.end w.steps w.settings k false
-
-    spent : (o : Option Refused) → o ≡ first_cause w.end w.steps w.settings k false → nat_le w.settings.fuel (accounts w).steps ≡ is_some o
-    spent o is = spent_is w k I goes below ∙ ap is_some (sym is)
-
-    going : (b : Bool) → nat_le w.settings.fuel (accounts w).steps ≡ b → going_kind w k ready ≡ (if b then Some Fuel else owing_kind w (owed_by w k) ready)
-    going b e = ap (λ (c : Bool). if c then Some Fuel else owing_kind w (owed_by w k) ready) e
-
-    pub acts_spent : (o : Option Refused) → o ≡ first_cause w.end w.steps w.settings k false → is_some o ≡ true → ActsFor w after k ready (Some Fuel) acted → ActsFor w after k ready (going_kind w k ready) acted
-    acts_spent o is some A = acts_same (going_kind w k ready) (Some Fuel) (going true (spent o is ∙ some)) A
-
-  pub acts_brought : (other : Ready) → ready ≡ other → ActsFor w after k other (brought_kind w other) acted → ActsFor w after k ready (brought_kind w ready) acted
-  acts_brought other is A = subst (λ (x : Ready). ActsFor w after k x (brought_kind w x) acted) (sym is) A
-
+-- the entry that comes next, by the value in which there is capacity for it
+module _ (w after : SharedValue) (k : ℕ) (ready : Ready) (on : is_over w ≡ false) (met : is_out_of_memory ready ≡ false) (same : after ≡ record w { journal = record { items = w.journal.items; room = after.journal.room } }) where
   next_by : (a b : Bool) (o : Option Kind) → a ≡ false → b ≡ false → (if (a || b) then None else o) ≡ o
   next_by a b o x y = ap (λ (c : Bool). if (c || b) then None else o) x ∙ ap (λ (c : Bool). if c then None else o) y
 
-  pub acts_on : is_over w ≡ false → is_out_of_memory ready ≡ false → ActsFor w after k ready (going_kind w k ready) acted → Acts w after k ready acted
-  acts_on on met A = acts_same (next_kind w k ready) (going_kind w k ready) (next_by (is_over w) (is_out_of_memory ready) (going_kind w k ready) on met) A
+  comes : (kind : Option Kind) → going_kind after k ready ≡ kind → ComesNow w after k ready kind
+  comes kind is = record {
+    next = next_by (is_over w) (is_out_of_memory ready) (going_kind w k ready) on met ∙ (sym (ap (λ (z : SharedValue). going_kind z k ready) same) ∙ is);
+    on = on;
+    met = met;
+    same = same;
+  }
+
+  module _ (I : IsSharedValue after) (below : k < w.settings.workers) (room : 0 < after.journal.room) (o : Option Refused) (is : o ≡ first_cause after.end after.steps after.settings k false) (free : is_some o ≡ false) where
+    goes : (accounts after).end ≡ None
+    goes = ap (λ (z : SharedValue). (accounts z).end) same ∙ (going_on w on).1
+
+    going : going_kind after k ready ≡ owing_kind after (owed_by after k) ready
+    going =
+        ap (λ (c : Bool). if c then Some Fuel else owing_kind after (owed_by after k) ready)
+        (spent_is after k I goes (subst (λ (z : SharedValue). k < z.settings.workers) (sym same) below) ∙ (ap is_some (sym is) ∙ free))
+
+    pub comes_owing : (owes : Owed) → owed_by after k ≡ owes → ComesNow w after k ready (owing_kind after owes ready) × MayEnter after k owes
+    comes_owing owes e = (
+      comes (owing_kind after owes ready) (going ∙ ap (λ (x : Owed). owing_kind after x ready) e),
+      record {
+        room = room;
+        goes = goes;
+        on = ap (λ (z : SharedValue). z.halted) same ∙ (going_on w on).0;
+        free = sym is ∙ none_of o free;
+        owed = e;
+      },
+    )
+
+-- nothing comes before the entry that the worker came for
+module _ (w after : SharedValue) (k : ℕ) (ready : Ready) (S : NoEntryMade w after) (first : Option First) (C : ComesFirst w after k ready first) (none : first ≡ None) where
+  now : ComesNow w after k ready (brought_kind after ready) × MayEnter after k Nothing
+  now = subst (ComesFirst w after k ready) none C
+
+  pub acts_came : (other : Ready) → ready ≡ other → (last : SharedValue) (acted : TurnOutcome) → ActsFor after last k other (brought_kind after other) acted → Acts w last k ready acted
+  acts_came other is last acted A = acts_now w after k ready (brought_kind after ready) now.0 S last acted (subst (λ (x : Ready). ActsFor after last k x (brought_kind after x) acted) (sym is) A)
+
+  -- and what it brought fits the value in which there is capacity
+  module _ (I : IsSharedValue after) (B : BringsTo w k ready) where
+    brings : (other : Ready) → ready ≡ other → BringsTo after k other
+    brings other is = subst (BringsTo after k) is (brings_then w after S k ready B)
+
+    pub paused_now : (part : Private) (why : Paused) → ready ≡ HasPaused part why → IsPaused after k part why
+    paused_now part why is =
+        let b = brings (HasPaused part why) is in
+        b.2 after (record { shared = I; program = refl; goes = now.1.goes }) b.1
+
+    pub copied_now : (c : Copied) → ready ≡ IsCopied c → FitsCopied after k c.part c.moved
+    copied_now c is =
+        let b = brings (IsCopied c) is in
+        b.1 after (record { shared = I; program = refl; goes = now.1.goes }) b.0
 
 module _ (w after : SharedValue) (k : ℕ) (part : Private) (acted : TurnOutcome) where
-  pub acts_paused : (why other : Paused) → why ≡ other → ActsFor w after k (HasPaused part other) (Some (paused_kind w part other)) acted → ActsFor w after k (HasPaused part why) (Some (paused_kind w part why)) acted
-  acts_paused why other is A = subst (λ (y : Paused). ActsFor w after k (HasPaused part y) (Some (paused_kind w part y)) acted) (sym is) A
-
   after_by : (kind : Kind) (b : Bool) → (part.fresh == 0) ≡ b → after_steps part kind ≡ (if b then kind else Ran part.task part.fresh)
   after_by kind b e = ap (λ (c : Bool). if c then kind else Ran part.task part.fresh) e
 

@@ -1,5 +1,5 @@
 -- Parts that may take steps.
-use Rattle.turn_entries.proofs.Common.{◌≡◌, ℕ, None, ap, ◌∙◌, arith, LeafHeapValue, Moved, Private, Shared, WorkerPartFits, SharedValue, IsShared, FitsCopied, without_collection, IsPaused, MayRun}
+use Rattle.turn_entries.proofs.Common.{◌≡◌, ℕ, None, ap, sym, subst, ◌∙◌, arith, LeafHeapValue, Moved, Private, Shared, WorkerPartFits, SharedValue, IsShared, FitsCopied, without_collection, IsPaused, MayRun}
 
 module _ (w : SharedValue) (k : ℕ) (part : Private) where
   -- without fresh steps
@@ -8,6 +8,10 @@ module _ (w : SharedValue) (k : ℕ) (part : Private) where
 
   pub stands_shared : IsPaused w k part Shared → IsShared w part
   stands_shared P = record { last = P.next; few = P.may.few }
+
+-- the same if a call before it changed nothing
+pub still_paused : (w same : SharedValue) (k : ℕ) (p q : Private) → same ≡ w → q ≡ p → IsPaused w k p Shared → IsPaused same k q Shared
+still_paused w same k p q e part P = subst (λ (z : SharedValue). IsPaused z k q Shared) (sym e) (subst (λ (r : Private). IsPaused w k r Shared) (sym part) P)
 
 -- after an entry
 module _ (w : SharedValue) (k : ℕ) (old part : Private) where

@@ -1,5 +1,6 @@
 -- Values before and after a turn.
-use Rattle.turn_entries.proofs.Common.{◌≡◌, ℕ, ◌+◌, ◌++◌, ◌∷◌, [], ◌||◌, Bool, true, false, List, Option, Some, None, is_some, length, refl, ap, sym, subst, ◌∙◌, inl, inr, false≢true, or_right, EntryValue, Kind, Ran, Took, RunEnd, Shared, Private, Enters, refused, EachPartStillFits, WorkerPartFits, OthersFit, NotEntered, NoMemory, Refuses, IsSharedValue, SharedValue, accounts, running_parent, HoldsNone, IsUnchanged, SameButPlaces, none_of, TurnOutcome, Entered, Same, Next, Running, Forked, Resumed, Idle, Waits, Stop, Ready, Copied as IsCopied, Found, OutOfMemory, ActsFor, after_end, EndsHalted, ComesNext, Goes, WhyNone, going_kind, is_out_of_memory, BringsTo, next_after, EntersOne, NoEntryMade, is_over}
+use Rattle.turn_entries.proofs.Common.{◌≡◌, ℕ, ◌+◌, ◌++◌, ◌∷◌, [], ◌||◌, Bool, true, false, List, Option, Some, None, is_some, length, refl, ap, sym, subst, ◌∙◌, inl, inr, false≢true, EntryValue, Kind, Ran, Took, RunEnd, Shared, Private, Enters, refused, EachPartStillFits, WorkerPartFits, OthersFit, NotEntered, NoMemory, Refuses, IsSharedValue, SharedValue, accounts, running_parent, HoldsNone, IsUnchanged, SameButPlaces, none_of, TurnOutcome, Entered, Same, Next, Running, Forked, Resumed, Idle, Waits, Stop, Ready, Copied as IsCopied, Found, OutOfMemory, ActsFor, after_end, EndsHalted, ComesNext, Goes, WhyNone, is_out_of_memory, BringsTo, next_after, EntersOne, NoEntryMade, is_over, Acts, Result, Ok, Err, IfOk, IfErr, OnErr, EntersLeaving, RanTo, NotLeft, ComesNow}
+use Rattle.entry_calls.specs.declared.answers.Ran.{Ran as RanOf}
 use Rattle.turn_entries.specs.declared.between_turns.Next.TheVariants.{Collecting as Collects, Copied as HasCopied, Found as GoesFor}
 use Rattle.turn_entries.specs.declared.between_turns.Ready.TheVariants.{Paused as HasPaused}
 
@@ -7,9 +8,6 @@ use Rattle.turn_entries.specs.declared.between_turns.Ready.TheVariants.{Paused a
 
 pub unchanged : (w after : SharedValue) → after ≡ w → NoEntryMade w after
 unchanged w after e = record { journal = ap (λ (z : SharedValue). z.journal.items) e; program = ap (λ (z : SharedValue). z.program) e; settings = ap (λ (z : SharedValue). z.settings) e; all = λ k p f. subst (λ (z : SharedValue). WorkerPartFits z k p) (sym e) f }
-
-pub roomier : (w after : SharedValue) → after ≡ record w { journal = record { items = w.journal.items; room = after.journal.room } } → ((k : ℕ) (p : Private) → WorkerPartFits w k p → WorkerPartFits after k p) → NoEntryMade w after
-roomier w after e all = record { journal = ap (λ (z : SharedValue). z.journal.items) e; program = ap (λ (z : SharedValue). z.program) e; settings = ap (λ (z : SharedValue). z.settings) e; all = all }
 
 pub placed : (w after : SharedValue) → SameButPlaces w after → EachPartStillFits w after → NoEntryMade w after
 placed w after S all = record { journal = ap (λ (z : SharedValue). z.journal.items) S.rest; program = ap (λ (z : SharedValue). z.program) S.rest; settings = ap (λ (z : SharedValue). z.settings) S.rest; all = all }
@@ -79,9 +77,6 @@ both_none false (Some e) h = absurd (false≢true (sym h))
 pub going_on : (w : SharedValue) → is_over w ≡ false → (w.halted ≡ false) × ((accounts w).end ≡ None)
 going_on w on = both_none w.halted (accounts w).end on
 
-pub ended_over : (w : SharedValue) → is_some (accounts w).end ≡ true → is_over w ≡ true
-ended_over w h = or_right w.halted (is_some (accounts w).end) h
-
 -- after an entry that didn't end the run
 pub entered_goes : (w after : SharedValue) (k : ℕ) (ready : Ready) (kind : Kind) (next : Next) (ends : Bool) → IsSharedValue after → ends ≡ is_some (accounts after).end → ends ≡ false
     → EntersOne w after k kind → w.halted ≡ false → (Goes after → ComesNext w after k ready next) → ActsFor w after k ready (Some kind) (Entered next)
@@ -99,6 +94,17 @@ halts_with same after is all = λ w k ready kind none on.
     let halts : NoEntryMade same after = record { journal = ap (λ (z : SharedValue). z.journal.items) is; program = ap (λ (z : SharedValue). z.program) is; settings = ap (λ (z : SharedValue). z.settings) is; all = all } in
     (then_same w same none after halts, (ap is_over is, λ over. absurd (false≢true (sym on ∙ over))))
 
+-- ---- THE STEP THAT GIVES A PART UP
+
+module _ (w after : SharedValue) (k : ℕ) (part : Private) (left : Result RanOf NotLeft) (E : EntersLeaving w after k part left) where
+  pub left_to : (ran : RanOf) → left ≡ Ok ran → RanTo w after k part ran
+  left_to ran e = subst (λ (x : Result RanOf NotLeft). IfOk x (RanTo w after k part)) e E.answered
+
+  pub left_none : (failed : NotLeft) → left ≡ Err failed → NoEntryMade w after
+  left_none failed e =
+      unentered w after failed.cause (subst (λ (x : Result RanOf NotLeft). IfErr x (λ (f : NotLeft). IsUnchanged f.cause w after)) e E.same)
+      (subst (λ (x : Result RanOf NotLeft). OnErr x (EachPartStillFits w after)) e E.still)
+
 -- ---- THE SAME IF A CALL BEFORE IT CHANGED NOTHING
 
 pub acts_same : (w same after : SharedValue) (k : ℕ) (p q : Private) → same ≡ w → q ≡ p → (acted : TurnOutcome) → ActsFor same after k (HasPaused q Shared) (Some (Ran q.task (q.fresh + 1))) acted → ActsFor w after k (HasPaused p Shared) (Some (Ran p.task (p.fresh + 1))) acted
@@ -108,39 +114,39 @@ acts_same w same after k p q e part acted A =
 
 -- ---- THE SAME FROM THE VALUE BEFORE CAPACITY WAS RESERVED FOR AN ENTRY
 
-module _ (w : SharedValue) (after : SharedValue) (e : after ≡ record w { journal = record { items = w.journal.items; room = after.journal.room } }) (all : EachPartStillFits w after) (on : is_over w ≡ false) (k : ℕ) (ready : Ready) where
-  same_kind : going_kind w k ready ≡ going_kind after k ready
-  same_kind = sym (ap (λ (z : SharedValue). going_kind z k ready) e)
-
+module _ (w after : SharedValue) (k : ℕ) (ready : Ready) (kind : Option Kind) (C : ComesNow w after k ready kind) (S : NoEntryMade w after) where
   follows_then : (last : SharedValue) (next : Next) → ComesNext after last k ready next → ComesNext w last k ready next
   follows_then last (Running part) f = f
   follows_then last (Collects c) f = f
   follows_then last (HasCopied c) f = f
   follows_then last (GoesFor t) f = f
-  follows_then last (Forked left right) f = (f.0, f.1, f.2 ∙ ap (λ (z : SharedValue). length (accounts z).machine.tasks) e, f.3)
+  follows_then last (Forked left right) f = (f.0, f.1, f.2 ∙ ap (λ (z : SharedValue). length (accounts z).machine.tasks) C.same, f.3)
   follows_then last (Resumed t) f = f
   follows_then last Idle f = f
   follows_then last Waits f = f
   follows_then last Stop f = f
 
-  none_then : (last : SharedValue) (next : Next) → WhyNone after last k ready (going_kind after k ready) next → WhyNone w last k ready (going_kind w k ready) next
+  none_then : (last : SharedValue) (next : Next) → WhyNone after last k ready kind next → WhyNone w last k ready kind next
   none_then last (Running part) f = f
   none_then last (Collects c) f = f
   none_then last (HasCopied c) f = f
   none_then last (GoesFor t) f = f
   none_then last (Forked left right) f = f
   none_then last (Resumed t) f = f
-  none_then last Idle f = (f.0, f.1, same_kind ∙ f.2, ap (λ (z : SharedValue). is_some (refused z (record { worker = k; kind = Took f.1 }))) (sym e) ∙ f.3)
-  none_then last Waits f = (f.0, on, f.2, same_kind ∙ f.3)
-  none_then last Stop f = (f.0, λ over. absurd (false≢true (sym on ∙ over)))
+  none_then last Idle f = (f.0, f.1, f.2, ap (λ (z : SharedValue). is_some (refused z (record { worker = k; kind = Took f.1 }))) (sym C.same) ∙ f.3)
+  none_then last Waits f = (f.0, C.on, f.2, f.3)
+  none_then last Stop f = (f.0, λ over. absurd (false≢true (sym C.on ∙ over)))
 
-  pub acts_then : (last : SharedValue) (acted : TurnOutcome) → ActsFor after last k ready (going_kind after k ready) acted → ActsFor w last k ready (going_kind w k ready) acted
+  acts_then : (last : SharedValue) (acted : TurnOutcome) → ActsFor after last k ready kind acted → ActsFor w last k ready kind acted
   acts_then last (Entered next) A = record {
     made = A.made;
-    is_next = same_kind ∙ A.is_next;
-    enters = then_one w after (roomier w after e all) (ap (λ (z : SharedValue). z.halted) e) last k A.made A.enters;
+    is_next = A.is_next;
+    enters = then_one w after S (ap (λ (z : SharedValue). z.halted) C.same) last k A.made A.enters;
     shared = A.shared;
     on = A.on;
     follows = follows_then last next A.follows;
   }
-  acts_then last (Same next) A = (then_same w after (roomier w after e all) last A.0, none_then last next A.1)
+  acts_then last (Same next) A = (then_same w after S last A.0, none_then last next A.1)
+
+  pub acts_now : (last : SharedValue) (acted : TurnOutcome) → ActsFor after last k ready kind acted → Acts w last k ready acted
+  acts_now last acted A = subst (λ (o : Option Kind). ActsFor w last k ready o acted) (sym C.next) (acts_then last acted A)

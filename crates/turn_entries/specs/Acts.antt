@@ -1,6 +1,7 @@
 -- What a worker does in its turn.
-use Rattle.std.specs.Prelude.{◌≡◌, ◌⊎◌, ℕ, ◌+◌, true, false, Option, Some, None, is_some, length}
-use Rattle.turn_entries.specs.Common.{Kind, Took, Private, Shared, refused, EachPartStillFits, WorkerPartFits, IsSharedValue, SharedValue, accounts, running_parent, HoldsNone}
+use Rattle.std.specs.Prelude.{◌≡◌, ◌⊎◌, ℕ, ◌+◌, true, false, Option, Some, None, is_some, length, Result}
+use Rattle.entry_calls.specs.declared.answers.Ran.{Ran as RanOf}
+use Rattle.turn_entries.specs.Common.{Kind, Took, Ran, Private, Shared, refused, EachPartStillFits, WorkerPartFits, IsSharedValue, SharedValue, accounts, running_parent, HoldsNone, EntersLeaving, NotLeft}
 use Rattle.turn_entries.specs.declared.act.TurnOutcome.{TurnOutcome}
 use Rattle.turn_entries.specs.declared.act.TurnOutcome.TheVariants.{Entered, Same}
 use Rattle.turn_entries.specs.declared.between_turns.Next.{Next}
@@ -79,6 +80,12 @@ EndsEntered after next acted = (w : SharedValue) (k : ℕ) (ready : Ready) (kind
 -- none was made up to this value, and then an allocation failed
 abbrev pub EndsHalted : SharedValue → SharedValue → TurnOutcome → Type 0
 EndsHalted same after acted = (w : SharedValue) (k : ℕ) (ready : Ready) (kind : Option Kind) → NoEntryMade w same → is_over w ≡ false → ActsFor w after k ready kind acted
+
+-- the fresh steps of a part and its next one, which gives the part up, were committed with this result; or an
+-- allocation failed
+abbrev pub EndsLeft : SharedValue → SharedValue → Result RanOf NotLeft → TurnOutcome → Type 0
+EndsLeft then after left acted = (w : SharedValue) (k : ℕ) (part : Private) → EntersLeaving w then k part left → w.halted ≡ false → Goes w
+    → ActsFor w after k (HasPaused part Shared) (Some (Ran part.task (part.fresh + 1))) acted
 
 -- an entry was made by which each part still fits, and the worker goes on with what it brought
 abbrev pub EndsPaid : SharedValue → Ready → TurnOutcome → Type 0

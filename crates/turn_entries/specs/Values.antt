@@ -1,5 +1,5 @@
 -- The shared value in turns, as the turn sees it.
-use Rattle.std.specs.Prelude.{◌≡◌, ◌<◌, ℕ, ◌||◌, Bool, false, None, List, is_some}
+use Rattle.std.specs.Prelude.{◌≡◌, ◌<◌, ℕ, ◌||◌, Bool, true, false, None, List, is_some}
 use Rattle.std.specs.declared.snapshot.Snapshot.{Snapshot}
 use Rattle.turn_entries.specs.Common.{EntryValue, Kind, Owed, Private, first_cause, Enters, EachPartStillFits, WorkerPartFits, OthersFit, SharedValue, accounts, owed_by}
 use Rattle.turn_entries.specs.declared.run.Run.{Run}
@@ -31,6 +31,14 @@ pub record MayEnter (w : SharedValue) (k : ℕ) (owes : Owed) : Type 0 where
   pub on : w.halted ≡ false
   pub free : first_cause w.end w.steps w.settings k false ≡ None
   pub owed : owed_by w k ≡ owes
+
+-- worker k may end the run, for which there is capacity, since the fuel is used up
+pub record MayEnd (w : SharedValue) (k : ℕ) : Type 0 where
+  pub room : 0 < w.journal.room
+  pub worker : k < w.settings.workers
+  pub goes : (accounts w).end ≡ None
+  pub on : w.halted ≡ false
+  pub spent : is_some (first_cause w.end w.steps w.settings k false) ≡ true
 
 -- no entry was made, and all on which workers depend is the same
 pub record NoEntryMade (w after : SharedValue) : Type 0 where

@@ -1,13 +1,11 @@
 //! What a worker does with the shared value in its turn: at most one entry.
-ghost use Rattle.std.specs.Prelude.{◌≡◌, ◌<◌, None, false};
-ghost use Rattle.entry_calls.specs.below.core_invariant.{accounts};
-ghost use Rattle.turn_entries.specs.Acts.{Acts, ActsFor, EndsEntered, EndsHalted};
-ghost use Rattle.turn_entries.specs.Next.{going_kind, is_out_of_memory};
+ghost use Rattle.std.specs.Prelude.{◌≡◌, ◌<◌};
+ghost use Rattle.turn_entries.specs.Acts.{Acts, EndsEntered, EndsHalted};
 ghost use Rattle.turn_entries.specs.Parts.{BringsTo};
 
 use crate::between_turns::{Next, Ready};
 use crate::run::Run;
-use entry_calls::{BlockSource, EntryCalls, NotEntered, Owed};
+use entry_calls::{BlockSource, EntryCalls, NotEntered, Paused};
 
 /// The outcome of a turn, and how the worker goes on after it.
 #[derive(Drop)]
@@ -55,29 +53,6 @@ impl<P: EntryCalls + Drop> Run<P> {
         }
     }
 
-    // Makes the entry that comes next.
-    fn act_on(&mut self, blocks: &mut BlockSource, worker: u32, ready: Ready) -> TurnOutcome
-        requires room { 0 < (P.value self.old.paced).journal.room }
-        requires worker { worker < (P.value self.old.paced).settings.workers }
-        requires goes { (accounts (P.value self.old.paced)).end ≡ None }
-        requires on { (P.value self.old.paced).halted ≡ false }
-        requires met { is_out_of_memory ready ≡ false }
-        requires brings { BringsTo (P.value self.old.paced) worker ready }
-        ensures { ActsFor (P.value self.old.paced) (P.value self.new.paced) worker ready (going_kind (P.value self.old.paced) worker ready) result }
-    {
-        self.paced.stands();
-        if self.paced.refused_first(worker).is_some() {
-            drop(ready);
-            return self.end_for_fuel(worker);
-        }
-        match self.paced.owed(worker) {
-            Owed::Nothing => self.enter(blocks, worker, ready),
-            Owed::Mark(task) => self.pay_mark(worker, ready, task),
-            Owed::More(task) => self.pay_more(worker, ready, task),
-            Owed::Sweep(task) => self.pay_sweep(worker, ready, task),
-        }
-    }
-
     /// What the worker does in its turn: if the run isn't over it ends it without fuel, or makes the entry that it
     /// owes, or otherwise the one that it came for. The part of a task that it takes, and the new chunks of a collection
     /// that begins, get blocks.
@@ -86,20 +61,23 @@ impl<P: EntryCalls + Drop> Run<P> {
         requires brings { BringsTo (P.value self.old.paced) worker ready }
         ensures { Acts (P.value self.old.paced) (P.value self.new.paced) worker ready result }
     {
-        if !self.goes_on() {
-            drop(ready);
-            return TurnOutcome::Same(Next::Stop);
+        if let Some(first) = self.comes_first(worker, &ready) {
+            return self.act_first(worker, ready, first);
         }
-        if ready.is_out_of_memory() {
-            drop(ready);
-            return self.halted();
-        }
-        match self.paced.reserve() {
-            Ok(()) => self.act_on(blocks, worker, ready),
-            Err(_) => {
-                drop(ready);
-                self.halted()
-            }
+        self.paced.stands();
+        match ready {
+            Ready::Paused(part, why) => match why {
+                Paused::Shared => self.enter_shared(blocks, worker, part),
+                Paused::Spent => self.enter_private(worker, part),
+                Paused::Due => self.enter_due(blocks, worker, part),
+                Paused::NeedChunk => self.enter_need(worker, part),
+            },
+            Ready::Copied(copied) => self.end_leaf(worker, copied),
+            Ready::Found(found) => match found {
+                Some(task) => self.take_task(blocks, worker, task),
+                None => TurnOutcome::Same(Next::Waits),
+            },
+            Ready::OutOfMemory => unreachable!(),
         }
     }
 }

@@ -4,6 +4,7 @@
 
 mod act;
 mod between_turns;
+mod first;
 mod leaf;
 mod pay;
 mod run;

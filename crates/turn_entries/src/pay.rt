@@ -1,12 +1,12 @@
 //! The entries that a worker owes to the collections of waiting tasks' heaps, and the end without fuel.
-ghost use Rattle.std.specs.Prelude.{◌≡◌, ◌<◌, Some, None, is_some, true, false};
+ghost use Rattle.std.specs.Prelude.{◌≡◌, Some, false};
 ghost use Rattle.entry_calls.specs.below.run_trace.{Kind as KindOf};
 ghost use Rattle.entry_calls.specs.below.run_ledger.{Owed as OwedOf, heap_of, sweep_number, marked_at_once};
-ghost use Rattle.entry_calls.specs.below.core_invariant.{first_cause, accounts};
+ghost use Rattle.entry_calls.specs.below.core_invariant.{accounts};
 ghost use Rattle.turn_entries.specs.Acts.{ActsAnyhow, ActsFor, EndsPaid};
 ghost use Rattle.turn_entries.specs.Next.{is_out_of_memory};
 ghost use Rattle.turn_entries.specs.Parts.{next_after, BringsTo};
-ghost use Rattle.turn_entries.specs.Values.{MayEnter};
+ghost use Rattle.turn_entries.specs.Values.{MayEnd, MayEnter};
 
 use crate::act::TurnOutcome;
 use crate::between_turns::{Next, Ready};
@@ -80,11 +80,7 @@ impl<P: EntryCalls + Drop> Run<P> {
 
     /// The run ends without fuel.
     pub(crate) fn end_for_fuel(&mut self, worker: u32) -> TurnOutcome
-        requires room { 0 < (P.value self.old.paced).journal.room }
-        requires worker { worker < (P.value self.old.paced).settings.workers }
-        requires goes { (accounts (P.value self.old.paced)).end ≡ None }
-        requires on { (P.value self.old.paced).halted ≡ false }
-        requires spent { is_some (first_cause (P.value self.old.paced).end (P.value self.old.paced).steps (P.value self.old.paced).settings worker false) ≡ true }
+        requires end { MayEnd (P.value self.old.paced) worker }
         ensures { ActsAnyhow (P.value self.old.paced) (P.value self.new.paced) worker KindOf.Fuel result }
     {
         self.paced.stands();

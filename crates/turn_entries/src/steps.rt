@@ -1,17 +1,17 @@
 //! The entries for which a worker comes.
-ghost use Rattle.std.specs.Prelude.{◌≡◌, ◌+◌, ◌<◌, Some, false};
+ghost use Rattle.std.specs.Prelude.{◌≡◌, ◌+◌, ◌<◌, Some, None};
 ghost use Rattle.entry_calls.specs.below.run_trace.{Kind as KindOf};
 ghost use Rattle.entry_calls.specs.below.run_ledger.{Owed as OwedOf};
-ghost use Rattle.entry_calls.specs.Ran.{LeavesBy};
-ghost use Rattle.turn_entries.specs.Acts.{after_end, ActsAnyhow, ActsFor};
-ghost use Rattle.turn_entries.specs.Next.{after_steps, brought_kind, due_kind, is_out_of_memory};
-ghost use Rattle.turn_entries.specs.Parts.{BringsTo, IsPaused, MayRun};
+ghost use Rattle.entry_calls.specs.Ends.{LeavingAnswers};
+ghost use Rattle.turn_entries.specs.Acts.{after_end, ActsAnyhow, ActsFor, EndsLeft};
+ghost use Rattle.turn_entries.specs.Next.{after_steps, due_kind};
+ghost use Rattle.turn_entries.specs.Parts.{IsPaused, MayRun};
 ghost use Rattle.turn_entries.specs.Values.{MayEnter};
 
 use crate::act::TurnOutcome;
 use crate::between_turns::{Next, Ready};
 use crate::run::Run;
-use entry_calls::{BlockSource, EntryCalls, Leaving, Lent, PartInBlock, Paused, Ran};
+use entry_calls::{BlockSource, EntryCalls, Lent, NotLeft, PartInBlock, Paused, Ran};
 
 // How a worker goes on whose task has ended.
 fn after_end(resumed: Option<u32>) -> Next
@@ -25,7 +25,12 @@ fn after_end(resumed: Option<u32>) -> Next
 
 impl<P: EntryCalls + Drop> Run<P> {
     // The worker takes a task that it has found, given memory for a block.
-    fn take_task(&mut self, blocks: &mut BlockSource, worker: u32, task: u32) -> TurnOutcome
+    pub(crate) fn take_task(
+        &mut self,
+        blocks: &mut BlockSource,
+        worker: u32,
+        task: u32,
+    ) -> TurnOutcome
         requires enter { MayEnter (P.value self.old.paced) worker OwedOf.Nothing }
         ensures { ActsAnyhow (P.value self.old.paced) (P.value self.new.paced) worker (KindOf.Took task) result }
     {
@@ -39,7 +44,7 @@ impl<P: EntryCalls + Drop> Run<P> {
     }
 
     // The fresh steps of the part are committed.
-    fn enter_private(&mut self, worker: u32, part: PartInBlock) -> TurnOutcome
+    pub(crate) fn enter_private(&mut self, worker: u32, part: PartInBlock) -> TurnOutcome
         requires enter { MayEnter (P.value self.old.paced) worker OwedOf.Nothing }
         requires may { MayRun (P.value self.old.paced) worker part }
         requires fresh { 0 < part.fresh }
@@ -53,33 +58,9 @@ impl<P: EntryCalls + Drop> Run<P> {
         }
     }
 
-    // Commits the fresh steps of the part together with its next one, which gives the part up in this way: its block is
-    // kept for the next one.
-    fn enter_leaving(
-        &mut self,
-        blocks: &mut BlockSource,
-        worker: u32,
-        part: PartInBlock,
-        leaving: Leaving,
-    ) -> TurnOutcome
-        requires enter { MayEnter (P.value self.old.paced) worker OwedOf.Nothing }
-        requires paused { IsPaused (P.value self.old.paced) worker part Paused.Shared }
-        requires leaves { LeavesBy (P.value self.old.paced) part leaving }
-        ensures { ActsFor (P.value self.old.paced) (P.value self.new.paced) worker (Ready.Paused part Paused.Shared) (Some (KindOf.Ran part.task (part.fresh + 1))) result }
-    {
-        self.paced.stands();
-        match self.paced.ran_leaving(blocks, worker, part, leaving) {
-            Ok(Ran::Forked { left, right }) => self.entered(Next::Forked { left, right }),
-            Ok(Ran::Ended { resumed }) => self.entered(after_end(resumed)),
-            Ok(Ran::Over(_)) => self.entered(Next::Stop),
-            Ok(Ran::Done) => self.entered(Next::Stop),
-            Err(failed) => self.out_of_memory(failed.cause),
-        }
-    }
-
     // Commits the fresh steps of the part with its next one, which isn't private. The part stays in its block, unless
-    // that step gives it up.
-    fn enter_shared(
+    // that step gives it up: then the block is kept for the next one.
+    pub(crate) fn enter_shared(
         &mut self,
         blocks: &mut BlockSource,
         worker: u32,
@@ -94,8 +75,30 @@ impl<P: EntryCalls + Drop> Run<P> {
         match self.paced.ran_lent(worker, part.get_mut()) {
             Ok(Lent::Goes) => self.entered(Next::Running(part)),
             Ok(Lent::Over) => self.entered(Next::Stop),
-            Ok(Lent::Leaves(leaving)) => self.enter_leaving(blocks, worker, part, leaving),
+            Ok(Lent::Leaves(leaving)) => {
+                let left = self.paced.ran_leaving(blocks, worker, part, leaving);
+                self.after_leaving(left)
+            }
             Err(cause) => self.out_of_memory(cause),
+        }
+    }
+
+    // How the worker goes on after the step that gave its part up, or after a failed allocation.
+    fn after_leaving(&mut self, left: Result<Ran, NotLeft>) -> TurnOutcome
+        requires memory { LeavingAnswers left None }
+        ensures { EndsLeft (P.value self.old.paced) (P.value self.new.paced) left result }
+    {
+        match left {
+            Ok(ran) => match ran {
+                Ran::Forked { left, right } => self.entered(Next::Forked { left, right }),
+                Ran::Ended { resumed } => self.entered(after_end(resumed)),
+                Ran::Over(part) => {
+                    drop(part);
+                    self.entered(Next::Stop)
+                }
+                Ran::Done => self.entered(Next::Stop),
+            },
+            Err(failed) => self.out_of_memory(failed.cause),
         }
     }
 
@@ -115,7 +118,7 @@ impl<P: EntryCalls + Drop> Run<P> {
     }
 
     // The part gets a chunk, after its fresh steps.
-    fn enter_need(&mut self, worker: u32, part: PartInBlock) -> TurnOutcome
+    pub(crate) fn enter_need(&mut self, worker: u32, part: PartInBlock) -> TurnOutcome
         requires enter { MayEnter (P.value self.old.paced) worker OwedOf.Nothing }
         requires paused { IsPaused (P.value self.old.paced) worker part Paused.NeedChunk }
         ensures { ActsAnyhow (P.value self.old.paced) (P.value self.new.paced) worker (after_steps part (KindOf.Chunk part.task)) result }
@@ -128,7 +131,12 @@ impl<P: EntryCalls + Drop> Run<P> {
     }
 
     // The due collection of the part begins or is put off, after its fresh steps.
-    fn enter_due(&mut self, blocks: &mut BlockSource, worker: u32, part: PartInBlock) -> TurnOutcome
+    pub(crate) fn enter_due(
+        &mut self,
+        blocks: &mut BlockSource,
+        worker: u32,
+        part: PartInBlock,
+    ) -> TurnOutcome
         requires enter { MayEnter (P.value self.old.paced) worker OwedOf.Nothing }
         requires paused { IsPaused (P.value self.old.paced) worker part Paused.Due }
         ensures { ActsAnyhow (P.value self.old.paced) (P.value self.new.paced) worker (after_steps part (due_kind (P.value self.old.paced) part.task)) result }
@@ -137,35 +145,6 @@ impl<P: EntryCalls + Drop> Run<P> {
             self.enter_private(worker, part)
         } else {
             self.collect(blocks, worker, part)
-        }
-    }
-
-    /// The entry for which the worker comes, if it owes none.
-    pub(crate) fn enter(
-        &mut self,
-        blocks: &mut BlockSource,
-        worker: u32,
-        ready: Ready,
-    ) -> TurnOutcome
-        requires enter { MayEnter (P.value self.old.paced) worker OwedOf.Nothing }
-        requires met { is_out_of_memory ready ≡ false }
-        requires brings { BringsTo (P.value self.old.paced) worker ready }
-        ensures { ActsFor (P.value self.old.paced) (P.value self.new.paced) worker ready (brought_kind (P.value self.old.paced) ready) result }
-    {
-        self.paced.stands();
-        match ready {
-            Ready::Paused(part, why) => match why {
-                Paused::Shared => self.enter_shared(blocks, worker, part),
-                Paused::Spent => self.enter_private(worker, part),
-                Paused::Due => self.enter_due(blocks, worker, part),
-                Paused::NeedChunk => self.enter_need(worker, part),
-            },
-            Ready::Copied(copied) => self.end_leaf(worker, copied),
-            Ready::Found(found) => match found {
-                Some(task) => self.take_task(blocks, worker, task),
-                None => TurnOutcome::Same(Next::Waits),
-            },
-            Ready::OutOfMemory => unreachable!(),
         }
     }
 }

@@ -1,7 +1,7 @@
-use Rattle.turn_entries.proofs.Common.{◌≡◌, ℕ, ◌+◌, Option, Some, ap, sym, subst, ◌∙◌, is_some, Kind, Ran, Nothing, RunEnd, Private, Shared, IsCaused, refused, WorkerPartFits, SharedValue, GoesAlone, HaltsAlone, IsShared, alone_entry, alone_free, LeavesBy, LeavesPart, LentTo, IsPaused, MayEnter}
+use Rattle.turn_entries.proofs.Common.{ℕ, ◌+◌, Option, Some, ap, sym, subst, ◌∙◌, is_some, Kind, Ran, Nothing, RunEnd, Private, Shared, IsCaused, IsSharedValue, refused, WorkerPartFits, SharedValue, GoesAlone, HaltsAlone, IsShared, alone_entry, alone_free, LeavesPart, LentTo, IsPaused, MayEnter}
 use Rattle.turn_entries.specs.declared.between_turns.Ready.TheVariants.{Paused as HasPaused}
 use Rattle.turn_entries.proofs.Free.{only_memory}
-use Rattle.turn_entries.proofs.Going.{may_alone, stands_shared}
+use Rattle.turn_entries.proofs.Going.{may_alone, stands_shared, still_paused}
 use Rattle.turn_entries.proofs.Paying.{pays_nothing}
 use Rattle.turn_entries.proofs.Turning.{acts_same, not_over, one, unentered}
 use Rattle.turn_entries.proofs.run.Run.enter_shared.Goals as goal
@@ -44,36 +44,51 @@ returns-in-Ok-Over g c =
     c.entered-in-Ok-Over.ensures (g.P.EntryCalls.value c.args.self.now.paced) k (HasPaused p Shared) kind (one w v k kind b.enters b.others) c.requires.enter.on
     (λ on. ap (λ (o : Option RunEnd). is_some o) b.halts.1)
 
-pub enter_leaving-requires-clause-enter : goal.enter_leaving-requires-clause-enter
-enter_leaving-requires-clause-enter g c =
+pub ran_leaving-left-requires-clause-fits : goal.ran_leaving-left-requires-clause-fits
+ran_leaving-left-requires-clause-fits g c =
     let w : SharedValue = (g.P.EntryCalls.value c.args.self.now.paced) in
     let v : SharedValue = (g.P.EntryCalls.value c.ran_lent.new.self) in
     let k : ℕ = c.args.worker in
     let p : Private = c.args.part in
     let q : Private = c.ran_lent.new.part in
     let a : LeavesPart w v c.get_mut.result.now q c.in-Ok-Leaves.leaving = subst (LentTo w v k c.get_mut.result.now q) c.in-Ok-Leaves.field-0-is c.in-Ok-Leaves.ensures.answered in
-    let part : q ≡ p = a.part ∙ c.get_mut.ensures.value in
-    subst (λ (z : SharedValue). MayEnter z k Nothing) (sym a.same) c.requires.enter
+    let P : IsPaused v k q Shared = still_paused w v k p q a.same (a.part ∙ c.get_mut.ensures.value) c.requires.paused in
+    P.may.fits
 
-pub enter_leaving-requires-clause-paused : goal.enter_leaving-requires-clause-paused
-enter_leaving-requires-clause-paused g c =
+pub ran_leaving-left-requires-clause-shared : goal.ran_leaving-left-requires-clause-shared
+ran_leaving-left-requires-clause-shared g c =
     let w : SharedValue = (g.P.EntryCalls.value c.args.self.now.paced) in
     let v : SharedValue = (g.P.EntryCalls.value c.ran_lent.new.self) in
     let k : ℕ = c.args.worker in
     let p : Private = c.args.part in
     let q : Private = c.ran_lent.new.part in
     let a : LeavesPart w v c.get_mut.result.now q c.in-Ok-Leaves.leaving = subst (LentTo w v k c.get_mut.result.now q) c.in-Ok-Leaves.field-0-is c.in-Ok-Leaves.ensures.answered in
-    let part : q ≡ p = a.part ∙ c.get_mut.ensures.value in
-    subst (λ (z : SharedValue). IsPaused z k q Shared) (sym a.same) (subst (λ (r : Private). IsPaused w k r Shared) (sym part) c.requires.paused)
+    let P : IsPaused v k q Shared = still_paused w v k p q a.same (a.part ∙ c.get_mut.ensures.value) c.requires.paused in
+    stands_shared v k q P
 
-pub enter_leaving-requires-clause-leaves : goal.enter_leaving-requires-clause-leaves
-enter_leaving-requires-clause-leaves g c =
+pub ran_leaving-left-requires-clause-free : goal.ran_leaving-left-requires-clause-free
+ran_leaving-left-requires-clause-free g c =
     let w : SharedValue = (g.P.EntryCalls.value c.args.self.now.paced) in
     let v : SharedValue = (g.P.EntryCalls.value c.ran_lent.new.self) in
     let k : ℕ = c.args.worker in
+    let p : Private = c.args.part in
     let q : Private = c.ran_lent.new.part in
     let a : LeavesPart w v c.get_mut.result.now q c.in-Ok-Leaves.leaving = subst (LentTo w v k c.get_mut.result.now q) c.in-Ok-Leaves.field-0-is c.in-Ok-Leaves.ensures.answered in
-    subst (λ (z : SharedValue). LeavesBy z q c.in-Ok-Leaves.leaving) (sym a.same) (subst (λ (r : Private). LeavesBy w r c.in-Ok-Leaves.leaving) (sym a.part) a.leaves)
+    let P : IsPaused v k q Shared = still_paused w v k p q a.same (a.part ∙ c.get_mut.ensures.value) c.requires.paused in
+    let I : IsSharedValue v = subst IsSharedValue (sym a.same) c.stands.ensures.stands in
+    let E : MayEnter v k Nothing = subst (λ (z : SharedValue). MayEnter z k Nothing) (sym a.same) c.requires.enter in
+    alone_free v k q I P.may.fits (stands_shared v k q P) P.may.idle E.free
+
+pub ran_leaving-left-requires-clause-pays : goal.ran_leaving-left-requires-clause-pays
+ran_leaving-left-requires-clause-pays g c =
+    let w : SharedValue = (g.P.EntryCalls.value c.args.self.now.paced) in
+    let v : SharedValue = (g.P.EntryCalls.value c.ran_lent.new.self) in
+    let k : ℕ = c.args.worker in
+    let p : Private = c.args.part in
+    let q : Private = c.ran_lent.new.part in
+    let a : LeavesPart w v c.get_mut.result.now q c.in-Ok-Leaves.leaving = subst (LentTo w v k c.get_mut.result.now q) c.in-Ok-Leaves.field-0-is c.in-Ok-Leaves.ensures.answered in
+    let E : MayEnter v k Nothing = subst (λ (z : SharedValue). MayEnter z k Nothing) (sym a.same) c.requires.enter in
+    pays_nothing v k (Ran q.task (q.fresh + 1)) E.owed
 
 pub returns-in-Ok-Leaves : goal.returns-in-Ok-Leaves
 returns-in-Ok-Leaves g c =
@@ -83,8 +98,8 @@ returns-in-Ok-Leaves g c =
     let p : Private = c.args.part in
     let q : Private = c.ran_lent.new.part in
     let a : LeavesPart w v c.get_mut.result.now q c.in-Ok-Leaves.leaving = subst (LentTo w v k c.get_mut.result.now q) c.in-Ok-Leaves.field-0-is c.in-Ok-Leaves.ensures.answered in
-    let part : q ≡ p = a.part ∙ c.get_mut.ensures.value in
-    acts_same w v (g.P.EntryCalls.value c.enter_leaving.new.self.paced) k p q a.same part c.enter_leaving.result c.enter_leaving.ensures
+    let E : MayEnter v k Nothing = subst (λ (z : SharedValue). MayEnter z k Nothing) (sym a.same) c.requires.enter in
+    acts_same w v (g.P.EntryCalls.value c.after_leaving.new.self.paced) k p q a.same (a.part ∙ c.get_mut.ensures.value) c.after_leaving.result (c.after_leaving.ensures v k q c.ran_leaving-left.ensures E.on E.goes)
 
 pub out_of_memory-requires : goal.out_of_memory-requires
 out_of_memory-requires g c = record {
