@@ -17,4 +17,5 @@ pub use ends::{line_end, next_line};
 pub use laws::{lines_are_read_again, lines_are_within_limits};
 pub use letter::begins_with;
 pub use line::{Access, AccessKind, Act, LogLine, LogPlace, Reference};
+pub use number::read_number;
 pub use read::read_line;

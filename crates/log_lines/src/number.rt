@@ -46,7 +46,7 @@ fn has_leading_zero(word: &[u8]) -> bool
 }
 
 /// The number that a word writes, if it writes one.
-pub(crate) fn read_number(word: &[u8]) -> Option<u64>
+pub fn read_number(word: &[u8]) -> Option<u64>
     ensures number { result ≡ numeral_value word.now }
     ensures below { IfSome result IsLogNumber }
 {

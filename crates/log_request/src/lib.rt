@@ -1,7 +1,6 @@
 // What a call of the program that checks logs asks for.
 #![tactic(auto)]
 
-mod number;
 mod options;
 mod view;
 mod words;

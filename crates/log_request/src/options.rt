@@ -4,8 +4,8 @@ ghost use Rattle.std.specs.Prelude.{◌≡◌, ◌++◌, ◌∷◌, ◌≤◌, [
 ghost use Rattle.std.specs.Str.{bytes_eq};
 ghost use Rattle.log_request.specs.Options.{no_options, with_all, with_json, with_heaps, with_blocks, flag_at, number_at, option_at, leading, is_due};
 
-use crate::number::read_number;
 use crate::view::{LogView, ReportForm};
+use log_lines::read_number;
 use log_report::Detail;
 use plain_vec::Listed;
 use std::alloc::{AllocError, Global};
