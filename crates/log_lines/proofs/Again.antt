@@ -1,5 +1,5 @@
 -- A line that is written is read again.
-use Rattle.log_lines.proofs.Common.{◌≡◌, ◌<◌, ◌≤◌, ◌+◌, ◌*◌, ◌^◌, ◌==◌, ℕ, zero, suc, Bool, true, false, not, List, [], ◌∷◌, ◌++◌, length, get_or, cond, arith, refl, ap, sym, ◌∙◌, Option, Some, None, Result, Ok, Err, nat_lt, nat_le, inl, inr, ◌&&◌, codes, digit_value, is_ascii_digit, decimal, All, AllByRecursion, slice_split, all_ascii_digits, AllDigits, digits_value, cases_lt, nat_tests, decimal_is_IsNumeral, decimal_digit, decimal_nonempty, length-decimal-le, first_decimal, mul_comm, le-mul_of_pos_right, All-from_recursion, slice_split_at, slice_split_none, LogCause, LogPlace, AccessKind, Access, Reference, Act, LogLine, is_space, words_of, has_length, has_leading_zero, digits_number, numeral_value, is_site, site_at, IsLogNumber, IsLogPlace, IsSite, IsAccess, IsLogReference, IsAct, IsLine, access_limit, location_limit, place_end, is_small, place_at, act_of_access, reference_of, line_of_words, line_of, spaced, site_words, place_words, reference_words, access_word, act_words, line_words, line_bytes}
+use Rattle.log_lines.proofs.Common.{◌≡◌, ◌<◌, ◌≤◌, ◌*◌, ◌^◌, ◌==◌, ℕ, true, false, List, [], ◌∷◌, length, get_or, arith, refl, ap, ◌∙◌, Option, Some, None, Ok, nat_lt, nat_le, inl, inr, codes, digit_value, is_ascii_digit, decimal, All, AllByRecursion, all_ascii_digits, AllDigits, cases_lt, nat_tests, decimal_is_IsNumeral, decimal_digit, decimal_nonempty, length-decimal-le, first_decimal, mul_comm, le-mul_of_pos_right, All-from_recursion, slice_split_at, slice_split_none, join_with_byte, LogPlace, AccessKind, Access, Reference, Act, LogLine, is_space, words_of, has_length, has_leading_zero, digits_number, numeral_value, is_site, site_at, IsLogNumber, IsLogPlace, IsSite, IsAccess, IsLogReference, IsAct, IsLine, access_limit, location_limit, place_end, is_small, place_at, act_of_access, reference_of, line_of_words, line_of, site_words, place_words, reference_words, access_word, act_words, line_bytes}
 use Rattle.log_lines.proofs.Within.{one_below}
 use Rattle.log_lines.specs.declared.line.AccessKind.TheVariants as kinds
 use Rattle.log_lines.specs.declared.line.Act.TheVariants as acts
@@ -66,9 +66,9 @@ clear_all w h = All-from_recursion (λ c. is_space c ≡ false) w (along w h)
     along [] g = tt
     along (c ∷ cs) g = (g.0, along cs g.1)
 
-words_spaced : (w : List ℕ) (ws : List (List ℕ)) → IsClear w → AreClear ws → words_of (spaced (w ∷ ws)) ≡ w ∷ ws
+words_spaced : (w : List ℕ) (ws : List (List ℕ)) → IsClear w → AreClear ws → words_of (join_with_byte 32 (w ∷ ws)) ≡ w ∷ ws
 words_spaced w [] h g = slice_split_none is_space w (clear_all w h)
-words_spaced w (v ∷ ws) h g = slice_split_at is_space w 32 (spaced (v ∷ ws)) (clear_all w h) refl ∙ ap (λ rs. w ∷ rs) (words_spaced v ws g.0 g.1)
+words_spaced w (v ∷ ws) h g = slice_split_at is_space w 32 (join_with_byte 32 (v ∷ ws)) (clear_all w h) refl ∙ ap (λ rs. w ∷ rs) (words_spaced v ws g.0 g.1)
 
 clear_digit : (c : ℕ) → digit_value c < 10 → is_space c ≡ false
 clear_digit c h = grind (arith, nat_tests, h)
@@ -81,7 +81,7 @@ clear : (n : ℕ) → IsLogNumber n → IsClear (decimal n)
 clear n h = clear_digits (decimal n) (decimal_is_IsNumeral n (wide n h)).0.1
 
 -- a line whose first word begins with no number sign says what its words say
-as_words : (c : ℕ) (cs : List ℕ) (ws : List (List ℕ)) → (c == 35) ≡ false → IsClear (c ∷ cs) → AreClear ws → line_of (spaced ((c ∷ cs) ∷ ws)) ≡ line_of_words ((c ∷ cs) ∷ ws)
+as_words : (c : ℕ) (cs : List ℕ) (ws : List (List ℕ)) → (c == 35) ≡ false → IsClear (c ∷ cs) → AreClear ws → line_of (join_with_byte 32 ((c ∷ cs) ∷ ws)) ≡ line_of_words ((c ∷ cs) ∷ ws)
 as_words c cs [] e h g = rw e (ap line_of_words (words_spaced (c ∷ cs) [] h g))
 as_words c cs (v ∷ ws) e h g = rw e (ap line_of_words (words_spaced (c ∷ cs) (v ∷ ws) h g))
 
@@ -128,7 +128,7 @@ clear_place p ws h g =
 access_operands : (a : Access) → IsAccess a → act_of_access a.kind (place_words a.place (site_words a.site)) ≡ Ok (acts.Access a)
 access_operands a h = rw (place_again a.place (site_words a.site) h.place, site_again a.site h.site) refl
 
-access_by : (kind : AccessKind) (ws : List (List ℕ)) → AreClear ws → line_of (spaced (access_word kind ∷ ws)) ≡ line_of_words (access_word kind ∷ ws)
+access_by : (kind : AccessKind) (ws : List (List ℕ)) → AreClear ws → line_of (join_with_byte 32 (access_word kind ∷ ws)) ≡ line_of_words (access_word kind ∷ ws)
 access_by kinds.Read ws g = as_words 114 [] ws refl (refl, tt) g
 access_by kinds.Write ws g = as_words 119 [] ws refl (refl, tt) g
 access_by kinds.AtomicRead ws g = as_words 82 [] ws refl (refl, tt) g
@@ -155,7 +155,7 @@ task_passes t h = grind (arith, nat_tests, h)
 strand_passes : (s : ℕ) → s < 2 ^ 31 → nat_lt s (2 ^ 31) ≡ true
 strand_passes s h = grind (arith, nat_tests, h)
 
-act_again : (act : Act) → IsAct act → line_of (spaced (act_words act)) ≡ Ok (lines.Act act)
+act_again : (act : Act) → IsAct act → line_of (join_with_byte 32 (act_words act)) ≡ Ok (lines.Act act)
 act_again (acts.Access a) h =
     access_by a.kind (place_words a.place (site_words a.site)) (clear_place a.place (site_words a.site) h.place (clear_site a.site h.site))
     ∙ access_said a.kind (place_words a.place (site_words a.site)) (acts.Access a) (access_operands a h)

@@ -4,7 +4,7 @@ pub use Rattle.log_lines.specs.Letters.{is_among, begins_with, letter_of_kind, l
 pub use Rattle.log_lines.specs.Limits.{IsLogNumber, IsLogPlace, IsSite, IsAccess, IsLogReference, IsAct, IsLine, access_limit, location_limit, place_end, task_limit, strand_limit}
 pub use Rattle.log_lines.specs.Rest.{operands}
 pub use Rattle.log_lines.specs.Words.{is_space, words_of, has_length, has_leading_zero, digits_number, numeral_value, is_site, site_at, has_word, ◌>>=◌, or_bad, number_at, nothing_left, goes_on}
-pub use Rattle.log_lines.specs.Writing.{spaced, site_words, place_words, reference_words, access_word, act_words, line_words, line_bytes}
+pub use Rattle.log_lines.specs.Writing.{site_words, place_words, reference_words, access_word, act_words, line_words, line_bytes}
 pub use Rattle.log_lines.specs.declared.cause.LogCause.{LogCause}
 pub use Rattle.log_lines.specs.declared.line.Access.{Access}
 pub use Rattle.log_lines.specs.declared.line.AccessKind.{AccessKind}
@@ -26,7 +26,7 @@ pub use Rattle.std.proofs.lemmas.List.Elements.{All-from_recursion}
 pub use Rattle.std.proofs.lemmas.List.Splits.{slice_split_at, slice_split_none, slice_split_first}
 pub use Rattle.std.specs.Char.{digit_value, is_ascii_digit}
 pub use Rattle.std.specs.Fmt.{decimal}
-pub use Rattle.std.specs.List.{All, AllByRecursion, slice_split, onto_first, position_or_len}
+pub use Rattle.std.specs.List.{All, AllByRecursion, slice_split, onto_first, position_or_len, join_with_byte}
 pub use Rattle.std.specs.Prelude.{◌&&◌, ◌||◌, codes, slice_index}
 pub use Rattle.std.specs.Str.{all_ascii_digits, bytes_eq}
 pub use Rattle.std.specs.Str.Parse.{AllDigits, digits_value, digits_value_after}

@@ -1,5 +1,5 @@
 -- Digits read one after another.
-use Rattle.log_lines.proofs.Common.{◌≡◌, ◌<◌, ◌≤◌, ◌+◌, ◌*◌, ◌-◌, ◌^◌, ◌==◌, ℕ, zero, suc, Bool, true, false, List, [], ◌∷◌, length, take, drop, drop-cons, get_or, arith, refl, ap, sym, ◌∙◌, cond, Option, Some, None, digit_value, is_ascii_digit, all_ascii_digits, digits_value_after, digits_value, drop_all, nat_tests, pow_more, pow-le-pow_right, digits_number}
+use Rattle.log_lines.proofs.Common.{◌≡◌, ◌<◌, ◌≤◌, ◌+◌, ◌*◌, ◌-◌, ◌^◌, ℕ, suc, true, false, List, ◌∷◌, length, drop, drop-cons, get_or, arith, refl, ap, sym, ◌∙◌, cond, Option, Some, None, digit_value, is_ascii_digit, all_ascii_digits, digits_value_after, drop_all, nat_tests, pow_more, pow-le-pow_right}
 
 -- the digits, behind those of a number
 abbrev pub digits_behind : ℕ → List ℕ → Option ℕ

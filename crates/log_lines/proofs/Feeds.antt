@@ -1,5 +1,5 @@
 -- The first line feed of a text is the first byte that a search finds.
-use Rattle.log_lines.proofs.Common.{◌≡◌, ◌<◌, ◌≤◌, ◌+◌, ◌==◌, ◌∙◌, ℕ, Bool, true, false, List, length, take, get_or, arith, refl, sym, ap, subst, Option, Some, None, get_or-take, length-take, position_or_len, position_at, position_end}
+use Rattle.log_lines.proofs.Common.{◌≡◌, ◌<◌, ◌≤◌, ◌==◌, ◌∙◌, ℕ, Bool, true, false, List, length, take, get_or, arith, refl, sym, ap, Some, None, get_or-take, length-take, position_or_len, position_at, position_end}
 use Rattle.memchr.specs.Find.{IsFirstByte, is_byte}
 
 not_so : (b : Bool) → (b ≡ true → ⊥) → b ≡ false

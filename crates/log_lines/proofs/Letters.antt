@@ -1,8 +1,7 @@
 -- A line that is read begins with the letter of what it says.
-use Rattle.log_lines.proofs.Common.{◌≡◌, ◌==◌, ℕ, Bool, true, false, List, [], ◌∷◌, codes, cond, arith, refl, ap, sym, ◌∙◌, Option, Some, None, Result, Ok, Err, IfOk, IfSome, nat_tests, onto_first, slice_index, bytes_eq, LogCause, AccessKind, Act, LogLine, LogVerb, ActVerb, is_space, words_of, number_at, has_word, nothing_left, site_at, place_at, act_of_access, reference_of, act_of_birth, number_alone, below, task_alone, line_of_strand, line_of_name, line_of_version, letter_is, letter_verb, long_verb, verb_of, act_by, line_by, line_behind, line_of_words, line_of, task_limit, strand_limit, is_among, begins_with, letter_of_kind, letter_of, HasOneOf}
+use Rattle.log_lines.proofs.Common.{◌≡◌, ◌==◌, ℕ, Bool, true, false, List, [], ◌∷◌, codes, cond, arith, refl, ap, ◌∙◌, Option, Some, None, Result, Ok, Err, IfOk, IfSome, nat_tests, onto_first, bytes_eq, LogCause, LogLine, LogVerb, ActVerb, is_space, words_of, number_at, has_word, nothing_left, site_at, place_at, reference_of, number_alone, below, task_alone, line_of_strand, letter_is, letter_verb, long_verb, act_by, line_by, line_behind, line_of_words, line_of, task_limit, strand_limit, is_among, begins_with, letter_of_kind, letter_of, HasOneOf}
 use Rattle.log_lines.specs.declared.cause.LogCause.TheVariants as causes
 use Rattle.log_lines.specs.declared.line.AccessKind.TheVariants as kinds
-use Rattle.log_lines.specs.declared.line.Act.TheVariants as acts
 use Rattle.log_lines.specs.declared.line.LogLine.TheVariants as lines
 use Rattle.log_lines.specs.declared.verb.LogVerb.TheVariants as verbs
 use Rattle.log_lines.specs.declared.verb.ActVerb.TheVariants as act_verbs

@@ -1,5 +1,5 @@
 -- The first word of a line and the words behind it.
-use Rattle.log_lines.proofs.Common.{◌≡◌, ◌<◌, ◌≤◌, ◌+◌, ◌-◌, ◌==◌, ℕ, zero, suc, Bool, true, false, List, [], ◌∷◌, length, take, not, drop, drop-cons, get_or, arith, refl, ap, sym, ◌∙◌, cond, ◌⊎◌, inl, inr, cases_lt, take_all, drop_all, length-drop, slice_split, onto_first, position_or_len, slice_split_first, split_last, is_space, words_of, has_word, operands}
+use Rattle.log_lines.proofs.Common.{◌≡◌, ◌<◌, ◌≤◌, ◌+◌, ◌-◌, ◌==◌, ℕ, suc, Bool, true, false, List, [], ◌∷◌, length, take, not, drop, drop-cons, arith, refl, ap, sym, ◌∙◌, cond, ◌⊎◌, inl, inr, cases_lt, take_all, drop_all, length-drop, onto_first, position_or_len, slice_split_first, split_last, is_space, words_of, has_word, operands}
 
 operands_behind : (text : List ℕ) (end : ℕ) → end < length text → operands (drop end text) ≡ words_of (drop (end + 1) text)
 operands_behind text end lt = rw (drop-cons text end 0 lt) (ap (λ k. words_of (drop k text)) (let e : suc end ≡ end + 1 = omega arith in e))

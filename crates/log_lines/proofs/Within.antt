@@ -1,7 +1,6 @@
 -- What is read is within the limits.
-use Rattle.log_lines.proofs.Common.{◌≡◌, ◌<◌, ◌≤◌, ◌+◌, ◌*◌, ◌^◌, ◌==◌, ℕ, zero, suc, Bool, true, false, List, [], ◌∷◌, length, drop, not, cond, arith, refl, ap, sym, ◌∙◌, inl, inr, Option, Some, None, Result, Ok, Err, IfOk, IfSome, nat_lt, nat_le, ◌&&◌, digit_value, is_ascii_digit, all_ascii_digits, AllDigits, digits_value, and_parts, cases_Bool, nat_tests, digits_value-lt, LogCause, LogPlace, AccessKind, Reference, Act, LogLine, LogVerb, ActVerb, ◌>>=◌, words_of, has_length, has_leading_zero, digits_number, numeral_value, or_bad, number_at, has_word, nothing_left, is_site, site_at, goes_on, IsLogNumber, IsLogPlace, IsSite, IsAccess, IsLogReference, IsAct, IsLine, task_limit, strand_limit, access_limit, location_limit, place_end, is_small, checked_place, place_of_runs, place_of_run, place_of_length, place_at, act_of_access, reference_of, act_of_birth, number_alone, below, task_alone, line_of_strand, name_behind, line_of_name, line_of_version, verb_of, act_by, line_by, line_behind, line_of_words, line_of}
+use Rattle.log_lines.proofs.Common.{◌≡◌, ◌<◌, ◌≤◌, ◌*◌, ◌^◌, ◌==◌, ℕ, Bool, true, false, List, [], ◌∷◌, length, drop, not, cond, arith, refl, Option, Some, None, Result, Ok, Err, IfOk, IfSome, nat_lt, nat_le, ◌&&◌, is_ascii_digit, all_ascii_digits, AllDigits, digits_value, and_parts, nat_tests, digits_value-lt, LogCause, LogPlace, AccessKind, LogVerb, ActVerb, ◌>>=◌, words_of, has_length, has_leading_zero, digits_number, numeral_value, or_bad, number_at, has_word, nothing_left, is_site, site_at, goes_on, IsLogNumber, IsLogPlace, IsSite, IsLogReference, IsAct, IsLine, task_limit, strand_limit, access_limit, location_limit, place_end, is_small, checked_place, place_of_runs, place_of_run, place_of_length, place_at, act_of_access, reference_of, act_of_birth, number_alone, below, task_alone, line_of_strand, line_of_name, line_of_version, verb_of, act_by, line_by, line_behind, line_of_words, line_of}
 use Rattle.log_lines.specs.declared.cause.LogCause.TheVariants as causes
-use Rattle.log_lines.specs.declared.line.Act.TheVariants as acts
 use Rattle.log_lines.specs.declared.line.LogLine.TheVariants as lines
 use Rattle.log_lines.specs.declared.verb.LogVerb.TheVariants as verbs
 use Rattle.log_lines.specs.declared.verb.ActVerb.TheVariants as act_verbs

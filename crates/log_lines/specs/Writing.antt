@@ -1,5 +1,5 @@
 -- How a line is written.
-use Rattle.std.specs.Prelude.{ℕ, Option, Some, None, List, [], ◌∷◌, ◌++◌, codes}
+use Rattle.std.specs.Prelude.{ℕ, Option, Some, None, List, [], ◌∷◌, codes}
 use Rattle.std.specs.List.{join_with_byte}
 use Rattle.std.specs.Fmt.{decimal}
 use Rattle.log_lines.specs.declared.line.LogPlace.{LogPlace}
@@ -10,10 +10,6 @@ use Rattle.log_lines.specs.declared.line.Act.{Act}
 use Rattle.log_lines.specs.declared.line.Act.TheVariants as acts
 use Rattle.log_lines.specs.declared.line.LogLine.{LogLine}
 use Rattle.log_lines.specs.declared.line.LogLine.TheVariants as lines
-
--- words with a space between them
-abbrev pub spaced : List (List ℕ) → List ℕ
-spaced ws = join_with_byte 32 ws
 
 abbrev pub site_words : Option ℕ → List (List ℕ)
 site_words None = []
@@ -52,6 +48,6 @@ line_words (lines.Name site) = codes "@" ∷ decimal site ∷ [] ∷ []
 line_words lines.Comment = codes "#" ∷ []
 line_words lines.End = codes "end" ∷ []
 
--- without its line feed
+-- words with a space between them, without a line feed
 abbrev pub line_bytes : LogLine → List ℕ
-line_bytes l = spaced (line_words l)
+line_bytes l = join_with_byte 32 (line_words l)

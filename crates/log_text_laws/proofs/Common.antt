@@ -10,7 +10,7 @@ pub use Rattle.log_lines.proofs.Pieces.{left_by}
 pub use Rattle.log_lines.specs.Grammar.{line_of, line_of_words, act_of_access, place_at}
 pub use Rattle.log_lines.specs.Limits.{IsLogNumber, IsSite, IsLogPlace, IsAccess, IsLogReference, IsAct, IsLine}
 pub use Rattle.log_lines.specs.Words.{is_space, words_of, site_at, has_word}
-pub use Rattle.log_lines.specs.Writing.{spaced, site_words, line_bytes, act_words, access_word, place_words, reference_words}
+pub use Rattle.log_lines.specs.Writing.{site_words, line_bytes, act_words, access_word, place_words, reference_words}
 pub use Rattle.log_lines.specs.declared.cause.LogCause.{LogCause}
 pub use Rattle.log_lines.specs.declared.line.Access.{Access}
 pub use Rattle.log_lines.specs.declared.line.AccessKind.{AccessKind}
@@ -21,7 +21,7 @@ pub use Rattle.log_lines.specs.declared.line.Reference.{Reference}
 pub use Rattle.log_text_laws.specs.Names.{AllFunctionsNamed, names_at, names_in, name_lines, IsInsideLine, HasName}
 pub use Rattle.log_text_laws.specs.Text.{IsReadAsLines, lines_in_log, LogsAreReadAgain, LogsAreToldAgain, LogsAreCutUnlessDone}
 pub use Rattle.run_journal.specs.below.run_ledger.{RunEnd, Machine, end_of, Fuel, Pool}
-pub use Rattle.run_journal.specs.below.run_trace.{EntryValue, SettingsValue}
+pub use Rattle.run_journal.specs.below.run_trace.{EntryValue, SettingsValue, spaced}
 pub use Rattle.run_log.specs.Log.{end_lines, lines_of}
 pub use Rattle.run_log.specs.Sites.{accesses_field, name_line, site_line, function_sites, sites_of}
 pub use Rattle.run_log.specs.Writing.{line_text, act_text, site_text, spaced_numbers, is_location, place_text, access_text, access_letter, reference_text, letter_text, written, all_written}

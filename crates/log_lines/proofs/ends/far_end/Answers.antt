@@ -1,4 +1,4 @@
-use Rattle.log_lines.proofs.Common.{ℕ, ◌<◌, length, Option, Some, None, subst, arith}
+use Rattle.log_lines.proofs.Common.{ℕ, ◌<◌, length, Option, Some, subst, arith}
 use Rattle.memchr.specs.Find.{IsFirstByte, is_byte}
 use Rattle.log_lines.proofs.Feeds.{found_end, no_end}
 use Rattle.log_lines.proofs.ends.far_end.Goals as goal

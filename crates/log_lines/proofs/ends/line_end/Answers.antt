@@ -1,4 +1,4 @@
-use Rattle.log_lines.proofs.Common.{ℕ, ◌<◌, ◌≤◌, length, take, length-take, Option, Some, subst, arith}
+use Rattle.log_lines.proofs.Common.{ℕ, ◌<◌, length, take, length-take, Option, Some, subst, arith}
 use Rattle.memchr.specs.Find.{IsFirstByte, is_byte}
 use Rattle.log_lines.proofs.Feeds.{near_end}
 use Rattle.log_lines.proofs.ends.line_end.Goals as goal

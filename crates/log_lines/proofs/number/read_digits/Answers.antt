@@ -1,4 +1,4 @@
-use Rattle.std.proofs.Common.{◌<◌, ◌≤◌, ◌^◌, length, arith}
+use Rattle.std.proofs.Common.{◌≤◌, arith}
 use Rattle.log_lines.proofs.Digits.{longer_is_more}
 use Rattle.log_lines.proofs.number.read_digits.Goals as goal
 

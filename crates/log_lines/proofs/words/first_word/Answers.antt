@@ -1,4 +1,4 @@
-use Rattle.std.proofs.Common.{length, take, drop, ◌-◌, arith, ◌∙◌, sym}
+use Rattle.std.proofs.Common.{◌∙◌}
 use Rattle.log_lines.proofs.Pieces.{first_word_of, rest_as_cut}
 use Rattle.log_lines.proofs.words.first_word.Goals as goal
 
