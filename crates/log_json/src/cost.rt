@@ -4,7 +4,7 @@ ghost use Rattle.std.specs.Prelude.{◌≡◌, ◌++◌, OnOk, IfOk, string_byte
 ghost use Rattle.log_report.specs.Ends.{hundredths, hundredths_text};
 ghost use Rattle.log_json.specs.Pieces.{left_piece, counts_piece, all_counts_piece, cost_piece, ends_piece};
 
-use crate::heaps::add_heaps_if;
+use crate::heaps::add_heaps;
 use crate::value::{add, add_number};
 use json_text::add_word;
 use log_report::{LogReport, parallelism_text, racing_locations};
@@ -69,7 +69,7 @@ pub(crate) fn add_ends(
     ensures { OnOk result (text.new.items ≡ text.old.items ++ ends_piece report.now) }
 {
     add_cost(alloc, text, report.work, report.span)?;
-    add_heaps_if(alloc, text, &report.heaps)?;
+    add_heaps(alloc, text, &report.heaps)?;
     add(text, ",\"end\":")?;
     add_counts(alloc, text, report)?;
     add(text, "}")

@@ -2,7 +2,7 @@
 
 ghost use Rattle.std.specs.Prelude.{◌≡◌, ◌++◌, IfOk, OnOk};
 ghost use Rattle.std.specs.List.{flat_map};
-ghost use Rattle.log_json.specs.Pieces.{depth_piece, heaps_piece, heaps_piece_if};
+ghost use Rattle.log_json.specs.Pieces.{depth_piece, heaps_piece_if};
 
 use crate::value::{add, add_array, add_number};
 use log_report::{HeapDepth, LogHeaps};
@@ -30,28 +30,21 @@ fn depths_text(alloc: Global, rows: &[HeapDepth]) -> Result<Vec<u8>, AllocError>
     Ok(text)
 }
 
-// Adds what is told of heaps.
-fn add_heaps(alloc: Global, text: &mut Vec<u8>, heaps: &LogHeaps) -> Result<(), AllocError>
-    ensures { OnOk result (text.new.items ≡ text.old.items ++ heaps_piece heaps.now) }
-{
-    let further = depths_text(alloc, heaps.depths.as_slice())?;
-    add(text, ",\"heaps\":{\"depths\":")?;
-    add_array(text, further.as_slice())?;
-    add_number(alloc, text, ",\"stores\":", heaps.stores as u128)?;
-    add_number(alloc, text, ",\"down\":", heaps.down as u128)?;
-    add(text, "}")
-}
-
 /// Adds what is told of heaps, if anything is.
-pub(crate) fn add_heaps_if(
+pub(crate) fn add_heaps(
     alloc: Global,
     text: &mut Vec<u8>,
     heaps: &Option<LogHeaps>,
 ) -> Result<(), AllocError>
     ensures { OnOk result (text.new.items ≡ text.old.items ++ heaps_piece_if heaps.now) }
 {
-    match heaps {
-        None => Ok(()),
-        Some(heaps) => add_heaps(alloc, text, heaps),
-    }
+    let Some(heaps) = heaps else {
+        return Ok(());
+    };
+    let further = depths_text(alloc, heaps.depths.as_slice())?;
+    add(text, ",\"heaps\":{\"depths\":")?;
+    add_array(text, further.as_slice())?;
+    add_number(alloc, text, ",\"stores\":", heaps.stores as u128)?;
+    add_number(alloc, text, ",\"down\":", heaps.down as u128)?;
+    add(text, "}")
 }

@@ -1,5 +1,5 @@
 -- Along lists of races, uses and locations.
-use Rattle.log_report.proofs.Common.{◌≡◌, ◌∙◌, ◌<◌, ◌≤◌, ◌+◌, ◌-◌, ◌*◌, ◌^◌, ℕ, zero, suc, Bool, true, false, cond, List, [], ◌∷◌, ◌++◌, length, take, drop, drop-cons, add-one, get_or, refl, ap, sym, arith, append_assoc, append-nil, sum_by, drop_all, sum_by_more, Item, ToldRace, ToldUse, Names, follows, run_end, race_item, race_items, location_line, lines_from, use_item, use_items}
+use Rattle.log_report.proofs.Common.{◌≡◌, ◌∙◌, ◌<◌, ◌≤◌, ◌+◌, ◌-◌, ℕ, suc, Bool, true, false, cond, List, [], ◌∷◌, ◌++◌, length, drop, drop-cons, add-one, get_or, refl, ap, sym, arith, append_assoc, append-nil, drop_all, Item, ToldRace, ToldUse, Names, follows, run_end, race_item, race_items, location_line, lines_from, use_item, use_items}
 
 -- A RUN
 

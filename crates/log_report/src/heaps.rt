@@ -2,7 +2,7 @@
 
 ghost use Rattle.std.specs.Prelude.{◌≡◌, ◌++◌, IfOk, OnOk, string_bytes};
 ghost use Rattle.std.specs.List.{flat_map};
-ghost use Rattle.log_report.specs.HeapLines.{depth_line, stores_line, heaps_text, heaps_text_if};
+ghost use Rattle.log_report.specs.HeapLines.{depth_line, stores_line, heaps_text_if};
 
 use crate::label::add;
 use plain_vec::Listed;
@@ -65,25 +65,18 @@ fn add_depths(alloc: Global, text: &mut Vec<u8>, rows: &[HeapDepth]) -> Result<(
     Ok(())
 }
 
-// Adds the lines on heaps.
-fn add_heaps(alloc: Global, text: &mut Vec<u8>, heaps: &LogHeaps) -> Result<(), AllocError>
-    ensures { OnOk result (text.new.items ≡ text.old.items ++ heaps_text heaps.now) }
-{
-    add_depths(alloc, text, heaps.depths.as_slice())?;
-    let line = stores_line(alloc, heaps.stores, heaps.down)?;
-    add(text, line.as_str())
-}
-
 /// Adds the lines on heaps, if they are told.
-pub(crate) fn add_heaps_if(
+pub(crate) fn add_heaps(
     alloc: Global,
     text: &mut Vec<u8>,
     heaps: &Option<LogHeaps>,
 ) -> Result<(), AllocError>
     ensures { OnOk result (text.new.items ≡ text.old.items ++ heaps_text_if heaps.now) }
 {
-    match heaps {
-        None => Ok(()),
-        Some(heaps) => add_heaps(alloc, text, heaps),
-    }
+    let Some(heaps) = heaps else {
+        return Ok(());
+    };
+    add_depths(alloc, text, heaps.depths.as_slice())?;
+    let line = stores_line(alloc, heaps.stores, heaps.down)?;
+    add(text, line.as_str())
 }

@@ -6,7 +6,7 @@ ghost use Rattle.log_report.specs.LogReport.{races_text, uses_text, ends_text, r
 
 use crate::cost::cost_line;
 use crate::end::end_line;
-use crate::heaps::add_heaps_if;
+use crate::heaps::add_heaps;
 use crate::label::add;
 use crate::locations::add_all_lines;
 use crate::races::add_race_lines;
@@ -63,7 +63,7 @@ fn add_ends(alloc: Global, text: &mut Vec<u8>, report: &LogReport) -> Result<(),
 {
     let cost = cost_line(alloc, report.work, report.span)?;
     add(text, cost.as_str())?;
-    add_heaps_if(alloc, text, &report.heaps)?;
+    add_heaps(alloc, text, &report.heaps)?;
     let end = end_line(alloc, report)?;
     add(text, end.as_str())
 }

@@ -5,5 +5,5 @@ use Rattle.log_json.proofs.cost.add_ends.Goals as goal
 pub returns : goal.returns
 returns c =
     on_ok_weaker c.add-2.result
-    (λ e. five c.args.text.now.items _ _ _ _ _ _ _ _ _ _ _ refl c.in_ok-add_cost.ensures c.in_ok-add_heaps_if.ensures c.in_ok-add.ensures c.in_ok-add_counts.ensures e)
+    (λ e. five c.args.text.now.items _ _ _ _ _ _ _ _ _ _ _ refl c.in_ok-add_cost.ensures c.in_ok-add_heaps.ensures c.in_ok-add.ensures c.in_ok-add_counts.ensures e)
     c.add-2.ensures
