@@ -13,9 +13,6 @@ abbrev pub shown_as : Bool → List Fault → List ℕ
 shown_as true faults = faults_json faults
 shown_as false faults = faults_text faults
 
-abbrev pub text_too_long : TextFault
-text_too_long = record { line = 0; cause = TooLong }
-
 -- the faults of a text, unless it is too long to be a program
 abbrev pub shown_faults : Bool → List ℕ → Result (List ℕ) TextFault
-shown_faults json text = if nat_le (length text) program_limit then Ok (shown_as json (faults_of text)) else Err text_too_long
+shown_faults json text = if nat_le (length text) program_limit then Ok (shown_as json (faults_of text)) else Err (record { line = 0; cause = TooLong })

@@ -1,7 +1,7 @@
 // What is shown of a text.
 
 ghost use Rattle.std.specs.Prelude.{◌≡◌, IfOk};
-ghost use Rattle.fault_lines.specs.Shown.{shown_as, shown_faults, text_too_long};
+ghost use Rattle.fault_lines.specs.Shown.{shown_as, shown_faults};
 
 use crate::json::faults_json;
 use crate::text::faults_text;
@@ -22,16 +22,6 @@ fn shown_as(alloc: Global, json: bool, faults: &[Fault]) -> Result<Vec<u8>, Allo
     }
 }
 
-// A text that is too long to be a program.
-fn text_too_long() -> TextFault
-    ensures { result ≡ text_too_long }
-{
-    TextFault {
-        line: 0,
-        cause: Cause::TooLong,
-    }
-}
-
 /// All faults of a text, as a JSON array or as a line for each. A text that is longer than a program may be is refused.
 pub fn shown_faults(
     alloc: Global,
@@ -41,7 +31,10 @@ pub fn shown_faults(
     ensures { IfOk result (λ shown. shown ≡ shown_faults json text.now) }
 {
     if text.len() > PROGRAM_LIMIT {
-        return Ok(Err(text_too_long()));
+        return Ok(Err(TextFault {
+            line: 0,
+            cause: Cause::TooLong,
+        }));
     }
     let faults = text_faults(alloc, text)?;
     let shown = shown_as(alloc, json, faults.as_slice())?;
