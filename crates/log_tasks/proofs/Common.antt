@@ -49,7 +49,8 @@ pub use Rattle.plain_vec.proofs.Members.{got_in, in_from_contains, contains_from
 pub use Rattle.plain_vec.proofs.Numbers.{below_next}
 pub use Rattle.plain_vec.proofs.Places.{got_more, each_in, got_last}
 pub use Rattle.plain_vec.specs.Members.{In}
-pub use Rattle.std.proofs.Common.{◌≡◌, ◌+◌, ◌++◌, ◌∷◌, ◌⊎◌, inl, inr, ℕ, Bool, true, false, List, [], length, refl, sym, ap, subst, ◌∙◌, Option, Some, None, Result, Ok, Err, slice_get, arith, ◌==◌, map, ◌<◌, ◌≤◌, ◌-◌, zero, suc, get_or, cond, nat_cmp, nat_lt, ap₂, append_assoc, append-nil, Less, not, drop, take, reverse, drop-cons, nat_eq, ◌^◌, length-append, Ordering, Equal, Greater, is_eq, ◌≢◌, Bor}
+pub use Rattle.std.proofs.Common.{◌≡◌, ◌+◌, ◌++◌, ◌∷◌, ◌⊎◌, inl, inr, ℕ, Bool, true, false, List, [], length, refl, sym, ap, subst, ◌∙◌, Option, Some, None, Result, Ok, Err, slice_get, arith, ◌==◌, map, ◌<◌, ◌≤◌, ◌-◌, zero, suc, get_or, cond, nat_cmp, nat_lt, ap₂, append_assoc, append-nil, Less, not, drop, take, reverse, drop-cons, nat_eq, ◌^◌, length-append, Ordering, Equal, Greater, is_eq, ◌≢◌, Bor, eqb}
+pub use Rattle.std.proofs.Math.Bool.{or-false, or-true}
 pub use Rattle.std.proofs.Math.Facts.{Fits-lt-pow}
 pub use Rattle.std.proofs.Math.ListN.{get_or-append}
 pub use Rattle.std.proofs.Math.Nat.{eq-or-lt_of_le}
@@ -60,11 +61,12 @@ pub use Rattle.std.proofs.lemmas.Bool.Decides.{nat_tests}
 pub use Rattle.std.proofs.lemmas.Grind.{reverse_onto, flat_map-append, common_steps}
 pub use Rattle.std.proofs.lemmas.List.{map-append, take_more, length-map, length-reverse}
 pub use Rattle.std.proofs.lemmas.List.Elements.{filter-append}
-pub use Rattle.std.proofs.lemmas.List.Filters.{length-filter_both}
+pub use Rattle.std.proofs.lemmas.List.Filters.{length-filter_both, dedup_is}
 pub use Rattle.std.proofs.lemmas.List.Folds.{list_any-append}
-pub use Rattle.std.proofs.lemmas.List.Sorted.{searched}
+pub use Rattle.std.proofs.lemmas.List.Kept.{Contains-dedup_nat, Contains-from_dedup}
+pub use Rattle.std.proofs.lemmas.List.Sorted.{searched, Contains-permutation, IsPermutation-sym}
 pub use Rattle.std.proofs.lemmas.List.Sums.{position_or_len_is}
-pub use Rattle.std.proofs.lemmas.Map.Keys.{sorted_from_strictly_increasing, IsStrictlyIncreasing-from_sorted}
+pub use Rattle.std.proofs.lemmas.Map.Keys.{sorted_from_strictly_increasing, IsStrictlyIncreasing-from_sorted, IsStrictlyIncreasing-dedup}
 pub use Rattle.std.proofs.lemmas.Option.{same_Some}
 pub use Rattle.std.specs.HashSet.{contains}
 pub use Rattle.std.specs.List.{list_any, position_or_len, AllByRecursion, flat_map}

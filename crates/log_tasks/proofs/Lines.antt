@@ -1,8 +1,8 @@
 -- What is known after a line more of a piece.
-use Rattle.log_tasks.proofs.Common.{◌≡◌, ◌++◌, ◌∷◌, ◌∙◌, ℕ, Bool, true, false, List, [], refl, sym, ap, subst, Option, Some, None, append-nil, take, length, get_or, ◌<◌, ◌+◌, ◌||◌, MatchOption, list_any, flat_map-append, take_more, list_any-append, lines_of, Act, line_of, GraphStrand, Event, spawns, LogPiece, act_said, acts_in, acts_of_piece, on_strand, events_in, events_of_pieces, KnowsEvents, line_more, line_last, StrandEnd, Told, end_by, first_end, is_told, end_told, task_told, end_after, codes, is_among, begins_with, letter_of, said_of}
+use Rattle.log_tasks.proofs.Common.{◌≡◌, ◌++◌, ◌∷◌, ◌∙◌, ℕ, Bool, true, false, List, [], refl, sym, ap, subst, Option, Some, None, append-nil, take, length, get_or, ◌<◌, ◌+◌, ◌||◌, MatchOption, list_any, flat_map-append, take_more, list_any-append, lines_of, Act, line_of, GraphStrand, Event, spawns, LogPiece, act_said, acts_in, acts_of_piece, on_strand, events_in, events_of_pieces, KnowsEvents, line_more, line_last, StrandEnd, Told, end_by, first_end, is_told, end_told, task_told, end_after, codes, is_among, begins_with, letter_of, said_of, or-false}
 use Rattle.log_lines.specs.declared.line.Act.TheVariants as acts
 use Rattle.log_tasks.proofs.Acts.{first_end_append, or_assoc, later_none}
-use Rattle.log_tasks.proofs.Puts.{after_twice, after_none, or_false}
+use Rattle.log_tasks.proofs.Puts.{after_twice, after_none}
 
 -- LINES
 
@@ -40,7 +40,7 @@ pub none_ends : (told : Told) (u : GraphStrand) (said : List Act) → [] ≡ sai
 none_ends told u said e t i = after_none told u t i ∙ ap (λ (as_said : List Act). end_after told u (first_end as_said) t i) e
 
 pub none_tasks : (told : Told) (said : List Act) → [] ≡ said → (t : ℕ) → task_told told t ≡ (task_told told t || list_any (spawns t) said)
-none_tasks told said e t = or_false (task_told told t) ∙ ap (λ (as_said : List Act). task_told told t || list_any (spawns t) as_said) e
+none_tasks told said e t = sym (or-false (task_told told t)) ∙ ap (λ (as_said : List Act). task_told told t || list_any (spawns t) as_said) e
 
 -- ONE ACT
 
@@ -48,7 +48,7 @@ pub one_ends : (old new : Told) (u : GraphStrand) (act : Act) (said : List Act) 
 one_ends old new u act said e g t i = g t i ∙ ap (λ (o : Option StrandEnd). end_after old u o t i) (sym (later_none (end_by act)) ∙ ap first_end e)
 
 pub one_tasks : (old new : Told) (act : Act) (said : List Act) → act ∷ [] ≡ said → ((t : ℕ) → task_told new t ≡ (task_told old t || spawns t act)) → (t : ℕ) → task_told new t ≡ (task_told old t || list_any (spawns t) said)
-one_tasks old new act said e g t = g t ∙ ap (λ (b : Bool). task_told old t || b) (or_false (spawns t act) ∙ ap (list_any (spawns t)) e)
+one_tasks old new act said e g t = g t ∙ ap (λ (b : Bool). task_told old t || b) (sym (or-false (spawns t act)) ∙ ap (list_any (spawns t)) e)
 
 -- NO ACT THAT ENDS A STRAND
 
@@ -82,7 +82,7 @@ pub other_ends : (told : Told) (u : GraphStrand) (line : List ℕ) → begins_wi
 other_ends told u line e t i = after_none told u t i ∙ ap (λ (o : Option StrandEnd). end_after told u o t i) (sym (said_of (λ (all : List Act). first_end all ≡ None) turns line false e refl ends_none))
 
 pub other_tasks : (told : Told) (line : List ℕ) → begins_with turns line ≡ false → (t : ℕ) → task_told told t ≡ (task_told told t || list_any (spawns t) (act_said (line_of line)))
-other_tasks told line e t = or_false (task_told told t) ∙ ap (λ (b : Bool). task_told told t || b) (sym (said_of (λ (all : List Act). list_any (spawns t) all ≡ false) turns line false e refl (spawns_none t)))
+other_tasks told line e t = sym (or-false (task_told told t)) ∙ ap (λ (b : Bool). task_told told t || b) (sym (said_of (λ (all : List Act). list_any (spawns t) all ≡ false) turns line false e refl (spawns_none t)))
 
 -- ENDS AND TASKS
 

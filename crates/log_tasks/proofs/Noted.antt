@@ -1,34 +1,26 @@
 -- A task of which a strand did something is there.
-use Rattle.log_tasks.proofs.Common.{◌≡◌, ◌==◌, ◌∙◌, ◌||◌, ◌<◌, ℕ, Bool, true, false, List, [], ◌∷◌, length, get_or, refl, sym, ap, subst, arith, nat_tests, In, any_from_in, Option, list_any, is_some, Event, spawns, Told, greater, number_if, top_of, top_told, task_told, tells, is_task, KnowsEvents, NotesTasks}
+use Rattle.log_tasks.proofs.Common.{◌≡◌, ◌==◌, ◌∙◌, ◌||◌, ◌<◌, ℕ, Bool, true, false, List, [], ◌∷◌, length, get_or, refl, sym, ap, subst, arith, nat_tests, In, any_from_in, Option, list_any, is_some, Event, spawns, Told, greater, number_if, top_of, top_told, task_told, tells, is_task, KnowsEvents, NotesTasks, or-false, or-true}
 use Rattle.log_tasks.proofs.Ascending.{at_in}
 use Rattle.log_tasks.proofs.Puts.{number_same}
-
-or_true : (a : Bool) → (a || true) ≡ true
-or_true true = refl
-or_true false = refl
-
-or_false : (a : Bool) → a ≡ (a || false)
-or_false true = refl
-or_false false = refl
 
 -- the first event is the task's, or a later one is
 told_by : (own : Bool) (i : ℕ) (spawned : Bool) (top : Option ℕ) (later : Bool) → (is_some top ≡ true → later ≡ true) → is_some (greater (number_if own i) top) ≡ true → ((own || spawned) || later) ≡ true
 told_by true i spawned top later h e = refl
-told_by false i spawned top later h e = ap (λ (b : Bool). spawned || b) (h e) ∙ or_true spawned
+told_by false i spawned top later h e = ap (λ (b : Bool). spawned || b) (h e) ∙ or-true spawned
 
 some_told : (events : List Event) (t : ℕ) → is_some (top_of events t) ≡ true → list_any (tells t) events ≡ true
 some_told [] t e = absurd (let z : false ≡ true = e in cc)
 some_told (e ∷ rest) t some = told_by (e.strand.task == t) e.strand.index (spawns t e.act) (top_of rest t) (list_any (tells t) rest) (some_told rest t) some
 
 some_task : (events : List Event) (t : ℕ) → is_some (top_of events t) ≡ true → is_task events t ≡ true
-some_task events t some = ap (λ (b : Bool). (t == 0) || b) (some_told events t some) ∙ or_true (t == 0)
+some_task events t some = ap (λ (b : Bool). (t == 0) || b) (some_told events t some) ∙ or-true (t == 0)
 
 module _ (told : Told) (task : ℕ) (there : task_told told task ≡ true) where
   noted_by : (t : ℕ) (same : Bool) → (task == t) ≡ same → task_told told t ≡ (task_told told t || same)
-  noted_by t false e = or_false (task_told told t)
+  noted_by t false e = sym (or-false (task_told told t))
   noted_by t true e =
       let is : task_told told t ≡ true = subst (λ (n : ℕ). task_told told n ≡ true) (number_same task t e) there in
-      is ∙ sym (or_true (task_told told t))
+      is ∙ sym (or-true (task_told told t))
 
   -- it needn't be noted
   pub noted_there : (t : ℕ) → task_told told t ≡ (task_told told t || (task == t))

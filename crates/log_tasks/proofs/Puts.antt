@@ -1,5 +1,5 @@
 -- What is known when a strand ends, a number is noted, or a task is there.
-use Rattle.log_tasks.proofs.Common.{◌≡◌, ◌==◌, ◌<◌, ◌≤◌, ◌∙◌, ℕ, Bool, true, false, cond, refl, sym, ap, Option, Some, None, List, [], ◌∷◌, ◌++◌, arith, ◌||◌, ◌&&◌, max, is_some, if◌then◌else◌, list_any, list_any-append, nat_tests, GraphStrand, is_that, StrandEnd, Told, greater, number_if, index_of, end_told, end_after}
+use Rattle.log_tasks.proofs.Common.{◌≡◌, ◌==◌, ◌<◌, ◌≤◌, ◌∙◌, ℕ, Bool, true, false, cond, refl, sym, ap, Option, Some, None, List, [], ◌∷◌, ◌++◌, arith, ◌||◌, ◌&&◌, max, is_some, if◌then◌else◌, list_any, list_any-append, nat_tests, GraphStrand, is_that, StrandEnd, Told, greater, number_if, index_of, end_told, end_after, or-false}
 use Rattle.log_tasks.specs.Ends.{or_later}
 use Rattle.log_tasks.proofs.Acts.{later_none}
 
@@ -99,10 +99,6 @@ module _ (F : ℕ → Option ℕ) (u : GraphStrand) where
 
 -- TASKS
 
-pub or_false : (b : Bool) → b ≡ (b || false)
-or_false true = refl
-or_false false = refl
-
 or_or_by : (a b : Bool) → cond a true b ≡ (b || a)
 or_or_by true true = refl
 or_or_by true false = refl
@@ -111,8 +107,8 @@ or_or_by false false = refl
 
 -- a task is there
 pub task_put : (tasks : List ℕ) (c t : ℕ) → list_any (λ (m : ℕ). m == t) (tasks ++ c ∷ []) ≡ (list_any (λ (m : ℕ). m == t) tasks || (c == t))
-task_put tasks c t = list_any-append (λ (m : ℕ). m == t) tasks (c ∷ []) ∙ ap (λ (b : Bool). list_any (λ (m : ℕ). m == t) tasks || b) (sym (or_false (c == t)))
+task_put tasks c t = list_any-append (λ (m : ℕ). m == t) tasks (c ∷ []) ∙ ap (λ (b : Bool). list_any (λ (m : ℕ). m == t) tasks || b) (or-false (c == t))
 
 -- a child is joined
 pub join_put : (d c : ℕ) (b : Bool) → cond (d == c) true b ≡ (b || ((d == c) || false))
-join_put d c b = or_or_by (d == c) b ∙ ap (λ (x : Bool). b || x) (or_false (d == c))
+join_put d c b = or_or_by (d == c) b ∙ ap (λ (x : Bool). b || x) (sym (or-false (d == c)))

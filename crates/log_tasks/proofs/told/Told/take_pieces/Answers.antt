@@ -1,5 +1,4 @@
-use Rattle.std.proofs.Common.{arith}
-use Rattle.log_tasks.proofs.Common.{take, events_of_pieces}
+use Rattle.log_tasks.proofs.Common.{take, events_of_pieces, arith}
 use Rattle.log_tasks.proofs.Lines.{pieces_known}
 use Rattle.log_tasks.proofs.told.Told.take_pieces.Goals as goal
 
