@@ -14,4 +14,5 @@ pub use ending::StrandEnd;
 pub use fault::{TaskCause, TaskFault};
 pub use laws::{file_order_is_nothing, files_may_change_places};
 pub use log_pieces::{act_in, piece_lines, piece_text};
+pub use numbers::each_once;
 pub use tasks::{LogTasks, log_tasks};

@@ -28,8 +28,8 @@ fn is_ascending(numbers: &[u32]) -> bool
     true
 }
 
-// Each number once, in ascending order.
-fn ascending(numbers: Vec<u32>) -> Vec<u32>
+/// Each number once, in ascending order.
+pub fn each_once(numbers: Vec<u32>) -> Vec<u32>
     ensures ascending { IsStrictlyIncreasing result.items }
     ensures kept { (n : ℕ) → Contains numbers.items n → Contains result.items n }
     ensures no_other { (n : ℕ) → Contains result.items n → Contains numbers.items n }
@@ -50,7 +50,7 @@ pub(crate) fn numbers_of(alloc: Global, tasks: &Listed<u32>) -> Result<Listed<u3
     ensures ascending { IfOk result IsStrictlyIncreasing }
 {
     let numbers = tasks.as_slice().to_vec(alloc)?;
-    Ok(Listed::from_vec(ascending(numbers)))
+    Ok(Listed::from_vec(each_once(numbers)))
 }
 
 // The task that has a number in the log, or the root, if none has.

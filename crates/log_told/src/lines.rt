@@ -1,8 +1,7 @@
 // Which lines are told.
 
-ghost use Rattle.std.specs.Prelude.{◌≡◌, ◌++◌, ◌∷◌, [], ℕ, IfOk, OnOk, Contains};
+ghost use Rattle.std.specs.Prelude.{◌≡◌, ◌++◌, ◌∷◌, [], IfOk, OnOk};
 ghost use Rattle.std.specs.List.{flat_map};
-ghost use Rattle.std.specs.List.Sorted.{IsStrictlyIncreasing};
 ghost use Rattle.log_told.specs.Told.{lines_of_race, lines_of_finding, all_lines};
 
 use log_births::{Finding, Findings};
@@ -52,15 +51,4 @@ pub(crate) fn all_lines(
     add_findings(&mut lines, findings.uses.as_slice())?;
     add_findings(&mut lines, findings.stale.as_slice())?;
     Ok(lines)
-}
-
-/// Each number once, in ascending order.
-pub(crate) fn ascending(numbers: Vec<u32>) -> Vec<u32>
-    ensures ascending { IsStrictlyIncreasing result.items }
-    ensures kept { (n : ℕ) → Contains numbers.items n → Contains result.items n }
-{
-    let mut sorted = numbers;
-    sorted.sort_unstable();
-    sorted.dedup();
-    sorted
 }

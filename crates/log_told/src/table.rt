@@ -6,10 +6,10 @@ ghost use Rattle.log_told.specs.Told.{told_at, told_race, told_use};
 ghost use Rattle.log_told.specs.Table.{IsTable, IsToldRace, IsToldUse};
 
 use crate::line::told_line;
-use crate::lines::ascending;
 use act_lines::{ActLine, lines_of_acts};
 use log_births::Finding;
 use log_report::{Told, ToldRace, ToldUse};
+use log_tasks::each_once;
 use plain_vec::Listed;
 use race_scan::FoundRace;
 use std::alloc::{AllocError, Global};
@@ -30,7 +30,7 @@ impl LineTable {
     ) -> Result<LineTable, AllocError>
         ensures { IfOk result (IsTable texts.now wanted.items) }
     {
-        let numbers = ascending(wanted);
+        let numbers = each_once(wanted);
         let lines = lines_of_acts(alloc, texts, numbers.as_slice())?;
         Ok(LineTable {
             numbers: Listed::from_vec(numbers),

@@ -1,5 +1,5 @@
-use Rattle.log_told.proofs.Common.{ℕ, List, eqb, subst, sym, Contains, IsStrictlyIncreasing, dedup_is, Contains-dedup_nat, Contains-permutation, IsStrictlyIncreasing-dedup}
-use Rattle.log_told.proofs.lines.ascending.Goals as goal
+use Rattle.log_tasks.proofs.Common.{ℕ, List, eqb, subst, sym, Contains, IsStrictlyIncreasing, dedup_is, Contains-dedup_nat, Contains-from_dedup, Contains-permutation, IsPermutation-sym, IsStrictlyIncreasing-dedup}
+use Rattle.log_tasks.proofs.numbers.each_once.Goals as goal
 
 pub returns : goal.returns
 returns c =
@@ -8,4 +8,5 @@ returns c =
     record {
       ascending = subst (λ (xs : List ℕ). IsStrictlyIncreasing xs) (sym e) (IsStrictlyIncreasing-dedup sorted c.sort_unstable.ensures.sorted);
       kept = λ n h. subst (λ (xs : List ℕ). Contains xs n) (sym e) (Contains-dedup_nat sorted n (Contains-permutation c.args.numbers.items sorted n c.sort_unstable.ensures.permutation h));
+      no_other = λ n h. Contains-permutation sorted c.args.numbers.items n (IsPermutation-sym _ _ c.sort_unstable.ensures.permutation) (Contains-from_dedup eqb sorted n (subst (λ (xs : List ℕ). Contains xs n) e h));
     }
