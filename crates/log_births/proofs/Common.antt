@@ -40,6 +40,7 @@ pub use Rattle.plain_vec.proofs.Places.{got_some, map_got, got_middle}
 pub use Rattle.plain_vec.specs.Members.{In}
 pub use Rattle.plain_vec.specs.Options.{option_is}
 pub use Rattle.std.proofs.Common.{◌≡◌, ℕ, true, List, Option, Some, None, arith, ◌<◌, ◌≤◌, ◌+◌, ◌++◌, ◌∷◌, ◌∙◌, ◌⊎◌, inl, inr, [], length, get_or, map, refl, sym, ap, subst, append-nil, ◌↔◌, slice_get, take, slice_range, Bool, false, drop, append_assoc, ◌≢◌, cond, ap₂, Bor}
+pub use Rattle.std.proofs.Math.Bool.{or-true}
 pub use Rattle.std.proofs.lemmas.Bool.{cases_lt}
 pub use Rattle.std.proofs.lemmas.Bool.Decides.{nat_tests}
 pub use Rattle.std.proofs.lemmas.Grind.{flat_map-append}

@@ -1,7 +1,6 @@
 -- Where no block is born or released, nothing is found.
-use Rattle.log_births.proofs.Common.{◌≡◌, ◌<◌, ◌≤◌, ◌+◌, ◌++◌, ◌∷◌, ◌∙◌, ◌||◌, ℕ, Bool, true, false, cond, List, [], length, get_or, take, drop, slice_range, map, refl, sym, ap, ap₂, subst, Option, Some, None, slice_get, arith, codes, filter, is_some, MatchOption, list_any, list_any-append, append-nil, take_all, take-append-drop, drop_more, flat_map-append, pieces_more, got_in, any_from_in, GraphStrand, Act, AccessKind, letter_of_kind, is_among, Event, event, events_of, on_strand, LogPiece, text_at, acts_in, acts_of_piece, events_in, events_of_pieces, is_by, acts_by, is_told, LogTasks, Finding, Findings, is_lifetime, born, released, DoesToBlock, IsEntangledRead, IsEntangledUse, IsStaleUse, AreJust, AreFindings}
+use Rattle.log_births.proofs.Common.{◌≡◌, ◌<◌, ◌≤◌, ◌+◌, ◌∷◌, ◌∙◌, ◌||◌, ℕ, Bool, true, false, cond, List, [], length, get_or, take, drop, refl, sym, ap, ap₂, subst, Option, Some, None, arith, codes, filter, is_some, MatchOption, list_any, list_any-append, take_all, take-append-drop, flat_map-append, pieces_more, got_in, any_from_in, GraphStrand, Act, AccessKind, letter_of_kind, is_among, Event, events_of, on_strand, LogPiece, acts_in, acts_of_piece, events_in, events_of_pieces, is_by, is_told, LogTasks, Finding, Findings, is_lifetime, born, released, DoesToBlock, IsEntangledRead, IsEntangledUse, IsStaleUse, AreJust, AreFindings, or-true, Access, Yield, Store, Birth, Release, Work, Spawn, Join, Finish}
 use Rattle.log_lines.specs.declared.line.AccessKind.TheVariants as kinds
-use Rattle.log_strands.specs.below.log_lines.{Access, Yield, Store, Birth, Release, Work, Spawn, Join, Finish}
 
 -- LETTERS
 
@@ -47,10 +46,6 @@ on_strand_any : (u : GraphStrand) (acts : List Act) → has_lifetime (on_strand 
 on_strand_any u [] = refl
 on_strand_any u (act ∷ rest) = ap (λ (b : Bool). is_lifetime act || b) (on_strand_any u rest)
 
-or_true : (a : Bool) → (a || true) ≡ true
-or_true true = refl
-or_true false = refl
-
 module _ (texts : List (List ℕ)) (pieces : List LogPiece) (i : ℕ) (d : LogPiece) (text : List ℕ) (lt : i < length pieces) (is : acts_in text ≡ acts_of_piece texts (get_or pieces i d)) where
   own : has_lifetime (events_in texts (get_or pieces i d)) ≡ list_any is_lifetime (acts_in text)
   own = on_strand_any (get_or pieces i d).strand (acts_of_piece texts (get_or pieces i d)) ∙ ap (λ (acts : List Act). list_any is_lifetime acts) (sym is)
@@ -70,7 +65,7 @@ module _ (texts : List (List ℕ)) (pieces : List LogPiece) (i : ℕ) (d : LogPi
       ∙ ap has_lifetime (flat_map-append (events_in texts) (take (i + 1) pieces) (drop (i + 1) pieces))
       ∙ list_any-append (λ (e : Event). is_lifetime e.act) (events_of_pieces texts (take (i + 1) pieces)) (events_of_pieces texts (drop (i + 1) pieces))
       ∙ ap (λ (b : Bool). b || has_lifetime (events_of_pieces texts (drop (i + 1) pieces)))
-      (first_ones ∙ ap (λ (b : Bool). has_lifetime (events_of_pieces texts (take i pieces)) || b) here ∙ or_true (has_lifetime (events_of_pieces texts (take i pieces))))
+      (first_ones ∙ ap (λ (b : Bool). has_lifetime (events_of_pieces texts (take i pieces)) || b) here ∙ or-true (has_lifetime (events_of_pieces texts (take i pieces))))
 
 pub all_lack : (texts : List (List ℕ)) (pieces : List LogPiece) (i : ℕ) → length pieces ≤ i → has_lifetime (events_of_pieces texts (take i pieces)) ≡ false → has_lifetime (events_of_pieces texts pieces) ≡ false
 all_lack texts pieces i le none = ap (λ (ps : List LogPiece). has_lifetime (events_of_pieces texts ps)) (sym (take_all i pieces le)) ∙ none

@@ -1,5 +1,5 @@
 -- Pieces say no more acts than they have bytes.
-use Rattle.log_strands.proofs.Common.{◌≡◌, ◌==◌, ◌<◌, ◌≤◌, ◌+◌, ◌++◌, ◌∷◌, ◌∙◌, ℕ, Bool, true, false, List, [], cond, length, get_or, take, refl, sym, ap, slice_range, arith, nat_lt, nat_tests, sum_by, length-map, length-append, length-flat_map, sum_by_more_le, take_more, take_all, sum_by-append, sum_by-cons, flat_map, Result, Ok, Err, slice_split, onto_first, lines_of, LogCause, Act, LogLine, line_of, event, LogPiece, act_said, text_at, acts_in, acts_of_piece, events_in, events_of_pieces, piece_bytes, bytes_of}
+use Rattle.log_strands.proofs.Common.{◌≡◌, ◌==◌, ◌<◌, ◌≤◌, ◌+◌, ◌∷◌, ◌∙◌, ℕ, Bool, true, false, List, [], cond, length, get_or, take, ap, slice_range, arith, nat_lt, nat_tests, length-map, length-append, sum_by_more_le, take_more, take_all, sum_by-append, sum_by-cons, flat_map, Result, Ok, Err, onto_first, lines_of, LogCause, Act, LogLine, line_of, event, LogPiece, act_said, text_at, acts_in, acts_of_piece, events_in, events_of_pieces, piece_bytes, bytes_of}
 use Rattle.log_lines.specs.declared.line.LogLine.TheVariants as lines
 
 one_act : (said : Result LogLine LogCause) → length (act_said said) ≤ 1

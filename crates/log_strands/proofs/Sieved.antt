@@ -1,5 +1,5 @@
 -- The acts of some letters, line by line.
-use Rattle.log_strands.proofs.Common.{◌≡◌, ◌<◌, ◌++◌, ◌∷◌, ◌∙◌, ℕ, Bool, true, false, List, [], refl, sym, ap, Option, Some, None, MatchOption, filter, filter-append, lines_of, Act, line_of, begins_with, act_said, acts_in, said_of, line_more, line_last, is_by, acts_by}
+use Rattle.log_strands.proofs.Common.{◌≡◌, ◌++◌, ◌∷◌, ◌∙◌, ℕ, true, false, List, [], refl, sym, ap, Option, Some, None, MatchOption, filter, filter-append, lines_of, Act, line_of, begins_with, act_said, acts_in, said_of, line_more, line_last, is_by, acts_by}
 
 -- A LINE
 

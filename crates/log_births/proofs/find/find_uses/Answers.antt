@@ -1,4 +1,4 @@
-use Rattle.log_births.proofs.Common.{sym, ◌∙◌, ap, events_of, is_lifetime, list_any, List, Event, false}
+use Rattle.log_births.proofs.Common.{sym, ◌∙◌}
 use Rattle.log_births.proofs.Unborn.{nothing_is}
 use Rattle.log_births.proofs.find.find_uses.Goals as goal
 

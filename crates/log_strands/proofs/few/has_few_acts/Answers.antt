@@ -1,4 +1,4 @@
-use Rattle.log_strands.proofs.Common.{◌≡◌, ◌<◌, ◌∙◌, ◌^◌, length, sym, arith, events_of_pieces}
+use Rattle.log_strands.proofs.Common.{◌∙◌, ◌^◌, length, sym, arith, events_of_pieces}
 use Rattle.log_strands.proofs.Bytes.{few_by_bytes, is_few, is_many}
 use Rattle.log_strands.proofs.few.has_few_acts.Goals as goal
 
