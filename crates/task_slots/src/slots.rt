@@ -253,6 +253,7 @@ impl TaskSlots {
 
     /// Takes out the whole slot of a task that joins: nothing of it is left. Its block is kept for another task, or
     /// freed.
+    #[inline(always)]
     pub fn leave(&mut self, t: u32) -> TaskSlot
         requires made { t < length self.old.rests }
         ensures rest { result.rest ≡ rest_at self.old.rests t }

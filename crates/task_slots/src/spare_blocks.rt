@@ -51,6 +51,7 @@ impl SpareBlocks {
     }
 
     /// What a block holds. The block is kept, or freed if enough are kept.
+    #[inline(always)]
     pub(crate) fn empty(&mut self, block: BoxedSlot<TaskSlot>) -> TaskSlot
         ensures { result ≡ block }
     {
