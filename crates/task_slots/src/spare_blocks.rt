@@ -1,8 +1,5 @@
 // Blocks for the slots of tasks: those that tasks left at their join are used again.
 
-ghost use Rattle.std.specs.Prelude.{◌≡◌, IfOk, None, false};
-ghost use Rattle.write_barrier.specs.Forms.{bare_noted};
-
 use crate::slots::{TaskSlot, nothing, slot_block};
 use boxed::BoxedSlot;
 use std::alloc::{AllocError, Global};

@@ -1,4 +1,4 @@
-use Rattle.task_slots.proofs.Common.{rules, ◌<◌, IfSome, ◌≡◌, true, Some, length, map, slice_get, slice_set, refl, ap, sym, subst, ◌∙◌, on_ok_weaker, vec_capacity, got_item}
+use Rattle.task_slots.proofs.Common.{rules, ◌<◌, IfSome, ◌≡◌, true, Some, length, slice_get, refl, ap, sym, subst, ◌∙◌, on_ok_weaker, vec_capacity, got_item}
 use Rattle.task_slots.proofs.Places.{made_within, same_contents, set_now, block_set_put, rests_put, sets_put}
 use Rattle.task_slots.proofs.slots.TaskSlotsHoldsSets.reserve_kept.Goals as goal
 
