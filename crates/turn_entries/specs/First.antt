@@ -29,7 +29,7 @@ ComesFirst w after k ready (Some (IsMore t)) = ComesNow w after k ready (Some (M
 ComesFirst w after k ready (Some (IsSweep t)) = ComesNow w after k ready (Some (Sweep t (sweep_number (accounts after).machine (heap_of (accounts after) t)))) × MayEnter after k (OwesSweep t)
 ComesFirst w after k ready None = ComesNow w after k ready (brought_kind after ready) × MayEnter after k Nothing
 
--- it comes first, whatever value was taken
+-- it comes first after some value that was taken
 abbrev pub HasFirst : SharedValue → ℕ → Ready → First → Type 0
 HasFirst after k ready first = (w : SharedValue) × ComesFirst w after k ready (Some first)
 
