@@ -169,6 +169,10 @@ impl Frames {
         if self.stack.below.len() >= FRAME_LIMIT - 1 {
             return Err(NotPushed::Deep);
         }
+        // Most tasks call no deeper than twice; a `Vec` would begin with four frames.
+        if self.stack.below.is_empty() && self.stack.below.reserve_exact(2).is_err() {
+            return Err(NotPushed::NoMemory);
+        }
         let top = self.stack.top;
         if self.stack.below.push(top).is_err() {
             return Err(NotPushed::NoMemory);
@@ -183,9 +187,11 @@ impl Frames {
         requires { 1 < frame_depth self.old }
         ensures { IsPopped self.old self.new }
     {
-        if let Some(frame) = self.stack.below.pop() {
-            self.stack.top = frame;
+        let stack = &mut *self.stack;
+        if let Some(frame) = stack.below.last() {
+            stack.top = *frame;
         }
+        stack.below.truncate(stack.below.len() - 1);
     }
 
     /// How many frames there are: from 1 to `FRAME_LIMIT`.
