@@ -5,7 +5,7 @@ ghost use Rattle.task_machine.specs.Plan.{planned};
 ghost use Rattle.task_machine.specs.Ready.{PlanIsReady, IsSafe, HasCopiedRegisters};
 ghost use Rattle.task_machine.specs.Run.{ComesOf};
 
-use crate::part::Private;
+use crate::part::{Paused, Private};
 use crate::plan::{Plan, StepResult};
 use hh_lang::Instr;
 
@@ -107,6 +107,29 @@ impl Private {
         StepResult::Taken
     }
 
+    // Executes the plan of a call or a return, or pauses for it.
+    #[inline(always)]
+    fn call_quickly(&mut self, plan: Plan, instr: &Instr) -> StepResult
+        requires next { self.old.frames.top.next + 1 < 2 ^ 32 }
+        requires fresh { self.old.fresh + 1 < 2 ^ 32 }
+        requires few { self.old.allocations + 1 < 2 ^ 32 }
+        requires safe { IsSafe self.old }
+        requires limit { self.old.field_limit < 2 ^ 20 }
+        requires same { plan ≡ planned self.old instr.now }
+        requires ready { PlanIsReady self.old plan }
+        ensures { ComesOf self.old plan self.new result }
+    {
+        match plan {
+            Plan::Pause(why) => StepResult::Stopped(why),
+            Plan::Call(function) => self.take_call(function),
+            Plan::Return => {
+                self.come_back();
+                StepResult::Taken
+            }
+            _ => self.go_slowly(instr),
+        }
+    }
+
     /// Takes the step of an instruction, or returns why there is none: mostly it works on an object, since calculations
     /// were done before.
     #[inline(never)]
@@ -141,6 +164,15 @@ impl Private {
                 let plan = self.decide_puti(*object, *index, *value);
                 self.write_quickly(plan, instr)
             }
+            Instr::Call(function) => {
+                let plan = self.decide_call(*function);
+                self.call_quickly(plan, instr)
+            }
+            Instr::Ret => {
+                let plan = self.decide_ret();
+                self.call_quickly(plan, instr)
+            }
+            Instr::Par(_, _) => StepResult::Stopped(Paused::Shared),
             _ => self.go_slowly(instr),
         }
     }
